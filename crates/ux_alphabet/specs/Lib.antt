@@ -1,0 +1,4 @@
+pub mod File
+pub mod Letters
+pub mod Spans
+pub mod Tables
