@@ -1,0 +1,33 @@
+use Rattle.std.proofs.Common.{arith, sym, ◌∙◌, ap, ◌<◌, subst, length, List, Some, map, refl}
+use Rattle.std.proofs.lemmas.Result.{MatchResult-weaker}
+use Rattle.ux_grf.specs.declared.box_line.BoxLine.{BoxLine}
+use Rattle.ux_grf.specs.BoxLine.{said_by}
+use Rattle.ux_grf.specs.Search.{IsInside}
+use Rattle.ux_grf.specs.Header.{behind_header}
+use Rattle.ux_grf.proofs.ReadLemmas.{boxes_len, boxes_inside, texts_refuse}
+use Rattle.ux_grf.proofs.read.read_graph.Goals as goal
+
+pub make_graph-requires-clause-two : goal.make_graph-requires-clause-two
+make_graph-requires-clause-two c =
+    let len = boxes_len c.in_ok-count.count _ c.in_ok-boxes.boxes.items c.in_ok-boxes.ensures.texts in
+    let two = c.in_ok-count.ensures.range.0 in
+    subst (λ (bs : List BoxLine). 1 < length bs) (sym c.deref.ensures.value) (omega arith)
+
+pub make_graph-requires-clause-inside : goal.make_graph-requires-clause-inside
+make_graph-requires-clause-inside c =
+    subst (λ (bs : List BoxLine). IsInside (map (λ (b : BoxLine). b.targets.items) bs))
+    (sym c.deref.ensures.value)
+    (boxes_inside c.in_ok-count.count _ c.in_ok-boxes.boxes.items c.in_ok-boxes.ensures.texts c.in_ok-boxes.ensures.good)
+
+pub returns-clause-err : goal.returns-clause-err
+returns-clause-err c =
+    MatchResult-weaker c.make_graph.result c.make_graph.ensures.refused (λ g h. h)
+    (λ e h. texts_refuse c.args.text.now c.in_ok-count.count c.next_count.new.lines _ e
+    (record {
+      first = c.in_ok-count.ensures.count.0;
+      header = ap behind_header (sym c.lines-lines.ensures)
+          ∙ (c.if-not-skip_header.ensures.yes refl ∙ ap Some c.in_ok-count.ensures.count.1);
+      told = c.in_ok-count.ensures.count.2;
+    })
+    c.in_ok-boxes.ensures.good (ap (map said_by) c.deref.ensures.value
+    ∙ c.in_ok-boxes.ensures.texts) h)

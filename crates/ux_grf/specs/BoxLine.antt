@@ -1,0 +1,86 @@
+-- The line of one box: an `s` or nothing, the content between quotation marks, two coordinates, the
+-- number of targets and the targets.
+use Rattle.std.specs.Prelude.{ℕ, suc, ◌==◌, ◌+◌, Bool, false, not, ◌&&◌, List, [], Option, None, Some, option_map, if◌then◌else◌, length, take, drop, map, ◌∷◌, slice_index, slice_index_or, Vec}
+use Rattle.std.specs.declared.alloc.Global.{Global}
+use Rattle.std.specs.List.{list_all}
+use Rattle.ux_grf.specs.declared.box_line.BoxLine.{BoxLine}
+use Rattle.ux_grf.specs.declared.words.Gap.TheVariants.{Spaces}
+use Rattle.ux_grf.specs.Words.{SPACE, words_of}
+use Rattle.ux_grf.specs.Numbers.{is_number, is_coordinate, value_of}
+
+abbrev pub QUOTE : ℕ
+QUOTE = 34
+
+abbrev pub BACKSLASH : ℕ
+BACKSLASH = 92
+
+abbrev pub START_MARK : ℕ
+START_MARK = 115
+
+-- what a box line says: the bytes between the quotation marks, and the targets as written
+pub record BoxText : Type 0 where
+  pub content : List ℕ
+  pub targets : List ℕ
+
+-- what the reader gives of a line
+abbrev pub said_by : BoxLine → BoxText
+said_by line = record { content = line.content.now; targets = line.targets.items }
+
+abbrev pub values_in : Option (Vec ℕ Global) → Option (List ℕ)
+values_in values = option_map (λ v. v.items) values
+
+-- the place of the first quotation mark that isn't protected; the first byte may be protected from
+-- outside, each other one is by a backslash before it that isn't protected itself
+abbrev pub content_end : Bool → List ℕ → Option ℕ
+content_end protected [] = None
+content_end protected (b ∷ text) =
+    if b == QUOTE && not protected then Some 0
+    else option_map suc (content_end (b == BACKSLASH && not protected) text)
+
+-- the word at a place, which is empty where there is none
+abbrev pub word_at : List (List ℕ) → ℕ → List ℕ
+word_at words k = slice_index_or words k []
+
+-- the values of the words, where each is a number
+abbrev pub numbers_in : List (List ℕ) → Option (List ℕ)
+numbers_in words = if list_all is_number words then Some (map value_of words) else None
+
+-- the words begin with two coordinates and the number of the words behind that number
+abbrev pub are_fields : List (List ℕ) → Bool
+are_fields words =
+    is_coordinate (word_at words 0) && (is_coordinate (word_at words 1)
+    && (is_number (word_at words 2) && value_of (word_at words 2) == length (drop 3 words)))
+
+-- the targets that the words behind the content name
+abbrev pub targets_in : List (List ℕ) → Option (List ℕ)
+targets_in words = if are_fields words then numbers_in (drop 3 words) else None
+
+-- a content, and the fields behind it, which begin with a space
+abbrev pub box_in : (content fields : List ℕ) → Option BoxText
+box_in content fields =
+    if slice_index fields 0 == SPACE
+    then option_map (λ targets. record { content = content; targets = targets })
+    (targets_in (words_of Spaces fields))
+    else None
+
+-- a text that is cut at its content's end
+abbrev pub cut_at : List ℕ → Option ℕ → Option BoxText
+cut_at text None = None
+cut_at text (Some end) = box_in (take end text) (drop (end + 1) text)
+
+-- what stands behind the first quotation mark
+abbrev pub content_and_fields : List ℕ → Option BoxText
+content_and_fields text = cut_at text (content_end false text)
+
+-- the line without an `s` in front
+abbrev pub without_mark : List ℕ → List ℕ
+without_mark line = if slice_index line 0 == START_MARK then drop 1 line else line
+
+-- the text begins with a quotation mark, and a content and fields stand behind it
+abbrev pub quoted : List ℕ → Option BoxText
+quoted text =
+    if slice_index text 0 == QUOTE then content_and_fields (drop 1 text) else None
+
+-- what the line says, where it is a box line
+abbrev pub box_of : List ℕ → Option BoxText
+box_of line = quoted (without_mark line)

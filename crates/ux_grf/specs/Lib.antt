@@ -1,0 +1,10 @@
+pub mod WellFormed
+pub mod Words
+pub mod Numbers
+pub mod File
+pub mod Header
+pub mod BoxLine
+pub mod Boxes
+pub mod Content
+pub mod Reached
+pub mod Search

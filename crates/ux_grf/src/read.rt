@@ -1,0 +1,156 @@
+//! The reader of graph files.
+
+ghost use Rattle.std.specs.Prelude.{◌≡◌, ◌∷◌, ◌⊎◌, List, None, ℕ, ◌+◌, ◌<◌, ◌≤◌, length, drop, slice_get, map, slice_index, option_copied, true, false, IfOk, IfErr, OnOk, Some, Contains};
+ghost use Rattle.ux_grf.specs.BoxLine.{said_by};
+ghost use Rattle.ux_grf.specs.File.{IsGraphOf, Refuses, Draws, RefusesTexts, IsNextCount, boxes_made, count_at, ArePlain, RefusesContents};
+ghost use Rattle.ux_grf.specs.WellFormed.{IsWellFormed};
+ghost use Rattle.ux_grf.specs.Search.{IsInside};
+ghost use Rattle.ux_grf.specs.declared.error.GrfError.TheVariants.{BadCount, NoMemory};
+ghost use Rattle.ux_grf.specs.Boxes.{box_in_line, box_at, is_good, text_of, texts_of, is_inside, RefusesBox, RefusesBoxes, AreGood};
+
+use crate::box_line::{BoxLine, read_box_line};
+use crate::content::read_box_content;
+use crate::error::GrfError;
+use crate::graph::{Graph, GrfBox};
+use crate::header::{read_count, skip_header};
+use crate::search::reached;
+use crate::targets::{each_once, ways};
+use std::alloc::Global;
+use ux_base::{Lines, Lst, lines};
+
+/// The graph that the text of a graph file draws. The time is linear in the text.
+pub fn read_grf(alloc: Global, text: &str) -> Result<Graph, GrfError>
+    ensures ok { IfOk result (IsGraphOf text.now) }
+    ensures well_formed { IfOk result IsWellFormed }
+    ensures err { IfErr result (Refuses text.now) }
+{
+    read_graph(alloc, text)
+}
+
+/// The graph that the text draws.
+fn read_graph(alloc: Global, text: &str) -> Result<Graph, GrfError>
+    ensures ok { IfOk result (IsGraphOf text.now) }
+    ensures err { IfErr result (Refuses text.now) }
+{
+    let mut lines = lines(text);
+    if !skip_header(&mut lines) {
+        return Err(GrfError::NoHeader);
+    }
+    let count = next_count(alloc, &mut lines)?;
+    let boxes = read_boxes(alloc, &mut lines, count)?;
+    make_graph(alloc, &boxes)
+}
+
+/// The number of boxes, which the next line tells.
+fn next_count(alloc: Global, lines: &mut Lines<'_>) -> Result<u32, GrfError>
+    ensures count { IfOk result (IsNextCount lines.old lines.new) }
+    ensures range { IfOk result (λ count. (2 ≤ count) × (count ≤ 65535)) }
+    ensures err { IfErr result (λ e. (e ≡ BadCount × count_at lines.old ≡ None) ⊎ (e ≡ NoMemory)) }
+{
+    let Some(line) = lines.next() else {
+        return Err(GrfError::BadCount);
+    };
+    match read_count(alloc, line)? {
+        Some(count) => Ok(count),
+        None => Err(GrfError::BadCount),
+    }
+}
+
+/// The boxes that the next lines tell, with each target once.
+fn read_boxes<'a>(
+    alloc: Global,
+    lines: &mut Lines<'a>,
+    count: u32,
+) -> Result<Vec<BoxLine<'a>>, GrfError>
+    ensures texts { IfOk result (λ boxes. map said_by boxes.items ≡ texts_of count lines.old) }
+    ensures good { OnOk result (AreGood count lines.old count) }
+    ensures refused { IfErr result (RefusesBoxes count lines.old) }
+{
+    let mut stamps: Vec<u32> = vec![in alloc; 0; count as usize]?;
+    let mut boxes = Vec::new(alloc);
+    for node in 0..count {
+        let line = next_line(lines);
+        boxes.push(good_box(alloc, line, node, count, &mut stamps)?)?;
+    }
+    Ok(boxes)
+}
+
+/// The next line, if there is one.
+fn next_line<'a>(lines: &mut Lines<'a>) -> Option<&'a str>
+    ensures line { option_copied result ≡ slice_get lines.old 0 }
+    ensures rest { lines.new ≡ drop 1 lines.old }
+{
+    lines.next()
+}
+
+/// The box that the line tells, if there is one, with each target once.
+fn good_box<'a>(
+    alloc: Global,
+    line: Option<&'a str>,
+    node: u32,
+    count: u32,
+    stamps: &mut Vec<u32>,
+) -> Result<BoxLine<'a>, GrfError>
+    requires node { node < count }
+    requires len { length stamps.now.items ≡ count }
+    requires fresh { (u : ℕ) → slice_index stamps.now.items u ≤ node }
+    ensures text { IfOk result (λ said. said_by said ≡ text_of (box_in_line (option_copied line.entry))) }
+    ensures good { OnOk result (is_good count (box_in_line (option_copied line.entry)) ≡ true) }
+    ensures refused { IfErr result (RefusesBox count node (box_in_line (option_copied line.entry))) }
+    ensures len { OnOk result (length stamps.new.items ≡ count) }
+    ensures below { OnOk result ((u : ℕ) → slice_index stamps.new.items u ≤ node + 1) }
+{
+    let Some(line) = line else {
+        return Err(GrfError::BadBoxLine { node });
+    };
+    let Some(said) = read_box_line(alloc, line)? else {
+        return Err(GrfError::BadBoxLine { node });
+    };
+    if !are_inside(said.targets.as_slice(), count) {
+        return Err(GrfError::BadTarget { node });
+    }
+    let targets = each_once(alloc, said.targets.as_slice(), stamps, node + 1)?;
+    Ok(BoxLine {
+        content: said.content,
+        targets,
+    })
+}
+
+/// Whether each target is a box.
+fn are_inside(targets: &[u32], count: u32) -> bool
+    ensures { result ≡ is_inside count targets.now }
+{
+    targets.iter().all(|target| *target < count)
+}
+
+/// The graph of these boxes.
+fn make_graph(alloc: Global, boxes: &[BoxLine<'_>]) -> Result<Graph, GrfError>
+    requires two { 1 < length boxes.now }
+    requires inside { IsInside (map (λ b. b.targets.items) boxes.now) }
+    ensures draws { IfOk result (Draws (map said_by boxes.now)) }
+    ensures refused { IfErr result (RefusesTexts (map said_by boxes.now)) }
+{
+    let ways = ways(alloc, boxes)?;
+    let reached = reached(alloc, &ways)?;
+    Ok(Graph {
+        boxes: Lst::new(make_boxes(alloc, boxes, &reached)?),
+    })
+}
+
+/// The boxes, of which these are reached.
+fn make_boxes(
+    alloc: Global,
+    boxes: &[BoxLine<'_>],
+    reached: &[bool],
+) -> Result<Vec<GrfBox>, GrfError>
+    requires { length reached.now ≡ length boxes.now }
+    ensures made { IfOk result (λ made. made.items ≡ boxes_made (map said_by boxes.now) reached.now) }
+    ensures plain { OnOk result (ArePlain (length boxes.now) (map said_by boxes.now) reached.now) }
+    ensures err { IfErr result (RefusesContents (length boxes.now) (map said_by boxes.now) reached.now) }
+{
+    let mut made = Vec::new(alloc);
+    for (node, line) in boxes.iter().enumerate() {
+        made.push(read_box_content(alloc, line, node, reached[node])?)?;
+    }
+    Ok(made)
+}
