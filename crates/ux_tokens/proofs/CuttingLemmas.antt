@@ -1,0 +1,115 @@
+-- The loop that cuts a text: one more token keeps what is known of the pieces so far.
+use Rattle.std.proofs.Common.{◌≡◌, ℕ, ◌+◌, ◌-◌, ◌<◌, ◌≤◌, List, [], ◌∷◌, ◌++◌, map, length, take, drop, Some, Vec, Global, refl, sym, ◌∙◌, ap, subst, arith}
+use Rattle.std.specs.List.{slice_get}
+use Rattle.std.specs.Str.{IsCharBoundary, IsUtf8}
+use Rattle.std.proofs.lemmas.Str.{IsCharBoundary-start, IsCharBoundary-from_rest, IsUtf8-take, IsUtf8-drop}
+use Rattle.std.proofs.lemmas.List.{take-append-drop, drop-drop, length_push, drop_all, length-map}
+use Rattle.ux_alphabet.specs.declared.line.Line.{Line}
+use Rattle.ux_tokens.specs.declared.kind.Kind.{Kind}
+use Rattle.ux_tokens.specs.declared.kind.Kind.TheVariants.{Word}
+use Rattle.ux_tokens.specs.declared.piece.Piece.{Piece}
+use Rattle.ux_tokens.specs.declared.cutting.TheConstants.{MAX_TOKENS}
+use Rattle.ux_tokens.specs.Tokens.{Token}
+use Rattle.ux_tokens.specs.First.{BeginsWithNoLetter, IsFirstToken}
+use Rattle.ux_tokens.specs.Numbers.{with_text, each_once}
+use Rattle.ux_tokens.specs.Pieces.{ArePieces, token_of, tokens_from, end_from}
+use Rattle.ux_tokens.specs.Cutting.{IsCut, IsCutting}
+use Rattle.ux_tokens.proofs.CutLemmas.{cut_start, cut_more}
+use Rattle.ux_tokens.proofs.NumbersLemmas.{length-each_once}
+use Rattle.ux_tokens.proofs.PiecesLemmas.{pieces_start, pieces_more, tokens_from-push, end_from-push, length-tokens_from}
+
+module _ (lines : List Line) (text : List ℕ) where
+  -- the pieces are those of the text up to a place between two characters
+  pub record IsSoFar (end : ℕ) (pieces : List Piece) (different : List (List ℕ)) : Type 0 where
+    pub tokens : IsCut lines text (drop end text) (tokens_from text 0 pieces)
+    pub pieces_are : ArePieces text pieces different
+    pub ends : end_from 0 pieces ≡ end
+    pub between : IsCharBoundary text end
+    pub few : length pieces ≤ MAX_TOKENS
+
+  pub so_far_start : IsUtf8 text → IsSoFar 0 [] []
+  so_far_start utf8 = record {
+    tokens = cut_start lines text;
+    pieces_are = pieces_start text;
+    ends = refl;
+    between = IsCharBoundary-start text utf8;
+    few = omega arith;
+  }
+
+  -- no more different tokens than tokens
+  pub few_different : (end : ℕ) (pieces : List Piece) (different : List (List ℕ)) →
+      IsSoFar end pieces different → length different ≤ length pieces
+  few_different end pieces different so_far =
+      let texts : List (List ℕ) = map (λ (t : Token). t.text) (tokens_from text 0 pieces) in
+      let same : length different ≡ length (each_once texts) = ap length so_far.pieces_are.all in
+      let fewer : length (each_once texts) ≤ length texts = length-each_once texts in
+      let mapped : length texts ≡ length (tokens_from text 0 pieces) =
+      length-map (tokens_from text 0 pieces) (λ (t : Token). t.text) in
+      let all : length (tokens_from text 0 pieces) ≡ length pieces =
+      length-tokens_from text 0 pieces in
+      omega arith
+
+  pub so_far_more : IsUtf8 text → (end : ℕ) (pieces : List Piece) (different : List (List ℕ)) →
+      IsSoFar end pieces different → length pieces < MAX_TOKENS → (kind : Kind) (len number : ℕ) →
+      IsCharBoundary (drop end text) len → IsFirstToken lines (drop end text) kind len →
+      slice_get (with_text different (take len (drop end text))) number
+      ≡ Some (take len (drop end text)) →
+      IsSoFar (end + len) (pieces ++ record { end = end + len; number = number; kind = kind } ∷ [])
+      (with_text different (take len (drop end text)))
+  so_far_more utf8 end pieces different so_far room kind len number cut first place = record {
+    tokens = subst (IsCut lines text (drop (end + len) text))
+        (ap (λ (t : Token). tokens_from text 0 pieces ++ t ∷ []) (sym last_is)
+        ∙ sym (tokens_from-push text 0 pieces piece))
+        (cut_more lines text (drop end text) (drop (end + len) text) (tokens_from text 0 pieces) token
+        so_far.tokens (IsUtf8-take (drop end text) len rest_utf8 cut) next first.is longest);
+    pieces_are = pieces_more text pieces different piece token.text so_far.pieces_are
+        (let ends : end_from 0 pieces ≡ end = so_far.ends in omega arith)
+        boundary (sym (ap (λ (t : Token). t.text) last_is)) place;
+    ends = end_from-push 0 pieces piece;
+    between = boundary;
+    few =
+        let grown : length (pieces ++ piece ∷ []) ≡ length pieces + 1 = length_push pieces piece in omega arith;
+  }
+    where
+      piece : Piece
+      piece = record { end = end + len; number = number; kind = kind }
+
+      token : Token
+      token = record { kind = kind; text = take len (drop end text) }
+
+      rest_utf8 : IsUtf8 (drop end text)
+      rest_utf8 = IsUtf8-drop text end utf8 so_far.between
+
+      boundary : IsCharBoundary text (end + len)
+      boundary = IsCharBoundary-from_rest text end len so_far.between.0 cut
+
+      behind : drop len (drop end text) ≡ drop (end + len) text
+      behind = drop-drop len end text
+
+      next : drop end text ≡ token.text ++ drop (end + len) text
+      next =
+          sym (take-append-drop len (drop end text)) ∙ ap (λ (l : List ℕ). token.text ++ l) behind
+
+      longest : kind ≡ Word → BeginsWithNoLetter lines (drop (end + len) text)
+      longest word = subst (BeginsWithNoLetter lines) behind (first.longest word)
+
+      cut_len : end + len - end ≡ len
+      cut_len = omega arith
+
+      last_is : token_of text (end_from 0 pieces) piece ≡ token
+      last_is =
+          ap (λ (start : ℕ). token_of text start piece) so_far.ends
+          ∙ ap (λ (n : ℕ). let t : Token = record { kind = kind; text = take n (drop end text) } in t) cut_len
+
+  -- behind the last token stands nothing
+  pub cut_whole : (end : ℕ) (pieces : Vec Piece Global) (different : List (List ℕ)) (count : ℕ) →
+      IsSoFar end pieces.items different → end ≡ length text → count ≡ length different →
+      IsCutting lines text (record { pieces = pieces; different = count })
+  cut_whole end pieces different count so_far all counted =
+      let none : drop end text ≡ [] = drop_all end text (omega arith) in
+      record {
+        tokens = subst (λ (rest : List ℕ). IsCut lines text rest (tokens_from text 0 pieces.items)) none so_far.tokens;
+        pieces = subst (ArePieces text pieces.items) so_far.pieces_are.all so_far.pieces_are;
+        few = so_far.few;
+        different = counted ∙ ap length so_far.pieces_are.all;
+      }

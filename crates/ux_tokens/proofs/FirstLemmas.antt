@@ -1,0 +1,95 @@
+-- A run of letters at the front of a text grows by one letter at a time.
+use Rattle.std.proofs.Common.{◌≡◌, ℕ, ◌+◌, List, [], ◌∷◌, ◌++◌, All, length, take, drop, encode_utf8, refl, sym, ◌∙◌, ap, subst, append_assoc, zero-add, arith}
+use Rattle.std.specs.Str.{IsCharBoundary, IsUtf8, chars}
+use Rattle.std.specs.Char.{len_utf8}
+use Rattle.std.proofs.lemmas.Str.{length-encode, IsCharBoundary-start, IsCharBoundary-past_char, IsUtf8-take, IsUtf8-drop, chars-append, chars-nil, chars_past_char, drop_past_char}
+use Rattle.std.proofs.lemmas.List.{append_cancel_right, take-append-drop, drop_all, take_at}
+use Rattle.std.proofs.lemmas.List.Elements.{All-nil, All-push, All-same}
+use Rattle.ux_alphabet.specs.declared.line.Line.{Line}
+use Rattle.ux_alphabet.specs.Letters.{IsLetter}
+use Rattle.ux_tokens.specs.declared.kind.Kind.TheVariants.{Other}
+use Rattle.ux_tokens.specs.First.{BeginsWithNoLetter, IsFirstToken}
+
+module _ (lines : List Line) (text : List ℕ) where
+  -- the first bytes of the text are letters, and `rest` stands behind them
+  pub record IsRun (len : ℕ) (rest : List ℕ) : Type 0 where
+    pub behind : drop len text ≡ rest
+    pub cut : IsCharBoundary text len
+    pub letters : All (IsLetter lines) (chars (take len text))
+
+  pub run_start : IsUtf8 text → IsRun 0 text
+  run_start utf8 = record {
+    behind = refl;
+    cut = IsCharBoundary-start text utf8;
+    letters = All-same (IsLetter lines) (chars []) [] chars-nil (All-nil (IsLetter lines));
+  }
+
+  -- the characters of a text that is cut in two
+  chars-cut : IsUtf8 text → (len : ℕ) → IsCharBoundary text len →
+      chars text ≡ chars (take len text) ++ chars (drop len text)
+  chars-cut utf8 len cut =
+      ap chars (sym (take-append-drop len text))
+      ∙ chars-append (take len text) (drop len text) (IsUtf8-take text len utf8 cut)
+
+  pub run_more : IsUtf8 text → (len : ℕ) (rest after : List ℕ) (c : ℕ) → IsRun len rest →
+      rest ≡ encode_utf8 c ++ after → IsLetter lines c → IsRun (len + len_utf8 c) after
+  run_more utf8 len rest after c run next letter =
+      let at : drop len text ≡ encode_utf8 c ++ after = run.behind ∙ next in
+      let from : IsUtf8 (drop len text) = IsUtf8-drop text len utf8 run.cut in
+      let cut : IsCharBoundary text (len + len_utf8 c) =
+      IsCharBoundary-past_char text after len c run.cut.0 from at in
+      let behind : drop (len + len_utf8 c) text ≡ after = drop_past_char text after len c at in
+      let first : chars (drop len text) ≡ c ∷ chars after =
+      chars_past_char (drop len text) after c from at in
+      let grown : chars (take (len + len_utf8 c) text) ++ chars after
+      ≡ (chars (take len text) ++ (c ∷ [])) ++ chars after =
+      ap (λ (l : List ℕ). chars (take (len + len_utf8 c) text) ++ chars l) (sym behind)
+      ∙ sym (chars-cut utf8 (len + len_utf8 c) cut)
+      ∙ chars-cut utf8 len run.cut
+      ∙ ap (λ (l : List ℕ). chars (take len text) ++ l) first
+      ∙ sym (append_assoc (chars (take len text)) (c ∷ []) (chars after)) in
+      record {
+        behind = behind;
+        cut = cut;
+        letters = All-same (IsLetter lines) _ _ (append_cancel_right _ _ (chars after) grown)
+            (All-push (IsLetter lines) (chars (take len text)) c run.letters letter);
+      }
+
+  -- the run ends before a character that is no letter
+  pub run_ends : IsUtf8 text → (len : ℕ) (rest after : List ℕ) (c : ℕ) → IsRun len rest →
+      rest ≡ encode_utf8 c ++ after → (IsLetter lines c → ⊥) →
+      BeginsWithNoLetter lines (drop len text)
+  run_ends utf8 len rest after c run next other d more is letter =
+      let first : chars (drop len text) ≡ c ∷ chars after =
+      chars_past_char (drop len text) after c (IsUtf8-drop text len utf8 run.cut) (run.behind ∙ next) in
+      let same : c ≡ d = cc in
+      other (subst (IsLetter lines) (sym same) letter)
+
+  -- or at the end of the text
+  pub run_ends_all : (len : ℕ) (rest : List ℕ) → IsRun len rest → length rest ≡ 0 →
+      BeginsWithNoLetter lines (drop len text)
+  run_ends_all len rest run none d more is letter =
+      let empty : rest ≡ [] = drop_all 0 rest (omega arith) in
+      let nothing : chars (drop len text) ≡ [] = ap chars (run.behind ∙ empty) ∙ chars-nil in
+      cc
+
+-- the front of a text that begins with a character: it may be cut behind it, and is its bytes
+pub cut_char : (text after : List ℕ) (c : ℕ) → IsUtf8 text → text ≡ encode_utf8 c ++ after →
+    IsCharBoundary text (len_utf8 c)
+cut_char text after c utf8 first =
+    subst (IsCharBoundary text) (zero-add (len_utf8 c))
+    (IsCharBoundary-past_char text after 0 c (omega arith) utf8 first)
+
+pub take_char : (text after : List ℕ) (c : ℕ) → text ≡ encode_utf8 c ++ after →
+    take (len_utf8 c) text ≡ encode_utf8 c
+take_char text after c first =
+    ap (take (len_utf8 c)) first ∙ take_at (encode_utf8 c) after (len_utf8 c) (length-encode c)
+
+-- a character that is neither a letter nor a space is a token
+pub other_first : (lines : List Line) (text after : List ℕ) (c : ℕ) → IsUtf8 text →
+    text ≡ encode_utf8 c ++ after → BeginsWithNoLetter lines text → (c ≡ 32 → ⊥) →
+    IsFirstToken lines text Other (len_utf8 c)
+other_first lines text after c utf8 first no_letter no_space = record {
+  is = (c, take_char text after c first, no_letter c (chars after) (chars_past_char text after c utf8 first), no_space);
+  longest = λ same. cc;
+}

@@ -1,0 +1,11 @@
+mod Examples
+pub mod CutLemmas
+pub mod CuttingLemmas
+pub mod DistinctLemmas
+pub mod FirstLemmas
+pub mod NumbersLemmas
+pub mod PiecesLemmas
+pub mod PlacesLemmas
+pub mod SpacesLemmas
+pub mod UniqueLemmas
+pub mod WholeLemmas

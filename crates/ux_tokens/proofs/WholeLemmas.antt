@@ -1,0 +1,245 @@
+-- Each text has a list of tokens: what is cut so far can be cut to its end.
+use Rattle.std.proofs.Common.{◌≡◌, ◌⊎◌, inl, inr, ℕ, zero, suc, ◌+◌, ◌<◌, ◌≤◌, Bool, true, false, ◌&&◌, List, [], ◌∷◌, ◌++◌, All, length, get_or, encode_utf8, refl, sym, ◌∙◌, ap, subst, arith}
+use Rattle.std.specs.List.{Any}
+use Rattle.std.specs.Char.{IsScalar}
+use lib.Utf8.{scalar}
+use Rattle.std.specs.Str.{IsUtf8, chars, encode_utf8_all, all_scalars}
+use Rattle.std.proofs.lemmas.Bool.{cases_eq, cases_lt}
+use Rattle.std.proofs.lemmas.Str.{IsUtf8-encode, encodes-append, encode_ascii, encodes-chars, scalars-chars, chars-encodes, length-le-encodes, length-encode, len_utf8_bounds}
+use Rattle.std.proofs.lemmas.List.{length-append, length_push}
+use Rattle.std.proofs.lemmas.List.Elements.{All-nil, All-cons}
+use Rattle.ux_alphabet.specs.declared.line.Line.{Line}
+use Rattle.ux_alphabet.specs.declared.line.Line.TheVariants.{Single, Pair, Range}
+use Rattle.ux_alphabet.specs.Letters.{never_letter, NamesUpper, NamesLower, IsLetter}
+use Rattle.ux_tokens.specs.declared.kind.Kind.TheVariants.{Word, Space, Other}
+use Rattle.ux_tokens.specs.Tokens.{Token, IsTokenText, SPACE}
+use Rattle.ux_tokens.specs.First.{BeginsWithNoLetter}
+use Rattle.ux_tokens.specs.Cutting.{IsCut}
+use Rattle.ux_tokens.proofs.CutLemmas.{cut_more}
+
+-- a fact holds or it doesn't
+abbrev Settled : Type 0 → Type 0
+Settled P = P ⊎ (P → ⊥)
+
+between : (low c high : ℕ) → Settled ((low ≤ c) × (c ≤ high))
+between low c high = by (cases_lt c low) (cases_lt high c)
+  where
+    by : (c < low) ⊎ (low ≤ c) → (high < c) ⊎ (c ≤ high) → Settled ((low ≤ c) × (c ≤ high))
+    by (inl less) above = inr (λ both. omega (arith, both.0))
+    by (inr from) (inl less) = inr (λ both. omega (arith, both.1))
+    by (inr from) (inr to) = inl (from, to)
+
+names_upper : (line : Line) (c : ℕ) → Settled (NamesUpper line c)
+names_upper (Single letter) c = cases_eq c letter
+names_upper (Pair upper lower) c = cases_eq c upper
+names_upper (Range low high) c = between low c high
+
+names_lower : (line : Line) (c : ℕ) → Settled (NamesLower line c)
+names_lower (Single letter) c = cases_eq c letter
+names_lower (Pair upper lower) c = cases_eq c lower
+names_lower (Range low high) c = between low c high
+
+any_settled : (P : Line → Type 0) → ((line : Line) → Settled (P line)) → (lines : List Line) →
+    Settled (Any P lines)
+any_settled P each [] = inr (λ any. omega (arith, any.2))
+any_settled P each (line ∷ lines) = by (each line) (any_settled P each lines)
+  where
+    none : (P line → ⊥) → (Any P lines → ⊥) → (k : ℕ) (x : Line) → k < length (line ∷ lines) →
+        get_or (line ∷ lines) k x ≡ x → P x → ⊥
+    none first later zero x within at holds = first (subst P (sym at) holds)
+    none first later (suc k) x within at holds = later (k, x, omega arith, at, holds)
+
+    by : Settled (P line) → Settled (Any P lines) → Settled (Any P (line ∷ lines))
+    by (inl here) later = inl (0, line, omega arith, refl, here)
+    by (inr first) (inl there) =
+        inl (suc there.0, there.1, omega (arith, there.2), there.3, there.4)
+    by (inr first) (inr later) = inr (λ any. none first later any.0 any.1 any.2 any.3 any.4)
+
+and_parts : (a b : Bool) → (a && b) ≡ true → (a ≡ true) × (b ≡ true)
+and_parts true b both = (refl, both)
+and_parts false b both = cc
+
+scalars_parts : (xs ys : List ℕ) → all_scalars (xs ++ ys) ≡ true →
+    (all_scalars xs ≡ true) × (all_scalars ys ≡ true)
+scalars_parts [] ys all = (refl, all)
+scalars_parts (x ∷ xs) ys all =
+    let here = and_parts (scalar x) (all_scalars (xs ++ ys)) all in
+    let later = scalars_parts xs ys here.1 in
+    (ap (λ (b : Bool). b && all_scalars xs) here.0 ∙ later.0, later.1)
+
+module _ (lines : List Line) where
+  letter_settled : (c : ℕ) → Settled (IsLetter lines c)
+  letter_settled c = by (never_letter c) refl
+      (any_settled (λ (line : Line). NamesUpper line c) (λ line. names_upper line c) lines)
+      (any_settled (λ (line : Line). NamesLower line c) (λ line. names_lower line c) lines)
+    where
+      by : (never : Bool) → never_letter c ≡ never →
+          Settled (Any (λ (line : Line). NamesUpper line c) lines) →
+          Settled (Any (λ (line : Line). NamesLower line c) lines) → Settled (IsLetter lines c)
+      by true is upper lower =
+          inr (λ letter. elim letter [ inl up ↦ (let no = up.0 in cc) | inr low ↦ (let no = low.0 in cc) ])
+      by false is (inl upper) lower = inl (inl (is, upper))
+      by false is (inr no_upper) (inl lower) = inl (inr (is, lower))
+      by false is (inr no_upper) (inr no_lower) =
+          inr (λ letter. elim letter [ inl up ↦ no_upper up.1 | inr low ↦ no_lower low.1 ])
+
+  -- the longest run of letters at the front of some characters
+  record Run (cs : List ℕ) : Type 0 where
+    pub front : List ℕ
+    pub back : List ℕ
+    pub parts : cs ≡ front ++ back
+    pub letters : All (IsLetter lines) front
+    pub ends : (c : ℕ) (rest : List ℕ) → back ≡ c ∷ rest → IsLetter lines c → ⊥
+
+  run : (cs : List ℕ) → Run cs
+  run [] = record {
+    front = [];
+    back = [];
+    parts = refl;
+    letters = All-nil (IsLetter lines);
+    ends = λ c rest is. cc;
+  }
+  run (c ∷ cs) = by (letter_settled c) (run cs)
+    where
+      by : Settled (IsLetter lines c) → Run cs → Run (c ∷ cs)
+      by (inl letter) later = record {
+        front = c ∷ later.front;
+        back = later.back;
+        parts = ap (λ (l : List ℕ). c ∷ l) later.parts;
+        letters = All-cons (IsLetter lines) c later.front letter later.letters;
+        ends = later.ends;
+      }
+      by (inr other) later = record {
+        front = [];
+        back = c ∷ cs;
+        parts = refl;
+        letters = All-nil (IsLetter lines);
+        ends = λ d rest is letter.
+            let same : c ≡ d = cc in other (subst (IsLetter lines) (sym same) letter);
+      }
+
+  -- some token stands at the front of a text
+  pub record HasFirst (text : List ℕ) : Type 0 where
+    pub token : Token
+    pub after : List ℕ
+    pub parts : text ≡ token.text ++ after
+    pub token_utf8 : IsUtf8 token.text
+    pub after_utf8 : IsUtf8 after
+    pub is : IsTokenText lines token.kind token.text
+    pub longest : token.kind ≡ Word → BeginsWithNoLetter lines after
+    pub some : 0 < length token.text
+
+  -- a first character that is no letter
+  char_first : (cs : List ℕ) (c : ℕ) (rest : List ℕ) → cs ≡ c ∷ rest → IsScalar c →
+      all_scalars rest ≡ true →
+      (IsLetter lines c → ⊥) → Settled (c ≡ SPACE) → HasFirst (encode_utf8_all cs)
+  char_first cs c rest parts scalar scalars other (inl space) = record {
+    token = record { kind = Space; text = encode_utf8 c };
+    after = encode_utf8_all rest;
+    parts = ap encode_utf8_all parts;
+    token_utf8 = IsUtf8-encode c scalar;
+    after_utf8 = (rest, (scalars, refl));
+    is = encode_ascii c (omega arith) ∙ ap (λ (d : ℕ). d ∷ []) space;
+    longest = λ word. cc;
+    some = omega (arith, length-encode c, (len_utf8_bounds c).0);
+  }
+  char_first cs c rest parts scalar scalars other (inr no_space) = record {
+    token = record { kind = Other; text = encode_utf8 c };
+    after = encode_utf8_all rest;
+    parts = ap encode_utf8_all parts;
+    token_utf8 = IsUtf8-encode c scalar;
+    after_utf8 = (rest, (scalars, refl));
+    is = (c, refl, other, no_space);
+    longest = λ word. cc;
+    some = omega (arith, length-encode c, (len_utf8_bounds c).0);
+  }
+
+  -- of characters that are cut behind their first run of letters
+  of_run : (cs front back : List ℕ) → all_scalars cs ≡ true → cs ≡ front ++ back → 0 < length cs →
+      All (IsLetter lines) front →
+      ((c : ℕ) (rest : List ℕ) → back ≡ c ∷ rest → IsLetter lines c → ⊥) →
+      HasFirst (encode_utf8_all cs)
+  of_run cs [] [] scalars parts some letters ends =
+      let none : length cs ≡ 0 = ap length parts in absurd (omega arith)
+  of_run cs [] (c ∷ rest) scalars parts some letters ends =
+      let each = and_parts (scalar c) (all_scalars rest) (ap all_scalars (sym parts) ∙ scalars) in
+      char_first cs c rest parts each.0 each.1 (ends c rest refl) (cases_eq c SPACE)
+  of_run cs (c ∷ front) back scalars parts some letters ends =
+      let each = scalars_parts (c ∷ front) back (ap all_scalars (sym parts) ∙ scalars) in
+      record {
+        token = record { kind = Word; text = encode_utf8_all (c ∷ front) };
+        after = encode_utf8_all back;
+        parts = ap encode_utf8_all parts ∙ encodes-append (c ∷ front) back;
+        token_utf8 = (c ∷ front, (each.0, refl));
+        after_utf8 = (back, (each.1, refl));
+        is = (
+          λ empty.
+              let short : length (encode_utf8_all (c ∷ front)) ≡ 0 = ap length empty in
+              let long : length (c ∷ front) ≤ length (encode_utf8_all (c ∷ front)) =
+              length-le-encodes (c ∷ front) in
+              omega arith,
+          (c ∷ front, (each.0, refl)),
+          subst (All (IsLetter lines)) (sym (chars-encodes (c ∷ front) each.0)) letters,
+        );
+        longest = λ word d more is letter.
+            ends d more (sym (chars-encodes back each.1) ∙ is) letter;
+        some =
+            let long : length (c ∷ front) ≤ length (encode_utf8_all (c ∷ front)) =
+            length-le-encodes (c ∷ front) in
+            omega arith;
+      }
+
+  pub first_of : (text : List ℕ) → IsUtf8 text → 0 < length text → HasFirst text
+  first_of text utf8 some =
+      let cs : List ℕ = chars text in
+      let found = run cs in
+      let whole : encode_utf8_all cs ≡ text = encodes-chars text utf8 in
+      subst HasFirst whole
+      (of_run cs found.front found.back (scalars-chars text utf8) found.parts
+      (by cs whole) found.letters found.ends)
+    where
+      by : (cs : List ℕ) → encode_utf8_all cs ≡ text → 0 < length cs
+      by [] whole = let none : 0 ≡ length text = ap length whole in absurd (omega arith)
+      by (c ∷ cs) whole = omega arith
+
+  -- the tokens of a text of which some are known
+  pub record Goes (text : List ℕ) (tokens : List Token) (least : ℕ) : Type 0 where
+    pub all : List Token
+    pub cut : IsCut lines text [] all
+    pub more : least ≤ length all
+
+  pub finish : (steps : ℕ) (text rest : List ℕ) (tokens : List Token) → length rest ≤ steps →
+      IsUtf8 rest →
+      IsCut lines text rest tokens → Goes text tokens (length tokens)
+  finish steps text [] tokens enough utf8 cut =
+      record { all = tokens; cut = cut; more = omega arith }
+  finish zero text (b ∷ rest) tokens enough utf8 cut = absurd (omega arith)
+  finish (suc steps) text (b ∷ rest) tokens enough utf8 cut =
+      let first = first_of (b ∷ rest) utf8 (omega arith) in
+      let longer : length (b ∷ rest) ≡ length first.token.text + length first.after =
+      ap length first.parts ∙ length-append first.token.text first.after in
+      let some : 0 < length first.token.text = first.some in
+      let later =
+      finish steps text first.after (tokens ++ first.token ∷ []) (omega arith) first.after_utf8
+      (cut_more lines text (b ∷ rest) first.after tokens first.token cut first.token_utf8 first.parts
+      first.is first.longest) in
+      let grown : length (tokens ++ first.token ∷ []) ≡ length tokens + 1 =
+      length_push tokens first.token in
+      let more : length (tokens ++ first.token ∷ []) ≤ length later.all = later.more in
+      record { all = later.all; cut = later.cut; more = omega arith }
+
+  -- where something stands behind the tokens, the text has more of them
+  pub has_more : (text rest : List ℕ) (tokens : List Token) → IsUtf8 rest → 0 < length rest →
+      IsCut lines text rest tokens →
+      (all : List Token) × IsCut lines text [] all × (length tokens < length all)
+  has_more text rest tokens utf8 some cut =
+      let first = first_of rest utf8 some in
+      let later =
+      finish (length first.after) text first.after (tokens ++ first.token ∷ []) (omega arith)
+      first.after_utf8
+      (cut_more lines text rest first.after tokens first.token cut first.token_utf8 first.parts
+      first.is first.longest) in
+      let grown : length (tokens ++ first.token ∷ []) ≡ length tokens + 1 =
+      length_push tokens first.token in
+      let more : length (tokens ++ first.token ∷ []) ≤ length later.all = later.more in
+      (later.all, later.cut, omega arith)

@@ -1,0 +1,39 @@
+-- A text that is cut into tokens up to a place.
+use Rattle.std.specs.Prelude.{◌≡◌, ◌≢◌, ℕ, ◌+◌, ◌≤◌, ◌<◌, List, [], ◌++◌, All, Some, length, slice_get}
+use Rattle.ux_alphabet.specs.declared.line.Line.{Line}
+use Rattle.ux_tokens.specs.declared.kind.Kind.TheVariants.{Word}
+use Rattle.ux_tokens.specs.declared.cutting.Cut.{Cut}
+use Rattle.ux_tokens.specs.declared.text_error.TextError.{TextError}
+use Rattle.ux_tokens.specs.declared.text_error.TextError.TheVariants.{TooManyTokens, NotYet, NoMemory}
+use Rattle.ux_tokens.specs.declared.cutting.TheConstants.{MAX_TOKENS}
+use Rattle.ux_tokens.specs.Tokens.{Token, IsTokenText, joined}
+use Rattle.ux_tokens.specs.First.{BeginsWithNoLetter}
+use Rattle.ux_tokens.specs.Numbers.{different_texts}
+use Rattle.ux_tokens.specs.Pieces.{ArePieces, tokens_from}
+
+-- the tokens are those of the text up to its rest, and the last of them is whole
+pub record IsCut (lines : List Line) (text rest : List ℕ) (tokens : List Token) : Type 0 where
+  pub whole : joined tokens ++ rest ≡ text
+  pub each : All (λ token. IsTokenText lines token.kind token.text) tokens
+  pub apart : (k : ℕ) (a b : Token) → slice_get tokens k ≡ Some a →
+      slice_get tokens (k + 1) ≡ Some b → a.kind ≡ Word → b.kind ≢ Word
+  pub closed : (k : ℕ) (last : Token) → slice_get tokens k ≡ Some last → k + 1 ≡ length tokens →
+      last.kind ≡ Word → BeginsWithNoLetter lines rest
+
+-- the pieces are those of the whole text
+pub record IsCutting (lines : List Line) (text : List ℕ) (cut : Cut) : Type 0 where
+  pub tokens : IsCut lines text [] (tokens_from text 0 cut.pieces.items)
+  pub pieces : ArePieces text cut.pieces.items (different_texts (tokens_from text 0 cut.pieces.items))
+  pub few : length cut.pieces.items ≤ MAX_TOKENS
+  pub different : cut.different ≡ length (different_texts (tokens_from text 0 cut.pieces.items))
+
+-- the text has more tokens than a text may have
+abbrev pub HasTooManyTokens : List Line → List ℕ → Type 0
+HasTooManyTokens lines text =
+    (tokens : List Token) × IsCut lines text [] tokens × (MAX_TOKENS < length tokens)
+
+-- when each error comes; want of memory may come at any text
+abbrev pub RefusesCut : List Line → List ℕ → TextError → Type 0
+RefusesCut lines text TooManyTokens = HasTooManyTokens lines text
+RefusesCut lines text NotYet = ⊥
+RefusesCut lines text NoMemory = Unit {0}

@@ -1,0 +1,50 @@
+-- Which list of tokens a text has. The manual, on tokenising.
+use Rattle.std.specs.Prelude.{◌≡◌, ◌≢◌, ℕ, ◌+◌, List, [], ◌∷◌, ◌++◌, Bool, false, if◌then◌else◌, All, Some, slice_get, encode_utf8}
+use Rattle.std.specs.Str.{IsUtf8, chars}
+use Rattle.ux_alphabet.specs.declared.line.Line.{Line}
+use Rattle.ux_alphabet.specs.Letters.{is_separator, IsLetter}
+use Rattle.ux_tokens.specs.declared.kind.Kind.{Kind}
+use Rattle.ux_tokens.specs.declared.kind.Kind.TheVariants.{Word, Space, Other, Sentence, Stop, Tag}
+
+-- a token, with the bytes of its text
+pub record Token : Type 0 where
+  pub kind : Kind
+  pub text : List ℕ
+
+abbrev pub SPACE : ℕ
+SPACE = 32
+
+-- a separator stands at the front
+abbrev pub begins_with_separator : List ℕ → Bool
+begins_with_separator [] = false
+begins_with_separator (b ∷ rest) = is_separator b
+
+-- the text in which each longest run of separators is one space
+abbrev pub with_single_spaces : List ℕ → List ℕ
+with_single_spaces [] = []
+with_single_spaces (b ∷ rest) =
+    if is_separator b
+    then (if begins_with_separator rest then with_single_spaces rest else SPACE ∷ with_single_spaces rest)
+    else b ∷ with_single_spaces rest
+
+-- what may stand as a token of each kind, by the alphabet's lines
+abbrev pub IsTokenText : List Line → Kind → List ℕ → Type 0
+IsTokenText lines Word text = (text ≢ []) × IsUtf8 text × All (IsLetter lines) (chars text)
+IsTokenText lines Space text = text ≡ SPACE ∷ []
+IsTokenText lines Other text =
+    (c : ℕ) × (text ≡ encode_utf8 c) × (IsLetter lines c → ⊥) × (c ≢ SPACE)
+IsTokenText lines Sentence text = ⊥
+IsTokenText lines Stop text = ⊥
+IsTokenText lines Tag text = ⊥
+
+-- the texts of the tokens, one behind the other
+abbrev pub joined : List Token → List ℕ
+joined [] = []
+joined (token ∷ tokens) = token.text ++ joined tokens
+
+-- the tokens are those of the text
+pub record AreTokens (lines : List Line) (text : List ℕ) (tokens : List Token) : Type 0 where
+  pub whole : joined tokens ≡ with_single_spaces text
+  pub each : All (λ token. IsTokenText lines token.kind token.text) tokens
+  pub apart : (k : ℕ) (a b : Token) → slice_get tokens k ≡ Some a →
+      slice_get tokens (k + 1) ≡ Some b → a.kind ≡ Word → b.kind ≢ Word

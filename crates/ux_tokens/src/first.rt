@@ -1,0 +1,43 @@
+//! The token at the front of a text.
+
+ghost use Rattle.std.specs.Prelude.{◌≡◌, ℕ, ◌<◌, ◌≤◌, ◌∷◌, All, length, take, drop};
+ghost use Rattle.std.specs.Str.{IsCharBoundary, chars};
+ghost use Rattle.ux_alphabet.specs.Letters.{IsLetter};
+ghost use Rattle.ux_tokens.specs.First.{BeginsWithNoLetter, IsFirstToken};
+
+use crate::kind::Kind;
+use ux_alphabet::Alphabet;
+
+/// The length in bytes of the longest run of letters at the front.
+fn word_len(alphabet: &Alphabet, text: &str) -> usize
+    ensures cut { IsCharBoundary text.now result }
+    ensures letters { All (IsLetter alphabet.now) (chars (take result text.now)) }
+    ensures ends { BeginsWithNoLetter alphabet.now (drop result text.now) }
+{
+    let mut len = 0;
+    for c in text.chars() {
+        if !alphabet.is_letter(c) {
+            return len;
+        }
+        len += c.len_utf8();
+    }
+    len
+}
+
+/// The kind and the length in bytes of the token at the front.
+pub fn first_token(alphabet: &Alphabet, text: &str) -> (Kind, usize)
+    requires { 0 < length text.now }
+    ensures cut { IsCharBoundary text.now result.1 }
+    ensures some { 0 < result.1 }
+    ensures is { IsFirstToken alphabet.now text.now result.0 result.1 }
+{
+    let word = word_len(alphabet, text);
+    if word > 0 {
+        return (Kind::Word, word);
+    }
+    match text.chars().next() {
+        Some(' ') => (Kind::Space, 1),
+        Some(c) => (Kind::Other, c.len_utf8()),
+        None => unreachable!(),
+    }
+}

@@ -1,0 +1,25 @@
+//! The tokens of a text.
+//!
+//! `Text::read` cuts a text into words, spaces and other characters. Which list of tokens a text has
+//! stands in `specs/Tokens.antt`, as a condition on the finished list.
+#![tactic(auto)]
+
+pub mod cutting;
+pub mod first;
+pub mod kind;
+pub mod numbering;
+pub mod piece;
+pub mod pieces;
+pub mod spaces;
+pub mod text;
+pub mod text_error;
+
+pub use cutting::MAX_TOKENS;
+pub use first::first_token;
+pub use kind::Kind;
+pub use spaces::single_spaced;
+pub use text::Text;
+pub use text_error::TextError;
+
+#[cfg(test)]
+mod tests;

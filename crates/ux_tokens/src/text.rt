@@ -1,0 +1,110 @@
+//! A text as the list of its tokens.
+//!
+//! The tokens are neighbouring slices of the text in which each run of white space is one space, so
+//! a text keeps that and the places where tokens end.
+
+ghost use Rattle.std.specs.Prelude.{◌≡◌, ◌+◌, ◌<◌, ◌≤◌, Some, Contains, IfOk, IfErr, OnOk, IsSomeAnd, length, take, slice_get, slice_range, string_bytes};
+ghost use Rattle.ux_tokens.specs.Tokens.{AreTokens, joined};
+ghost use Rattle.ux_tokens.specs.Numbers.{StandOnce, different_texts};
+ghost use Rattle.ux_tokens.specs.Reading.{HasTooManyTokens, Refuses, OPENING_BRACE};
+
+use crate::cutting::{Cut, MAX_TOKENS, cut_text};
+use crate::kind::Kind;
+use crate::piece::Piece;
+use crate::pieces::part;
+use crate::spaces::single_spaced;
+use crate::text_error::TextError;
+use std::alloc::Global;
+use std::marker::Model;
+use ux_alphabet::Alphabet;
+
+/// The tokens of a text. Contracts see a text as their list.
+#[derive(Debug, Drop)]
+pub struct Text {
+    text: String,
+    pieces: Vec<Piece>,
+    different: usize,
+}
+
+impl Model for Text {
+    ghost use Rattle.std.specs.Prelude.{List, string_bytes};
+    ghost use Rattle.ux_tokens.specs.Tokens.{Token};
+    ghost use Rattle.ux_tokens.specs.Pieces.{IsKept, tokens_from};
+
+    ghost Value = { List Token };
+
+    ghost view = { λ t. tokens_from (string_bytes t.text) 0 t.pieces.items };
+
+    ghost invariant = { λ t. IsKept (string_bytes t.text) t.pieces.items t.different };
+}
+
+impl Text {
+    /// The tokens of the text, by the letters of the alphabet.
+    pub fn read(alloc: Global, text: String, alphabet: &Alphabet) -> Result<Text, TextError>
+        ensures tokens { IfOk result (λ tokens. AreTokens alphabet.now (string_bytes text) tokens) }
+        ensures few { IfOk result (λ tokens. length tokens ≤ MAX_TOKENS) }
+        ensures no_brace { OnOk result (Contains (string_bytes text) OPENING_BRACE → ⊥) }
+        ensures not_too_many { OnOk result (HasTooManyTokens alphabet.now (string_bytes text) → ⊥) }
+        ensures refused { IfErr result (Refuses alphabet.now (string_bytes text)) }
+    {
+        if text.as_bytes().contains(&b'{') {
+            return Err(TextError::NotYet);
+        }
+        let text = single_spaced(alloc, text.as_str())?;
+        let Cut { pieces, different } = cut_text(alloc, alphabet, text.as_str())?;
+        Ok(Text {
+            text,
+            pieces,
+            different,
+        })
+    }
+
+    /// How many tokens there are.
+    pub fn len(&self) -> usize
+        ensures { result ≡ length self.now }
+    {
+        self.pieces.len()
+    }
+
+    /// The text of the token at a place. Takes one step.
+    pub fn token(&self, i: usize) -> &str
+        requires { i < length self.now }
+        ensures { IsSomeAnd (slice_get self.now i) (λ token. result.now ≡ token.text) }
+    {
+        part(self.text.as_str(), self.pieces.as_slice(), i, i)
+    }
+
+    /// The texts of neighbouring tokens, joined, from the first to the last. Takes one step.
+    pub fn slice(&self, first: usize, last: usize) -> &str
+        requires in_order { first ≤ last }
+        requires within { last < length self.now }
+        ensures { result.now ≡ joined (slice_range self.now first (last + 1)) }
+    {
+        part(self.text.as_str(), self.pieces.as_slice(), first, last)
+    }
+
+    /// The kind of the token at a place.
+    pub fn kind(&self, i: usize) -> Kind
+        requires { i < length self.now }
+        ensures { IsSomeAnd (slice_get self.now i) (λ token. result ≡ token.kind) }
+    {
+        self.pieces[i].kind
+    }
+
+    /// The number of the token at a place, which is the place of its text among the different ones.
+    pub fn number(&self, i: usize) -> u32
+        requires { i < length self.now }
+        ensures place { IsSomeAnd (slice_get self.now i) (λ token. slice_get (different_texts self.now) result ≡ Some token.text) }
+        ensures below { result < length (different_texts self.now) }
+    {
+        self.pieces[i].number
+    }
+
+    /// How many different tokens there are. Each number is below, and equal texts have one number.
+    pub fn different(&self) -> usize
+        ensures count { result ≡ length (different_texts self.now) }
+        ensures once { StandOnce (different_texts self.now) }
+    {
+        self.different
+    }
+}
