@@ -1,0 +1,13 @@
+# `make example` proves and builds the program, and searches the text of examples/ by its graph.
+# `make bench` times a search beside GNU grep.
+
+.PHONY: example bench gate
+
+example:
+	@cd crates/unitex && rt run -- locate ../../examples/time.grf ../../examples/text.txt ../../examples/alphabet.txt
+
+bench:
+	@bench/locate_word.sh
+
+gate:
+	@rt ci

@@ -1,0 +1,11 @@
+pub mod Boxes
+pub mod Hits
+pub mod Index
+pub mod Matches
+pub mod Places
+pub mod Running
+pub mod Searching
+pub mod Spans
+pub mod Splitting
+pub mod Statuses
+pub mod Words

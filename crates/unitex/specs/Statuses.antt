@@ -1,0 +1,64 @@
+-- The exit status of each ending, and the line that tells it.
+use Rattle.std.specs.Prelude.{ℕ, List, [], ◌++◌, codes}
+use Rattle.std.specs.Fmt.{decimal}
+use Rattle.ux_alphabet.specs.declared.error.AlphabetError.{AlphabetError}
+use Rattle.ux_alphabet.specs.declared.error.AlphabetError.TheVariants as alphabet_error
+use Rattle.ux_grf.specs.declared.error.GrfError.{GrfError}
+use Rattle.ux_grf.specs.declared.error.GrfError.TheVariants as grf_error
+use Rattle.ux_tokens.specs.declared.text_error.TextError.{TextError}
+use Rattle.ux_tokens.specs.declared.text_error.TextError.TheVariants as text_error
+use Rattle.unitex.specs.declared.status.Status.{Status}
+use Rattle.unitex.specs.declared.status.Status.TheVariants.{Done, Usage, Absent, Refused, ReadFault, WriteFault, TooLarge, NoMemory}
+use Rattle.unitex.specs.declared.status.Reason.{Reason}
+use Rattle.unitex.specs.declared.status.Reason.TheVariants.{NotYet, Alphabet, Grf, Text}
+
+-- the exit status
+abbrev pub number_of : Status → ℕ
+number_of Done = 0
+number_of Usage = 1
+number_of (Absent name) = 2
+number_of (Refused file reason) = 3
+number_of (ReadFault name) = 4
+number_of WriteFault = 5
+number_of (TooLarge file) = 6
+number_of NoMemory = 7
+
+-- a reason's innermost name, and then its fields
+abbrev pub alphabet_reason : AlphabetError → List ℕ
+alphabet_reason (alphabet_error.BadLine line) = codes "BadLine line=" ++ decimal line
+alphabet_reason (alphabet_error.EmptyRange line) = codes "EmptyRange line=" ++ decimal line
+alphabet_reason alphabet_error.NoMemory = codes "NoMemory"
+
+-- the same of a graph
+abbrev pub grf_reason : GrfError → List ℕ
+grf_reason grf_error.NoHeader = codes "NoHeader"
+grf_reason grf_error.BadCount = codes "BadCount"
+grf_reason (grf_error.BadBoxLine node) = codes "BadBoxLine node=" ++ decimal node
+grf_reason (grf_error.BadTarget node) = codes "BadTarget node=" ++ decimal node
+grf_reason grf_error.NotYet = codes "NotYet"
+grf_reason grf_error.NoMemory = codes "NoMemory"
+
+-- the same of a text
+abbrev pub text_reason : TextError → List ℕ
+text_reason text_error.TooManyTokens = codes "TooManyTokens"
+text_reason text_error.NotYet = codes "NotYet"
+text_reason text_error.NoMemory = codes "NoMemory"
+
+-- the same of any file
+abbrev pub reason_text : Reason → List ℕ
+reason_text NotYet = codes "NotYet"
+reason_text (Alphabet error) = alphabet_reason error
+reason_text (Grf error) = grf_reason error
+reason_text (Text error) = text_reason error
+
+-- the line of an ending, which a run that is done has not
+abbrev pub line_of : Status → List ℕ
+line_of Done = []
+line_of Usage = codes "usage: unitex COMMAND ARGUMENTS\n"
+line_of (Absent name) = codes "absent: " ++ name ++ codes "\n"
+line_of (Refused file reason) =
+    codes "refused: " ++ file ++ codes ": " ++ reason_text reason ++ codes "\n"
+line_of (ReadFault name) = codes "read fault: " ++ name ++ codes "\n"
+line_of WriteFault = codes "write fault\n"
+line_of (TooLarge file) = codes "too large: " ++ file ++ codes "\n"
+line_of NoMemory = codes "no memory\n"

@@ -1,0 +1,209 @@
+//! The files of a request, read in their order: the alphabet, the graph, the text.
+//!
+//! Each is read, decoded and given to its format's reader before the next is looked at, so the
+//! first that isn't accepted ends the run.
+
+ghost use Rattle.std.specs.Prelude.{◌≡◌, ◌⊎◌, ℕ, ◌≤◌, Ok, IfOk, IfErr, IfSome, IfNone, length, string_bytes};
+ghost use Rattle.ux_base.specs.Outside.{MAX};
+ghost use Rattle.unitex.specs.Running.{asked_by, counts_of, IsPlain, HasBytes, HasText, HasAlphabet, HasGraph, HasTokens, IsAccepted, NoneFell, Stops, Explains, alphabet_format, graph_format, text_format, bytes_format, plain_format};
+
+use crate::request::Request;
+use crate::status::{Reason, Status};
+use std::alloc::{AllocError, Global};
+use ux_alphabet::{Alphabet, AlphabetError};
+use ux_base::{Folder, FolderError, Txt};
+use ux_grf::{Graph, GrfError, read_grf};
+use ux_tokens::{Text, TextError};
+
+/// A request's files, each as its reader gives it.
+#[derive(Debug, Drop)]
+pub struct Files {
+    /// The letters.
+    pub alphabet: Alphabet,
+    /// The boxes.
+    pub graph: Graph,
+    /// The tokens.
+    pub text: Text,
+}
+
+/// Reads the request's files, or says how the run ends.
+#[tactic(auto, using(crate::proofs::Explaining::none_fell_both))]
+pub fn read_files<F: Folder>(
+    alloc: Global,
+    request: Request<'_>,
+    folder: &mut F,
+) -> Result<Files, Status>
+    ensures kept { F.files folder.new ≡ F.files folder.old }
+    ensures counts { NoneFell (counts_of F.faults F.misses F.overlong folder.old)
+        (counts_of F.faults F.misses F.overlong folder.new) }
+    ensures ok { IfOk result (λ files.
+        IsAccepted (asked_by request.entry) (F.files folder.old)
+        files.alphabet files.graph files.text) }
+    ensures err { IfErr result (Explains (asked_by request.entry) (F.files folder.old)
+        (counts_of F.faults F.misses F.overlong folder.old)
+        (counts_of F.faults F.misses F.overlong folder.new)) }
+{
+    let alphabet = read_alphabet(alloc, request.alphabet, folder)?;
+    let graph = read_graph(alloc, request.graph, folder)?;
+    let text = read_text(alloc, request.text, &alphabet, folder)?;
+    Ok(Files {
+        alphabet,
+        graph,
+        text,
+    })
+}
+
+/// Reads the alphabet's file.
+fn read_alphabet<F: Folder>(alloc: Global, name: &str, folder: &mut F) -> Result<Alphabet, Status>
+    ensures kept { F.files folder.new ≡ F.files folder.old }
+    ensures counts { NoneFell (counts_of F.faults F.misses F.overlong folder.old)
+        (counts_of F.faults F.misses F.overlong folder.new) }
+    ensures ok { IfOk result (HasAlphabet (F.files folder.old) name.now) }
+    ensures err { IfErr result (Stops alphabet_format name.now (F.files folder.old)
+        (counts_of F.faults F.misses F.overlong folder.old)
+        (counts_of F.faults F.misses F.overlong folder.new)) }
+{
+    let text = read_decoded(alloc, name, folder)?;
+    match Alphabet::read(alloc, text.as_str()) {
+        Ok(alphabet) => Ok(alphabet),
+        Err(AlphabetError::NoMemory) => Err(Status::NoMemory),
+        Err(error) => Err(refused(alloc, name, Reason::Alphabet(error))),
+    }
+}
+
+/// Reads the graph's file.
+fn read_graph<F: Folder>(alloc: Global, name: &str, folder: &mut F) -> Result<Graph, Status>
+    ensures kept { F.files folder.new ≡ F.files folder.old }
+    ensures counts { NoneFell (counts_of F.faults F.misses F.overlong folder.old)
+        (counts_of F.faults F.misses F.overlong folder.new) }
+    ensures ok { IfOk result (HasGraph (F.files folder.old) name.now) }
+    ensures err { IfErr result (Stops graph_format name.now (F.files folder.old)
+        (counts_of F.faults F.misses F.overlong folder.old)
+        (counts_of F.faults F.misses F.overlong folder.new)) }
+{
+    let text = read_decoded(alloc, name, folder)?;
+    match read_grf(alloc, text.as_str()) {
+        Ok(graph) => Ok(graph),
+        Err(GrfError::NoMemory) => Err(Status::NoMemory),
+        Err(error) => Err(refused(alloc, name, Reason::Grf(error))),
+    }
+}
+
+/// Reads the text's file.
+fn read_text<F: Folder>(
+    alloc: Global,
+    name: &str,
+    alphabet: &Alphabet,
+    folder: &mut F,
+) -> Result<Text, Status>
+    ensures kept { F.files folder.new ≡ F.files folder.old }
+    ensures counts { NoneFell (counts_of F.faults F.misses F.overlong folder.old)
+        (counts_of F.faults F.misses F.overlong folder.new) }
+    ensures ok { IfOk result (HasTokens (F.files folder.old) name.now alphabet.now) }
+    ensures err { IfErr result (Stops (text_format alphabet.now) name.now (F.files folder.old)
+        (counts_of F.faults F.misses F.overlong folder.old)
+        (counts_of F.faults F.misses F.overlong folder.new)) }
+{
+    let text = read_decoded(alloc, name, folder)?;
+    match Text::read(alloc, text, alphabet) {
+        Ok(text) => Ok(text),
+        Err(TextError::NoMemory) => Err(Status::NoMemory),
+        Err(TextError::TooManyTokens) => Err(too_large(alloc, name)),
+        Err(TextError::NotYet) => Err(refused(alloc, name, Reason::Text(TextError::NotYet))),
+    }
+}
+
+/// Reads a file and decodes it as UTF-8 without a byte order mark.
+fn read_decoded<F: Folder>(alloc: Global, name: &str, folder: &mut F) -> Result<String, Status>
+    ensures kept { F.files folder.new ≡ F.files folder.old }
+    ensures counts { NoneFell (counts_of F.faults F.misses F.overlong folder.old)
+        (counts_of F.faults F.misses F.overlong folder.new) }
+    ensures ok { IfOk result (λ text. HasText (F.files folder.old) name.now (string_bytes text)) }
+    ensures err { IfErr result (Stops plain_format name.now (F.files folder.old)
+        (counts_of F.faults F.misses F.overlong folder.old)
+        (counts_of F.faults F.misses F.overlong folder.new)) }
+{
+    let bytes = read_bytes(alloc, name, folder)?;
+    match decoded(bytes) {
+        Some(text) => Ok(text),
+        None => Err(refused(alloc, name, Reason::NotYet)),
+    }
+}
+
+/// The bytes of a file.
+fn read_bytes<F: Folder>(alloc: Global, name: &str, folder: &mut F) -> Result<Vec<u8>, Status>
+    ensures kept { F.files folder.new ≡ F.files folder.old }
+    ensures counts { NoneFell (counts_of F.faults F.misses F.overlong folder.old)
+        (counts_of F.faults F.misses F.overlong folder.new) }
+    ensures short { IfOk result (λ bytes. length bytes.items ≤ MAX) }
+    ensures ok { IfOk result (λ bytes. HasBytes (F.files folder.old) name.now bytes.items) }
+    ensures err { IfErr result (Stops bytes_format name.now (F.files folder.old)
+        (counts_of F.faults F.misses F.overlong folder.old)
+        (counts_of F.faults F.misses F.overlong folder.new)) }
+{
+    match folder.read(alloc, name) {
+        Ok(bytes) => Ok(bytes),
+        Err(FolderError::Absent) => Err(absent(alloc, name)),
+        Err(FolderError::Fault) => Err(read_fault(alloc, name)),
+        Err(FolderError::TooLong) => Err(too_large(alloc, name)),
+        Err(FolderError::NoMemory) => Err(Status::NoMemory),
+    }
+}
+
+/// The text of the bytes, if they are UTF-8 without a byte order mark.
+fn decoded(bytes: Vec<u8>) -> Option<String>
+    ensures some { IfSome result (λ text. string_bytes text ≡ bytes.items) }
+    ensures plain { IfSome result (λ text. IsPlain bytes.items) }
+    ensures none { IfNone result (¬ IsPlain bytes.items) }
+{
+    if bytes.as_slice().starts_with(b"\xef\xbb\xbf") {
+        return None;
+    }
+    match String::from_utf8(bytes) {
+        Ok(text) => {
+            let _text = text.as_str();
+            Some(text)
+        },
+        Err(_) => None,
+    }
+}
+
+/// The ending that names a file which isn't there.
+fn absent(alloc: Global, name: &str) -> Status
+    ensures { (result ≡ Status.Absent name.now) ⊎ (result ≡ Status.NoMemory) }
+{
+    match Txt::from_str(alloc, name) {
+        Ok(name) => Status::Absent { name },
+        Err(AllocError) => Status::NoMemory,
+    }
+}
+
+/// The ending that names a file which couldn't be read.
+fn read_fault(alloc: Global, name: &str) -> Status
+    ensures { (result ≡ Status.ReadFault name.now) ⊎ (result ≡ Status.NoMemory) }
+{
+    match Txt::from_str(alloc, name) {
+        Ok(name) => Status::ReadFault { name },
+        Err(AllocError) => Status::NoMemory,
+    }
+}
+
+/// The ending that names a file which is too long.
+fn too_large(alloc: Global, name: &str) -> Status
+    ensures { (result ≡ Status.TooLarge name.now) ⊎ (result ≡ Status.NoMemory) }
+{
+    match Txt::from_str(alloc, name) {
+        Ok(file) => Status::TooLarge { file },
+        Err(AllocError) => Status::NoMemory,
+    }
+}
+
+/// The ending that names a file which isn't of its format.
+fn refused(alloc: Global, name: &str, reason: Reason) -> Status
+    ensures { (result ≡ Status.Refused name.now reason) ⊎ (result ≡ Status.NoMemory) }
+{
+    match Txt::from_str(alloc, name) {
+        Ok(file) => Status::Refused { file, reason },
+        Err(AllocError) => Status::NoMemory,
+    }
+}

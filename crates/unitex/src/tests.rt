@@ -1,0 +1,7 @@
+//! Rows of the top call over a folder and sinks in memory.
+
+mod fakes;
+mod plain;
+mod refusals;
+mod rows;
+mod searches;

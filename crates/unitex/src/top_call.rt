@@ -1,0 +1,123 @@
+//! The top call: the words, the folder and the sinks in, a status out.
+
+ghost use Rattle.std.specs.Prelude.{◌≡◌, ◌≢◌, ◌⊎◌, ℕ, ◌<◌, ◌≤◌, List, None, IfOk, IfErr, map, length, string_bytes};
+ghost use Rattle.ux_base.specs.Outside.{Rose, Appended, AppendedFront};
+ghost use Rattle.unitex.specs.Boxes.{box_graph};
+ghost use Rattle.unitex.specs.Hits.{IsHit};
+ghost use Rattle.unitex.specs.Index.{IsIndex};
+ghost use Rattle.unitex.specs.Statuses.{line_of};
+ghost use Rattle.unitex.specs.Running.{request_of, counts_of, IsAnswer, IsAnswerable, Denies, EndsBy, NoneFell, WritesNothing};
+
+use crate::index::index_text;
+use crate::places::places_of;
+use crate::reading::{Files, read_files};
+use crate::request::request_of;
+use crate::searching::hits;
+use crate::status::Status;
+use crate::telling::tell;
+use std::alloc::Global;
+use ux_base::{Folder, Mem, Sink};
+
+/// Does what the words ask for. The result is built whole, and then written to `out`; where there
+/// is none, one line on `err` says why.
+pub fn run<F: Folder, S: Sink, E: Sink>(
+    alloc: Global,
+    words: &[String],
+    folder: &mut F,
+    out: &mut S,
+    err: &mut E,
+) -> Status
+    // The result was written whole.
+    ensures done { result ≡ Status.Done → (answer : List ℕ)
+        × IsAnswer (request_of (map string_bytes words.now)) (F.files folder.old) answer
+        × Appended (S.written out.old) (S.written out.new) answer }
+    // Each other ending has its cause.
+    ensures causes { EndsBy (request_of (map string_bytes words.now)) (F.files folder.old)
+        (counts_of F.faults F.misses F.overlong folder.old)
+        (counts_of F.faults F.misses F.overlong folder.new)
+        (Rose (S.faults out.old) (S.faults out.new)
+        ⊎ Rose (E.faults err.old) (E.faults err.new)) result }
+    ensures usage { request_of (map string_bytes words.now) ≡ None →
+        (result ≡ Status.Usage)
+        ⊎ ((result ≡ Status.WriteFault) × Rose (E.faults err.old) (E.faults err.new)) }
+    // What was written: nothing, or a front of the result; and the line of the ending on `err`.
+    ensures nothing { WritesNothing result → S.written out.new ≡ S.written out.old }
+    ensures front { result ≡ Status.WriteFault → (S.written out.new ≡ S.written out.old)
+        ⊎ ((answer : List ℕ)
+        × IsAnswer (request_of (map string_bytes words.now)) (F.files folder.old) answer
+        × AppendedFront (S.written out.old) (S.written out.new) answer) }
+    ensures line { WritesNothing result →
+        Appended (E.written err.old) (E.written err.new) (line_of result) }
+    ensures no_line { result ≡ Status.Done → E.written err.new ≡ E.written err.old }
+    ensures files { F.files folder.new ≡ F.files folder.old }
+    // A request whose files are all accepted is answered, unless a read or a write failed or memory
+    // ran out.
+    ensures complete { IsAnswerable (request_of (map string_bytes words.now)) (F.files folder.old) →
+        ¬ Rose (F.faults folder.old) (F.faults folder.new) →
+        ¬ (Rose (S.faults out.old) (S.faults out.new)
+        ⊎ Rose (E.faults err.old) (E.faults err.new)) →
+        (result ≡ Status.Done) ⊎ (result ≡ Status.NoMemory) }
+{
+    let result = match answer(alloc, words, folder) {
+        Ok(result) => result,
+        Err(status) => return ended(err, status),
+    };
+    match out.write_all(result.as_bytes()) {
+        Ok(()) => Status::Done,
+        Err(_) => ended(err, Status::WriteFault),
+    }
+}
+
+/// The result that the words ask for, or how the run ends without one.
+fn answer<F: Folder>(alloc: Global, words: &[String], folder: &mut F) -> Result<String, Status>
+    ensures ok { IfOk result (λ answer.
+        IsAnswer (request_of (map string_bytes words.now)) (F.files folder.old)
+        (string_bytes answer)) }
+    ensures err { IfErr result (Denies (request_of (map string_bytes words.now))
+        (F.files folder.old)
+        (counts_of F.faults F.misses F.overlong folder.old)
+        (counts_of F.faults F.misses F.overlong folder.new)) }
+    ensures kept { F.files folder.new ≡ F.files folder.old }
+    ensures counts { NoneFell (counts_of F.faults F.misses F.overlong folder.old)
+        (counts_of F.faults F.misses F.overlong folder.new) }
+{
+    let Some(request) = request_of(words) else {
+        return Err(Status::Usage);
+    };
+    let files = read_files(alloc, request, folder)?;
+    match index_of(alloc, files) {
+        Ok(index) => Ok(index),
+        Err(_) => Err(Status::NoMemory),
+    }
+}
+
+/// The index of the graph's hits in the text. A graph has a box.
+fn index_of(alloc: Global, files: Files) -> Mem<String>
+    requires { 0 < length files.graph.boxes }
+    ensures { IfOk result (λ index.
+        IsIndex (IsHit files.alphabet files.text (box_graph files.alphabet files.graph.boxes))
+        (string_bytes index)) }
+{
+    let Files {
+        alphabet,
+        graph,
+        text,
+    } = files;
+    let places = places_of(alloc, &alphabet, graph)?;
+    let hits = hits(alloc, places.as_slice(), &alphabet, &text)?;
+    index_text(alloc, &text, hits.as_slice())
+}
+
+/// The status, unless its line can't be written.
+fn ended<E: Sink>(err: &mut E, status: Status) -> Status
+    requires { status ≢ Status.Done }
+    ensures later { E.faults err.old ≤ E.faults err.new }
+    ensures status { ((result ≡ status)
+        × Appended (E.written err.old) (E.written err.new) (line_of status))
+        ⊎ ((result ≡ Status.WriteFault) × Rose (E.faults err.old) (E.faults err.new)) }
+{
+    match tell(err, &status) {
+        Ok(()) => status,
+        Err(_) => Status::WriteFault,
+    }
+}
