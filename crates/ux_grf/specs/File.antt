@@ -79,7 +79,8 @@ count_at (line ∷ lines) = count_of line
 
 -- the first of the lines tells the number, and these stand behind it
 abbrev pub IsNextCount : (lines rest : List (List ℕ)) → ℕ → Type 0
-IsNextCount lines rest count = (line : List ℕ) × (lines ≡ line ∷ rest) × (count_of line ≡ Some count)
+IsNextCount lines rest count =
+    (line : List ℕ) × (lines ≡ line ∷ rest) × (count_of line ≡ Some count)
 
 -- the file has so many boxes, and these lines behind their number
 pub record HasBoxLines (text : List ℕ) (boxes : ℕ) (lines : List (List ℕ)) : Type 0 where

@@ -9,7 +9,8 @@ use Rattle.ux_grf.specs.Numbers.{is_decimal, value_of}
 -- the line is the mark and then spaces or nothing
 abbrev pub is_mark : (mark line : List ℕ) → Bool
 is_mark mark line =
-    pointwise nat_eq (take (length mark) line) mark && list_all (λ b. b == SPACE) (drop (length mark) line)
+    pointwise nat_eq (take (length mark) line) mark
+    && list_all (λ b. b == SPACE) (drop (length mark) line)
 
 -- the lines behind the first line `#`
 abbrev pub behind_mark : List (List ℕ) → Option (List (List ℕ))

@@ -25,7 +25,8 @@ slice_get-push_cases (z ∷ xs) y zero x at = inl (omega arith, at)
 slice_get-push_cases {X} (z ∷ xs) y (suc k) x at = later (slice_get-push_cases xs y k x at)
   where
     later : ((k < length xs) × (slice_get xs k ≡ Some x)) ⊎ ((k ≡ length xs) × (y ≡ x)) →
-        ((suc k < length (z ∷ xs)) × (slice_get (z ∷ xs) (suc k) ≡ Some x)) ⊎ ((suc k ≡ length (z ∷ xs)) × (y ≡ x))
+        ((suc k < length (z ∷ xs)) × (slice_get (z ∷ xs) (suc k) ≡ Some x)) ⊎
+        ((suc k ≡ length (z ∷ xs)) × (y ≡ x))
     later (inl old) = inl (omega (arith, old.0), old.1)
     later (inr new) = inr (omega (arith, new.0), new.1)
 
@@ -77,7 +78,8 @@ module _ (lines : List Line) where
         ∙ ap (λ (l : List ℕ). joined tokens ++ l) (sym next)
         ∙ cut.whole;
     each =
-        All-push (λ (token : Token). IsTokenText lines token.kind token.text) tokens token cut.each is;
+        All-push (λ (token : Token). IsTokenText lines token.kind token.text) tokens token cut.each
+        is;
     apart = λ k a b at_a at_b word.
         apart k a b (slice_get-push_cases tokens token k a at_a)
         (slice_get-push_cases tokens token (k + 1) b at_b) word;
@@ -86,20 +88,24 @@ module _ (lines : List Line) where
   }
     where
       apart : (k : ℕ) (a b : Token) →
-          ((k < length tokens) × (slice_get tokens k ≡ Some a)) ⊎ ((k ≡ length tokens) × (token ≡ a)) →
-          ((k + 1 < length tokens) × (slice_get tokens (k + 1) ≡ Some b)) ⊎ ((k + 1 ≡ length tokens) × (token ≡ b)) →
+          ((k < length tokens) × (slice_get tokens k ≡ Some a)) ⊎
+          ((k ≡ length tokens) × (token ≡ a)) →
+          ((k + 1 < length tokens) × (slice_get tokens (k + 1) ≡ Some b)) ⊎
+          ((k + 1 ≡ length tokens) × (token ≡ b)) →
           a.kind ≡ Word → b.kind ≢ Word
       apart k a b (inl old_a) (inl old_b) word = cut.apart k a b old_a.1 old_b.1 word
       apart k a b (inl old_a) (inr new_b) word = λ also.
           let none : BeginsWithNoLetter lines rest = cut.closed k a old_a.1 new_b.0 word in
           let kind : token.kind ≡ Word = ap (λ (t : Token). t.kind) new_b.1 ∙ also in
-          word_begins token.text after utf8 (subst (λ (kind : Kind). IsTokenText lines kind token.text) kind is)
+          word_begins token.text after utf8 (subst
+          (λ (kind : Kind). IsTokenText lines kind token.text) kind is)
           (subst (BeginsWithNoLetter lines) next none)
       apart k a b (inr new_a) (inl old_b) word = absurd (omega (arith, new_a.0, old_b.0))
       apart k a b (inr new_a) (inr new_b) word = absurd (omega (arith, new_a.0, new_b.0))
 
       closed : (k : ℕ) (last : Token) →
-          ((k < length tokens) × (slice_get tokens k ≡ Some last)) ⊎ ((k ≡ length tokens) × (token ≡ last)) →
+          ((k < length tokens) × (slice_get tokens k ≡ Some last)) ⊎
+          ((k ≡ length tokens) × (token ≡ last)) →
           k + 1 ≡ length (tokens ++ token ∷ []) → last.kind ≡ Word → BeginsWithNoLetter lines after
       closed k last (inl old) is_last word =
           absurd (omega (arith, old.0, length-append tokens (token ∷ [])))

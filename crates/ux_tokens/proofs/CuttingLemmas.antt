@@ -60,7 +60,8 @@ module _ (lines : List Line) (text : List ℕ) where
     tokens = subst (IsCut lines text (drop (end + len) text))
         (ap (λ (t : Token). tokens_from text 0 pieces ++ t ∷ []) (sym last_is)
         ∙ sym (tokens_from-push text 0 pieces piece))
-        (cut_more lines text (drop end text) (drop (end + len) text) (tokens_from text 0 pieces) token
+        (cut_more lines text (drop end text) (drop (end + len) text) (tokens_from text 0 pieces)
+        token
         so_far.tokens (IsUtf8-take (drop end text) len rest_utf8 cut) next first.is longest);
     pieces_are = pieces_more text pieces different piece token.text so_far.pieces_are
         (let ends : end_from 0 pieces ≡ end = so_far.ends in omega arith)
@@ -68,7 +69,8 @@ module _ (lines : List Line) (text : List ℕ) where
     ends = end_from-push 0 pieces piece;
     between = boundary;
     few =
-        let grown : length (pieces ++ piece ∷ []) ≡ length pieces + 1 = length_push pieces piece in omega arith;
+        let grown : length (pieces ++ piece ∷ []) ≡ length pieces + 1 = length_push pieces piece in
+        omega arith;
   }
     where
       piece : Piece
@@ -99,7 +101,8 @@ module _ (lines : List Line) (text : List ℕ) where
       last_is : token_of text (end_from 0 pieces) piece ≡ token
       last_is =
           ap (λ (start : ℕ). token_of text start piece) so_far.ends
-          ∙ ap (λ (n : ℕ). let t : Token = record { kind = kind; text = take n (drop end text) } in t) cut_len
+          ∙ ap (λ (n : ℕ). let t : Token = record { kind = kind; text = take n (drop end text) } in
+          t) cut_len
 
   -- behind the last token stands nothing
   pub cut_whole : (end : ℕ) (pieces : Vec Piece Global) (different : List (List ℕ)) (count : ℕ) →
@@ -108,7 +111,8 @@ module _ (lines : List Line) (text : List ℕ) where
   cut_whole end pieces different count so_far all counted =
       let none : drop end text ≡ [] = drop_all end text (omega arith) in
       record {
-        tokens = subst (λ (rest : List ℕ). IsCut lines text rest (tokens_from text 0 pieces.items)) none so_far.tokens;
+        tokens = subst (λ (rest : List ℕ). IsCut lines text rest (tokens_from text 0 pieces.items))
+            none so_far.tokens;
         pieces = subst (ArePieces text pieces.items) so_far.pieces_are.all so_far.pieces_are;
         few = so_far.few;
         different = counted ∙ ap length so_far.pieces_are.all;

@@ -19,12 +19,14 @@ Apart (text ∷ texts) = (Stands texts text → ⊥) × Apart texts
 
 module _ (test : List ℕ → Bool) where
   -- what a filter keeps stood there before, and passes
-  kept : (texts : List (List ℕ)) (text : List ℕ) (k : ℕ) → slice_get (filter test texts) k ≡ Some text →
+  kept : (texts : List (List ℕ)) (text : List ℕ) (k : ℕ) → slice_get (filter test texts) k ≡ Some
+      text →
       Stands texts text × (test text ≡ true)
   kept [] text k at = absurd (none-some text at)
   kept (first ∷ texts) text k at = by (λ j. kept texts text j) (test first) refl k at
     where
-      later : Stands texts text × (test text ≡ true) → Stands (first ∷ texts) text × (test text ≡ true)
+      later : Stands texts text × (test text ≡ true) → Stands (first ∷ texts) text ×
+          (test text ≡ true)
       later there = ((suc there.0.0, there.0.1), there.1)
 
       by : ((j : ℕ) → slice_get (filter test texts) j ≡ Some text →
@@ -35,16 +37,19 @@ module _ (test : List ℕ → Bool) where
       by before true is zero at =
           let here : first ≡ text =
           same_Some first text
-          (sym (ap (λ (b : Bool). slice_get (cond b (first ∷ filter test texts) (filter test texts)) 0) is)
+          (sym (ap (λ (b : Bool). slice_get (cond b (first ∷ filter test texts)
+          (filter test texts)) 0) is)
           ∙ at) in
           ((0, ap Some here), subst (λ (t : List ℕ). test t ≡ true) here is)
       by before true is (suc k) at =
           later (before k
-          (sym (ap (λ (b : Bool). slice_get (cond b (first ∷ filter test texts) (filter test texts)) (suc k)) is)
+          (sym (ap (λ (b : Bool). slice_get (cond b (first ∷ filter test texts)
+          (filter test texts)) (suc k)) is)
           ∙ at))
       by before false is k at =
           later (before k
-          (sym (ap (λ (b : Bool). slice_get (cond b (first ∷ filter test texts) (filter test texts)) k) is)
+          (sym (ap (λ (b : Bool). slice_get (cond b (first ∷ filter test texts)
+          (filter test texts)) k) is)
           ∙ at))
 
   filter-apart : (texts : List (List ℕ)) → Apart texts → Apart (filter test texts)
@@ -54,10 +59,12 @@ module _ (test : List ℕ → Bool) where
       by : Apart (filter test texts) → (passes : Bool) → test first ≡ passes →
           Apart (filter test (first ∷ texts))
       by rest true is =
-          subst (λ (b : Bool). Apart (cond b (first ∷ filter test texts) (filter test texts))) (sym is)
+          subst (λ (b : Bool). Apart (cond b (first ∷ filter test texts) (filter test texts)))
+          (sym is)
           ((λ there. apart.0 ((kept texts first there.0 there.1).0)), rest)
       by rest false is =
-          subst (λ (b : Bool). Apart (cond b (first ∷ filter test texts) (filter test texts))) (sym is)
+          subst (λ (b : Bool). Apart (cond b (first ∷ filter test texts) (filter test texts)))
+          (sym is)
           rest
 
 each_once-apart : (texts : List (List ℕ)) → Apart (each_once texts)

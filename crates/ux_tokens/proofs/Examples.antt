@@ -27,6 +27,7 @@ together : joined (word 97 ∷ space ∷ word 98 ∷ []) ≡ 97 ∷ 32 ∷ 98 �
 together = refl
 
 -- `a ` as pieces that end at 1 and 2
-kept : tokens_from (97 ∷ 32 ∷ []) 0 (record { end = 1; number = 0; kind = Word } ∷ record { end = 2; number = 1; kind = Space } ∷ [])
+kept : tokens_from (97 ∷ 32 ∷ []) 0 (record { end = 1; number = 0; kind = Word } ∷ record
+    { end = 2; number = 1; kind = Space } ∷ [])
     ≡ word 97 ∷ space ∷ []
 kept = refl

@@ -61,7 +61,8 @@ module _ (lines : List Line) (text : List ℕ) where
       BeginsWithNoLetter lines (drop len text)
   run_ends utf8 len rest after c run next other d more is letter =
       let first : chars (drop len text) ≡ c ∷ chars after =
-      chars_past_char (drop len text) after c (IsUtf8-drop text len utf8 run.cut) (run.behind ∙ next) in
+      chars_past_char (drop len text) after c (IsUtf8-drop text len utf8 run.cut)
+      (run.behind ∙ next) in
       let same : c ≡ d = cc in
       other (subst (IsLetter lines) (sym same) letter)
 
@@ -90,6 +91,12 @@ pub other_first : (lines : List Line) (text after : List ℕ) (c : ℕ) → IsUt
     text ≡ encode_utf8 c ++ after → BeginsWithNoLetter lines text → (c ≡ 32 → ⊥) →
     IsFirstToken lines text Other (len_utf8 c)
 other_first lines text after c utf8 first no_letter no_space = record {
-  is = (c, take_char text after c first, no_letter c (chars after) (chars_past_char text after c utf8 first), no_space);
+  is = (
+    c,
+    take_char text after c first,
+    no_letter c (chars after)
+        (chars_past_char text after c utf8 first),
+    no_space,
+  );
   longest = λ same. cc;
 }

@@ -38,7 +38,8 @@ texts-insert slices text =
         sym (list_any-slices text.now slices) ∙ is in
         rw (is, there) refl
     by false is =
-        let there : list_any (bytes_eq text.now) (map (λ (s : Bor (List ℕ)). s.now) slices) ≡ false =
+        let there : list_any (bytes_eq text.now) (map (λ (s : Bor (List ℕ)). s.now) slices) ≡ false
+        =
         sym (list_any-slices text.now slices) ∙ is in
         rw (is, there) (map-append (λ (s : Bor (List ℕ)). s.now) slices (text ∷ []))
 
@@ -71,7 +72,8 @@ module _ (text : List ℕ) (texts : List (List ℕ)) (new : List ℕ) where
       ≡ with_text (text ∷ filter (differs text) texts) new
   push_first same =
       let equal : bytes_eq new text ≡ true =
-      subst (λ (t : List ℕ). bytes_eq t text ≡ true) (same_text text new (sym same)) (eq_self text) in
+      subst (λ (t : List ℕ). bytes_eq t text ≡ true) (same_text text new (sym same)) (eq_self text)
+      in
       let none : filter (differs text) (new ∷ []) ≡ [] =
       ap (λ (b : Bool). cond (not b) (new ∷ []) []) same in
       let lost : filter (differs text) (texts ++ new ∷ []) ≡ filter (differs text) texts =
@@ -151,7 +153,8 @@ with_text-keeps texts new k text at = by (list_any (bytes_eq new) texts) refl
     by : (b : Bool) → list_any (bytes_eq new) texts ≡ b →
         slice_get (with_text texts new) k ≡ Some text
     by true is =
-        subst (λ (l : List (List ℕ)). slice_get l k ≡ Some text) (sym (with_text-known texts new is)) at
+        subst (λ (l : List (List ℕ)). slice_get l k ≡ Some text)
+        (sym (with_text-known texts new is)) at
     by false is =
         subst (λ (l : List (List ℕ)). slice_get l k ≡ Some text) (sym (with_text-new texts new is))
         (slice_get-append texts (new ∷ []) k text at)

@@ -16,7 +16,8 @@ pub tokens_from-push : (text : List ℕ) (start : ℕ) (pieces : List Piece) (pi
     ≡ tokens_from text start pieces ++ token_of text (end_from start pieces) piece ∷ []
 tokens_from-push text start [] piece = refl
 tokens_from-push text start (first ∷ pieces) piece =
-    ap (λ (l : List Token). token_of text start first ∷ l) (tokens_from-push text first.end pieces piece)
+    ap (λ (l : List Token). token_of text start first ∷ l)
+    (tokens_from-push text first.end pieces piece)
 
 pub end_from-push : (start : ℕ) (pieces : List Piece) (piece : Piece) →
     end_from start (pieces ++ piece ∷ []) ≡ piece.end
@@ -29,7 +30,8 @@ length-tokens_from text start [] = refl
 length-tokens_from text start (first ∷ pieces) = ap suc (length-tokens_from text first.end pieces)
 
 -- the token at a place is that of the piece there, which begins where the one before it ends
-pub slice_get-tokens_from : (text : List ℕ) (start : ℕ) (pieces : List Piece) (k : ℕ) (piece : Piece) →
+pub slice_get-tokens_from : (text : List ℕ) (start : ℕ) (pieces : List Piece) (k : ℕ)
+    (piece : Piece) →
     slice_get pieces k ≡ Some piece →
     slice_get (tokens_from text start pieces) k
     ≡ Some (token_of text (end_from start (take k pieces)) piece)
@@ -61,7 +63,8 @@ pieces_start text = record {
   all = refl;
 }
 
-pub pieces_more : (text : List ℕ) (pieces : List Piece) (different : List (List ℕ)) (piece : Piece) (token : List ℕ) →
+pub pieces_more : (text : List ℕ) (pieces : List Piece) (different : List (List ℕ)) (piece : Piece)
+    (token : List ℕ) →
     ArePieces text pieces different → end_from 0 pieces ≤ piece.end →
     IsCharBoundary text piece.end →
     token ≡ slice_range text (end_from 0 pieces) piece.end →
@@ -73,7 +76,8 @@ pieces_more text pieces different piece token are later boundary is number = rec
   numbered = λ k p t at tok.
       numbered k p t (slice_get-push_cases pieces piece k p at)
       (slice_get-push_cases (tokens_from text 0 pieces) last k t
-      (subst (λ (l : List Token). slice_get l k ≡ Some t) (tokens_from-push text 0 pieces piece) tok));
+      (subst (λ (l : List Token). slice_get l k ≡ Some t) (tokens_from-push text 0 pieces piece)
+      tok));
   all =
       ap (λ (l : List (List ℕ)). with_text l token) are.all
       ∙ ap (with_text (different_texts (tokens_from text 0 pieces))) is
@@ -88,7 +92,8 @@ pieces_more text pieces different piece token are later boundary is number = rec
     same_len = length-tokens_from text 0 pieces
 
     ordered : (k : ℕ) (p : Piece) →
-        ((k < length pieces) × (slice_get pieces k ≡ Some p)) ⊎ ((k ≡ length pieces) × (piece ≡ p)) →
+        ((k < length pieces) × (slice_get pieces k ≡ Some p)) ⊎ ((k ≡ length pieces) × (piece ≡ p))
+        →
         end_from 0 (take k (pieces ++ piece ∷ [])) ≤ p.end
     ordered k p (inl old) =
         let within : k ≤ length pieces = omega (arith, old.0) in
@@ -99,14 +104,17 @@ pieces_more text pieces different piece token are later boundary is number = rec
         (subst (λ (q : Piece). end_from 0 pieces ≤ q.end) new.1 later)
 
     cut : (k : ℕ) (p : Piece) →
-        ((k < length pieces) × (slice_get pieces k ≡ Some p)) ⊎ ((k ≡ length pieces) × (piece ≡ p)) →
+        ((k < length pieces) × (slice_get pieces k ≡ Some p)) ⊎ ((k ≡ length pieces) × (piece ≡ p))
+        →
         IsCharBoundary text p.end
     cut k p (inl old) = are.cut k p old.1
     cut k p (inr new) = subst (λ (q : Piece). IsCharBoundary text q.end) new.1 boundary
 
     numbered : (k : ℕ) (p : Piece) (t : Token) →
-        ((k < length pieces) × (slice_get pieces k ≡ Some p)) ⊎ ((k ≡ length pieces) × (piece ≡ p)) →
-        ((k < length (tokens_from text 0 pieces)) × (slice_get (tokens_from text 0 pieces) k ≡ Some t))
+        ((k < length pieces) × (slice_get pieces k ≡ Some p)) ⊎ ((k ≡ length pieces) × (piece ≡ p))
+        →
+        ((k < length (tokens_from text 0 pieces)) ×
+        (slice_get (tokens_from text 0 pieces) k ≡ Some t))
         ⊎ ((k ≡ length (tokens_from text 0 pieces)) × (last ≡ t)) →
         slice_get (with_text different token) p.number ≡ Some t.text
     numbered k p t (inl old) (inl old_token) =

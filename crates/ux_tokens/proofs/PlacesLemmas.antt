@@ -56,7 +56,8 @@ module _ (text : List ℕ) (pieces : List Piece) (different : List (List ℕ)) w
   start_boundary utf8 are zero within = IsCharBoundary-start text utf8
   start_boundary utf8 are (suc k) within =
       let piece = piece_at pieces k (omega arith) in
-      subst (IsCharBoundary text) (sym (end_from-take 0 pieces k piece.0 piece.1)) (are.cut k piece.0 piece.1)
+      subst (IsCharBoundary text) (sym (end_from-take 0 pieces k piece.0 piece.1))
+      (are.cut k piece.0 piece.1)
 
   start_next : ArePieces text pieces different → (i : ℕ) → i < length pieces →
       start_at pieces i ≤ start_at pieces (suc i)
@@ -94,7 +95,8 @@ module _ (text : List ℕ) (pieces : List Piece) (different : List (List ℕ)) w
       let up : i + 1 ≡ suc i = omega arith in
       let first : drop i tokens ≡ token ∷ drop (suc i) tokens =
       drop_more tokens i token inside
-      ∙ ap (λ (t : Token). t ∷ drop (i + 1) tokens) (get_or_from_slice_get tokens i token token there)
+      ∙ ap (λ (t : Token). t ∷ drop (i + 1) tokens)
+      (get_or_from_slice_get tokens i token token there)
       ∙ ap (λ (k : ℕ). token ∷ drop k tokens) up in
       let later : joined (take n (drop (suc i) tokens))
       ≡ slice_range text (start_at pieces (suc i)) (start_at pieces (suc i + n)) =
@@ -106,7 +108,8 @@ module _ (text : List ℕ) (pieces : List Piece) (different : List (List ℕ)) w
       ∙ ap (λ (l : List ℕ). token.text ++ l) later
       ∙ ap (λ (m : ℕ). slice_range text (start_at pieces i) m
       ++ slice_range text (start_at pieces (suc i)) (start_at pieces (suc i + n))) ends
-      ∙ slice_range-join text (start_at pieces i) (start_at pieces (suc i)) (start_at pieces (suc i + n))
+      ∙ slice_range-join text (start_at pieces i) (start_at pieces (suc i))
+      (start_at pieces (suc i + n))
       (start_next are i (omega arith)) (start_in_order are n (suc i) (omega arith))
       ∙ ap (λ (m : ℕ). slice_range text (start_at pieces i) (start_at pieces m)) e
 
@@ -129,7 +132,8 @@ module _ (text : List ℕ) (pieces : List Piece) (different : List (List ℕ)) w
 
   pub token_number : ArePieces text pieces different → (i : ℕ) (piece : Piece) →
       slice_get pieces i ≡ Some piece →
-      IsSomeAnd (slice_get (tokens_from text 0 pieces) i) (λ (t : Token). slice_get different piece.number ≡ Some t.text)
+      IsSomeAnd (slice_get (tokens_from text 0 pieces) i)
+      (λ (t : Token). slice_get different piece.number ≡ Some t.text)
   token_number are i piece at =
       let token : Token = token_of text (start_at pieces i) piece in
       let there : slice_get (tokens_from text 0 pieces) i ≡ Some token =

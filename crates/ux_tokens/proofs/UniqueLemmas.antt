@@ -21,24 +21,37 @@ module _ (lines : List Line) where
 
   -- no letter stands at the front
   abbrev pub BeginsWithNone : List ℕ → Type 0
-  BeginsWithNone text = (c : ℕ) (rest : List ℕ) → text ≡ encode_utf8 c ++ rest → IsLetter lines c → ⊥
+  BeginsWithNone text = (c : ℕ) (rest : List ℕ) → text ≡ encode_utf8 c ++ rest → IsLetter lines c →
+      ⊥
 
   some_byte : (c : ℕ) (rest : List ℕ) → let none : List ℕ = [] in none ≡ encode_utf8 c ++ rest → ⊥
-  some_byte c rest e = omega (arith, simp length-append at (ap length e), length-encode c, (len_utf8_bounds c).0)
+  some_byte c rest e = omega (
+    arith,
+    simp length-append at (ap length e),
+    length-encode c,
+    (len_utf8_bounds c).0,
+  )
 
   space_text : (rest : List ℕ) → SPACE ∷ rest ≡ encode_utf8 SPACE ++ rest
   space_text rest = ap (λ x. x ++ rest) (sym (encode_ascii SPACE (omega arith)))
 
   -- the texts of two lists of letters, each with no letter behind it
-  letters_same : (cs ds r t : List ℕ) → All (IsLetter lines) cs → All (IsLetter lines) ds → BeginsWithNone r → BeginsWithNone t →
+  letters_same : (cs ds r t : List ℕ) → All (IsLetter lines) cs → All (IsLetter lines) ds →
+      BeginsWithNone r → BeginsWithNone t →
       encode_utf8_all cs ++ r ≡ encode_utf8_all ds ++ t → (cs ≡ ds) × (r ≡ t)
   letters_same [] [] r t a b n m e = (refl, e)
-  letters_same [] (d ∷ ds) r t a b n m e = absurd (n d (encode_utf8_all ds ++ t) (e ∙ append_assoc (encode_utf8 d) (encode_utf8_all ds) t) (b 0 d (omega arith)))
-  letters_same (c ∷ cs) [] r t a b n m e = absurd (m c (encode_utf8_all cs ++ r) (sym e ∙ append_assoc (encode_utf8 c) (encode_utf8_all cs) r) (a 0 c (omega arith)))
+  letters_same [] (d ∷ ds) r t a b n m e = absurd
+      (n d (encode_utf8_all ds ++ t) (e ∙ append_assoc (encode_utf8 d) (encode_utf8_all ds) t)
+      (b 0 d (omega arith)))
+  letters_same (c ∷ cs) [] r t a b n m e = absurd
+      (m c (encode_utf8_all cs ++ r) (sym e ∙ append_assoc (encode_utf8 c) (encode_utf8_all cs) r)
+      (a 0 c (omega arith)))
   letters_same (c ∷ cs) (d ∷ ds) r t a b n m e =
       let h = encode_same c d (encode_utf8_all cs ++ r) (encode_utf8_all ds ++ t)
-      (sym (append_assoc (encode_utf8 c) (encode_utf8_all cs) r) ∙ (e ∙ append_assoc (encode_utf8 d) (encode_utf8_all ds) t)) in
-      let rest = letters_same cs ds r t (λ k x lt. a (suc k) x (omega arith)) (λ k x lt. b (suc k) x (omega arith)) n m h.1 in
+      (sym (append_assoc (encode_utf8 c) (encode_utf8_all cs) r) ∙
+      (e ∙ append_assoc (encode_utf8 d) (encode_utf8_all ds) t)) in
+      let rest = letters_same cs ds r t (λ k x lt. a (suc k) x (omega arith))
+      (λ k x lt. b (suc k) x (omega arith)) n m h.1 in
       (ap (λ x. x ∷ cs) h.0 ∙ ap (λ xs. d ∷ xs) rest.0, rest.1)
 
   -- a word is the bytes of one or more letters
@@ -47,7 +60,8 @@ module _ (lines : List Line) where
     pub some : letters ≢ []
     pub each : All (IsLetter lines) letters
 
-  word_letters : (text : List ℕ) → IsTokenText lines Word text → (letters : List ℕ) × AreLetters text letters
+  word_letters : (text : List ℕ) → IsTokenText lines Word text → (letters : List ℕ) × AreLetters
+      text letters
   word_letters text is =
       let same : chars text ≡ is.1.0 = ap chars (sym is.1.1.1) ∙ chars-encodes is.1.0 is.1.1.0 in (
         is.1.0,
@@ -59,13 +73,16 @@ module _ (lines : List Line) where
       )
 
   -- a list of letters begins with one
-  begins_with_letter : (cs r : List ℕ) → cs ≢ [] → All (IsLetter lines) cs → BeginsWithNone (encode_utf8_all cs ++ r) → ⊥
+  begins_with_letter : (cs r : List ℕ) → cs ≢ [] → All (IsLetter lines) cs → BeginsWithNone
+      (encode_utf8_all cs ++ r) → ⊥
   begins_with_letter [] r some all none = some refl
   begins_with_letter (c ∷ cs) r some all none =
-      none c (encode_utf8_all cs ++ r) (append_assoc (encode_utf8 c) (encode_utf8_all cs) r) (all 0 c (omega arith))
+      none c (encode_utf8_all cs ++ r) (append_assoc (encode_utf8 c) (encode_utf8_all cs) r)
+      (all 0 c (omega arith))
 
   -- the front of a token that is no word
-  front_is_none : (kind : Kind) (text r : List ℕ) → kind ≢ Word → IsTokenText lines kind text → BeginsWithNone (text ++ r)
+  front_is_none : (kind : Kind) (text r : List ℕ) → kind ≢ Word → IsTokenText lines kind text →
+      BeginsWithNone (text ++ r)
   front_is_none Word text r other is = absurd (other refl)
   front_is_none Space text r other is = λ c rest e letter.
       let h = encode_same SPACE c r rest (sym (space_text r) ∙ (ap (λ x. x ++ r) (sym is) ∙ e)) in
@@ -78,12 +95,16 @@ module _ (lines : List Line) where
   front_is_none Tag text r other is = absurd is
 
   -- no token is empty
-  token_some : (kind : Kind) (text r : List ℕ) → IsTokenText lines kind text → let none : List ℕ = [] in none ≡ text ++ r → ⊥
-  token_some Word text r is e = let v = word_letters text is in letters_some v.0 v.1.some (e ∙ ap (λ x. x ++ r) v.1.bytes)
+  token_some : (kind : Kind) (text r : List ℕ) → IsTokenText lines kind text → let none : List ℕ =
+      [] in none ≡ text ++ r → ⊥
+  token_some Word text r is e = let v = word_letters text is in letters_some v.0 v.1.some
+      (e ∙ ap (λ x. x ++ r) v.1.bytes)
     where
-      letters_some : (cs : List ℕ) → cs ≢ [] → let none : List ℕ = [] in none ≡ encode_utf8_all cs ++ r → ⊥
+      letters_some : (cs : List ℕ) → cs ≢ [] → let none : List ℕ = [] in none ≡ encode_utf8_all cs
+          ++ r → ⊥
       letters_some [] some e = some refl
-      letters_some (c ∷ cs) some e = some_byte c (encode_utf8_all cs ++ r) (e ∙ append_assoc (encode_utf8 c) (encode_utf8_all cs) r)
+      letters_some (c ∷ cs) some e = some_byte c (encode_utf8_all cs ++ r)
+          (e ∙ append_assoc (encode_utf8 c) (encode_utf8_all cs) r)
   token_some Space text r is e = some_byte SPACE r (e ∙ (ap (λ x. x ++ r) is ∙ space_text r))
   token_some Other text r is e = some_byte is.0 r (e ∙ ap (λ x. x ++ r) is.1)
   token_some Sentence text r is e = is
@@ -101,29 +122,40 @@ module _ (lines : List Line) where
       (ap (λ z. z ++ r) (sym v.1.bytes) ∙ (e ∙ ap (λ z. z ++ t) w.1.bytes)) in
       (refl, v.1.bytes ∙ (ap encode_utf8_all h.0 ∙ sym w.1.bytes), h.1)
   first_same Space Space x y r t a b n m e =
-      let h = encode_same SPACE SPACE r t (sym (space_text r) ∙ (ap (λ z. z ++ r) (sym a) ∙ (e ∙ (ap (λ z. z ++ t) b ∙ space_text t)))) in
+      let h = encode_same SPACE SPACE r t (sym (space_text r) ∙
+      (ap (λ z. z ++ r) (sym a) ∙ (e ∙ (ap (λ z. z ++ t) b ∙ space_text t)))) in
       (refl, a ∙ sym b, h.1)
   first_same Other Other x y r t a b n m e =
       let h = encode_same a.0 b.0 r t (ap (λ z. z ++ r) (sym a.1) ∙ (e ∙ ap (λ z. z ++ t) b.1)) in
       (refl, a.1 ∙ (ap encode_utf8 h.0 ∙ sym b.1), h.1)
   first_same Space Other x y r t a b n m e =
-      let h = encode_same SPACE b.0 r t (sym (space_text r) ∙ (ap (λ z. z ++ r) (sym a) ∙ (e ∙ ap (λ z. z ++ t) b.1))) in
+      let h = encode_same SPACE b.0 r t (sym (space_text r) ∙
+      (ap (λ z. z ++ r) (sym a) ∙ (e ∙ ap (λ z. z ++ t) b.1))) in
       absurd (b.3 (sym h.0))
   first_same Other Space x y r t a b n m e =
-      let h = encode_same a.0 SPACE r t (ap (λ z. z ++ r) (sym a.1) ∙ (e ∙ (ap (λ z. z ++ t) b ∙ space_text t))) in
+      let h = encode_same a.0 SPACE r t (ap (λ z. z ++ r) (sym a.1) ∙
+      (e ∙ (ap (λ z. z ++ t) b ∙ space_text t))) in
       absurd (a.3 h.0)
   first_same Word Space x y r t a b n m e =
       let v = word_letters x a in
-      absurd (begins_with_letter v.0 r v.1.some v.1.each (λ c rest e'. front_is_none Space y t (λ q. cc) b c rest (sym e ∙ (ap (λ z. z ++ r) v.1.bytes ∙ e'))))
+      absurd (begins_with_letter v.0 r v.1.some v.1.each
+      (λ c rest e'. front_is_none Space y t (λ q. cc) b c rest
+      (sym e ∙ (ap (λ z. z ++ r) v.1.bytes ∙ e'))))
   first_same Word Other x y r t a b n m e =
       let v = word_letters x a in
-      absurd (begins_with_letter v.0 r v.1.some v.1.each (λ c rest e'. front_is_none Other y t (λ q. cc) b c rest (sym e ∙ (ap (λ z. z ++ r) v.1.bytes ∙ e'))))
+      absurd (begins_with_letter v.0 r v.1.some v.1.each
+      (λ c rest e'. front_is_none Other y t (λ q. cc) b c rest
+      (sym e ∙ (ap (λ z. z ++ r) v.1.bytes ∙ e'))))
   first_same Space Word x y r t a b n m e =
       let v = word_letters y b in
-      absurd (begins_with_letter v.0 t v.1.some v.1.each (λ c rest e'. front_is_none Space x r (λ q. cc) a c rest (e ∙ (ap (λ z. z ++ t) v.1.bytes ∙ e'))))
+      absurd (begins_with_letter v.0 t v.1.some v.1.each
+      (λ c rest e'. front_is_none Space x r (λ q. cc) a c rest
+      (e ∙ (ap (λ z. z ++ t) v.1.bytes ∙ e'))))
   first_same Other Word x y r t a b n m e =
       let v = word_letters y b in
-      absurd (begins_with_letter v.0 t v.1.some v.1.each (λ c rest e'. front_is_none Other x r (λ q. cc) a c rest (e ∙ (ap (λ z. z ++ t) v.1.bytes ∙ e'))))
+      absurd (begins_with_letter v.0 t v.1.some v.1.each
+      (λ c rest e'. front_is_none Other x r (λ q. cc) a c rest
+      (e ∙ (ap (λ z. z ++ t) v.1.bytes ∙ e'))))
   first_same Sentence l x y r t a b n m e = absurd a
   first_same Stop l x y r t a b n m e = absurd a
   first_same Tag l x y r t a b n m e = absurd a
@@ -140,29 +172,35 @@ module _ (lines : List Line) where
   -- each is the text of a token, and no two words stand side by side
   pub record AreCut (tokens : List Token) : Type 0 where
     pub each : All (λ token. IsTokenText lines token.kind token.text) tokens
-    pub apart : (k : ℕ) (a b : Token) → slice_get tokens k ≡ Some a → slice_get tokens (k + 1) ≡ Some b → a.kind ≡ Word → b.kind ≢ Word
+    pub apart : (k : ℕ) (a b : Token) → slice_get tokens k ≡ Some a → slice_get tokens (k + 1) ≡
+        Some b → a.kind ≡ Word → b.kind ≢ Word
 
   rest_cut : (t : Token) (ts : List Token) → AreCut (t ∷ ts) → AreCut ts
   rest_cut t ts c = record {
     each = λ k d lt. c.each (suc k) d (omega arith);
-    apart = λ k a b first second. c.apart (suc k) a b first (subst (λ n. slice_get (t ∷ ts) n ≡ Some b) (next k) second);
+    apart = λ k a b first second. c.apart (suc k) a b first
+        (subst (λ n. slice_get (t ∷ ts) n ≡ Some b) (next k) second);
   }
     where
       next : (k : ℕ) → suc (k + 1) ≡ suc k + 1
       next k = omega arith
 
   -- behind a word no letter stands
-  behind_word : (t : Token) (ts : List Token) → AreCut (t ∷ ts) → t.kind ≡ Word → BeginsWithNone (joined ts)
+  behind_word : (t : Token) (ts : List Token) → AreCut (t ∷ ts) → t.kind ≡ Word → BeginsWithNone
+      (joined ts)
   behind_word t [] c word = λ d rest e letter. some_byte d rest e
   behind_word t (u ∷ ts) c word =
-      front_is_none u.kind u.text (joined ts) (c.apart 0 t u refl refl word) (c.each 1 u (omega arith))
+      front_is_none u.kind u.text (joined ts) (c.apart 0 t u refl refl word)
+      (c.each 1 u (omega arith))
 
   token_same : (t u : Token) → t.kind ≡ u.kind → t.text ≡ u.text → t ≡ u
   token_same t u e f =
-      let first : t ≡ record { kind = u.kind; text = t.text } = ap (λ k. record { kind = k; text = t.text }) e in
+      let first : t ≡ record { kind = u.kind; text = t.text } = ap
+      (λ k. record { kind = k; text = t.text }) e in
       first ∙ ap (λ x. record { kind = u.kind; text = x }) f
 
-  no_empty : (t : Token) (ts : List Token) → AreCut (t ∷ ts) → let none : List ℕ = [] in none ≡ t.text ++ joined ts → ⊥
+  no_empty : (t : Token) (ts : List Token) → AreCut (t ∷ ts) → let none : List ℕ = [] in none ≡
+      t.text ++ joined ts → ⊥
   no_empty t ts c e = token_some t.kind t.text (joined ts) (c.each 0 t (omega arith)) e
 
   pub cut_same : (ts us : List Token) → AreCut ts → AreCut us → joined ts ≡ joined us → ts ≡ us
@@ -170,14 +208,18 @@ module _ (lines : List Line) where
   cut_same [] (u ∷ us) a b e = absurd (no_empty u us b e)
   cut_same (t ∷ ts) [] a b e = absurd (no_empty t ts a (sym e))
   cut_same (t ∷ ts) (u ∷ us) a b e =
-      let h = first_same t.kind u.kind t.text u.text (joined ts) (joined us) (a.each 0 t (omega arith)) (b.each 0 u (omega arith))
+      let h = first_same t.kind u.kind t.text u.text (joined ts) (joined us)
+      (a.each 0 t (omega arith)) (b.each 0 u (omega arith))
       (behind_word t ts a) (behind_word u us b) e in
-      ap (λ x. x ∷ ts) (token_same t u h.0 h.1) ∙ ap (λ xs. u ∷ xs) (cut_same ts us (rest_cut t ts a) (rest_cut u us b) h.2)
+      ap (λ x. x ∷ ts) (token_same t u h.0 h.1) ∙ ap (λ xs. u ∷ xs)
+      (cut_same ts us (rest_cut t ts a) (rest_cut u us b) h.2)
 
   -- the list of tokens of a text is the only one
-  pub tokens_unique : (text : List ℕ) (ts us : List Token) → AreTokens lines text ts → AreTokens lines text us → ts ≡ us
+  pub tokens_unique : (text : List ℕ) (ts us : List Token) → AreTokens lines text ts → AreTokens
+      lines text us → ts ≡ us
   tokens_unique text ts us a b =
-      cut_same ts us (record { each = a.each; apart = a.apart }) (record { each = b.each; apart = b.apart }) (a.whole ∙ sym b.whole)
+      cut_same ts us (record { each = a.each; apart = a.apart })
+      (record { each = b.each; apart = b.apart }) (a.whole ∙ sym b.whole)
 
   -- a text with a list that is short enough has no longer one
   pub no_longer : (text spaced : List ℕ) (tokens : List Token) → spaced ≡ with_single_spaces text →

@@ -77,7 +77,11 @@ module _ (lines : List Line) where
           Settled (Any (λ (line : Line). NamesUpper line c) lines) →
           Settled (Any (λ (line : Line). NamesLower line c) lines) → Settled (IsLetter lines c)
       by true is upper lower =
-          inr (λ letter. elim letter [ inl up ↦ (let no = up.0 in cc) | inr low ↦ (let no = low.0 in cc) ])
+          inr (λ letter. elim letter [
+            | inl up ↦ (let no = up.0 in cc)
+            | inr low ↦
+                (let no = low.0 in cc)
+          ])
       by false is (inl upper) lower = inl (inl (is, upper))
       by false is (inr no_upper) (inl lower) = inl (inr (is, lower))
       by false is (inr no_upper) (inr no_lower) =
@@ -221,7 +225,8 @@ module _ (lines : List Line) where
       let some : 0 < length first.token.text = first.some in
       let later =
       finish steps text first.after (tokens ++ first.token ∷ []) (omega arith) first.after_utf8
-      (cut_more lines text (b ∷ rest) first.after tokens first.token cut first.token_utf8 first.parts
+      (cut_more lines text (b ∷ rest) first.after tokens first.token cut first.token_utf8
+      first.parts
       first.is first.longest) in
       let grown : length (tokens ++ first.token ∷ []) ≡ length tokens + 1 =
       length_push tokens first.token in

@@ -23,7 +23,8 @@ pub record IsCut (lines : List Line) (text rest : List ℕ) (tokens : List Token
 -- the pieces are those of the whole text
 pub record IsCutting (lines : List Line) (text : List ℕ) (cut : Cut) : Type 0 where
   pub tokens : IsCut lines text [] (tokens_from text 0 cut.pieces.items)
-  pub pieces : ArePieces text cut.pieces.items (different_texts (tokens_from text 0 cut.pieces.items))
+  pub pieces : ArePieces text cut.pieces.items
+      (different_texts (tokens_from text 0 cut.pieces.items))
   pub few : length cut.pieces.items ≤ MAX_TOKENS
   pub different : cut.different ≡ length (different_texts (tokens_from text 0 cut.pieces.items))
 

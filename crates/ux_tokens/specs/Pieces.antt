@@ -21,7 +21,8 @@ end_from start [] = start
 end_from start (piece ∷ pieces) = end_from piece.end pieces
 
 -- the pieces lie in the text, cut it between characters, and have the numbers of their texts
-pub record ArePieces (text : List ℕ) (pieces : List Piece) (different : List (List ℕ)) : Type 0 where
+pub record ArePieces (text : List ℕ) (pieces : List Piece) (different : List (List ℕ)) :
+    Type 0 where
   pub ordered : (k : ℕ) (piece : Piece) → slice_get pieces k ≡ Some piece →
       end_from 0 (take k pieces) ≤ piece.end
   pub cut : (k : ℕ) (piece : Piece) → slice_get pieces k ≡ Some piece →

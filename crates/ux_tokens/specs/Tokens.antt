@@ -24,7 +24,8 @@ abbrev pub with_single_spaces : List ℕ → List ℕ
 with_single_spaces [] = []
 with_single_spaces (b ∷ rest) =
     if is_separator b
-    then (if begins_with_separator rest then with_single_spaces rest else SPACE ∷ with_single_spaces rest)
+    then (if begins_with_separator rest then with_single_spaces rest
+    else SPACE ∷ with_single_spaces rest)
     else b ∷ with_single_spaces rest
 
 -- what may stand as a token of each kind, by the alphabet's lines

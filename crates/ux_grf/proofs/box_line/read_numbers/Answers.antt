@@ -23,6 +23,7 @@ loop-word-preserved c =
     let value = c.in-Some.ensures.value ∙ ap value_of is in (
       all_more (texts words) i inside c.loop-word.invariant.0 number,
       values_more
-          (texts words) i inside c.loop-word.values.items c.push.new.self.items c.loop-word.invariant.1
+          (texts words) i inside c.loop-word.values.items c.push.new.self.items
+          c.loop-word.invariant.1
           (c.in_ok-push-in-Some.ensures.items ∙ ap (λ v. c.loop-word.values.items ++ v ∷ []) value),
     )

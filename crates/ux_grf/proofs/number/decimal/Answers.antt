@@ -4,7 +4,8 @@ use Rattle.ux_grf.proofs.number.decimal.Goals as goal
 
 pub loop-byte-preserved : goal.loop-byte-preserved
 loop-byte-preserved c =
-    let more = digits_more c.args.word.now c.loop-byte.byte-index c.loop-byte.value c.loop-byte-test.true
+    let more = digits_more c.args.word.now c.loop-byte.byte-index c.loop-byte.value
+    c.loop-byte-test.true
     c.loop-byte.invariant.0 (sym c.is_digit_byte.ensures
     ∙ c.if-not-is_digit_byte.false) c.loop-byte.invariant.1 in (
       more.0,

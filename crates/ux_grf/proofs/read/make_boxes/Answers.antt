@@ -10,7 +10,8 @@ pub loop-node-preserved : goal.loop-node-preserved
 loop-node-preserved c =
     let i = c.loop-node.invariant in
     let lt = c.loop-node-test.true in (
-      boxes_more c.args.boxes.now c.args.reached.now c.loop-node.node c.index-boxes-node.result c.loop-node.made.items
+      boxes_more c.args.boxes.now c.args.reached.now c.loop-node.node c.index-boxes-node.result
+          c.loop-node.made.items
           c.push.new.self.items c.in_ok-read_box_content.field-0 lt c.index-boxes-node.is
           c.in_ok-read_box_content.ensures.made i.0 c.in_ok-push.ensures.items,
       below_more (λ n. is_odd (text_at (map said_by c.args.boxes.now) n) n
@@ -18,6 +19,7 @@ loop-node-preserved c =
           c.loop-node.node i.1
           (subst (λ t. is_odd t c.loop-node.node
           (get_or c.args.reached.now c.loop-node.node false) ≡ false)
-          (text_is c.args.boxes.now c.loop-node.node c.index-boxes-node.result lt c.index-boxes-node.is)
+          (text_is c.args.boxes.now c.loop-node.node c.index-boxes-node.result lt
+          c.index-boxes-node.is)
           c.in_ok-read_box_content.ensures.plain),
     )

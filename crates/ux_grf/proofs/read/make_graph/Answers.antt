@@ -25,7 +25,8 @@ ways_are boxes ways is = is ∙ ap ways_of (sym (targets_said boxes))
 
 pub returns-in_err-reached-clause-refused : goal.returns-in_err-reached-clause-refused
 returns-in_err-reached-clause-refused c =
-    let p = err_from_is_err_and c.from_residual-in_err-reached.result c.from_residual-in_err-reached.ensures.1 in
+    let p = err_from_is_err_and c.from_residual-in_err-reached.result
+    c.from_residual-in_err-reached.ensures.1 in
     rw (p.1, p.2)
     (cause_refuses (map said_by c.args.boxes.now) _ _
     (ways_are c.args.boxes.now _ (c.deref.ensures.value ∙ c.in_ok-ways.ensures))
@@ -33,7 +34,8 @@ returns-in_err-reached-clause-refused c =
 
 pub returns-in_err-make_boxes-clause-refused : goal.returns-in_err-make_boxes-clause-refused
 returns-in_err-make_boxes-clause-refused c =
-    let p = err_from_is_err_and c.from_residual-in_err-make_boxes.result c.from_residual-in_err-make_boxes.ensures.1 in
+    let p = err_from_is_err_and c.from_residual-in_err-make_boxes.result
+    c.from_residual-in_err-make_boxes.ensures.1 in
     let is = ways_are c.args.boxes.now _ (c.deref.ensures.value ∙ c.in_ok-ways.ensures) in
     let texts = map said_by c.args.boxes.now in
     let reached = marks_are texts c.deref.result.now c.in_ok-reached.reached.items is

@@ -9,7 +9,8 @@ use Rattle.ux_grf.proofs.read.read_graph.Goals as goal
 
 pub make_graph-requires-clause-two : goal.make_graph-requires-clause-two
 make_graph-requires-clause-two c =
-    let len = boxes_len c.in_ok-count.count _ c.in_ok-boxes.boxes.items c.in_ok-boxes.ensures.texts in
+    let len = boxes_len c.in_ok-count.count _ c.in_ok-boxes.boxes.items c.in_ok-boxes.ensures.texts
+    in
     let two = c.in_ok-count.ensures.range.0 in
     subst (λ (bs : List BoxLine). 1 < length bs) (sym c.deref.ensures.value) (omega arith)
 
@@ -17,7 +18,8 @@ pub make_graph-requires-clause-inside : goal.make_graph-requires-clause-inside
 make_graph-requires-clause-inside c =
     subst (λ (bs : List BoxLine). IsInside (map (λ (b : BoxLine). b.targets.items) bs))
     (sym c.deref.ensures.value)
-    (boxes_inside c.in_ok-count.count _ c.in_ok-boxes.boxes.items c.in_ok-boxes.ensures.texts c.in_ok-boxes.ensures.good)
+    (boxes_inside c.in_ok-count.count _ c.in_ok-boxes.boxes.items c.in_ok-boxes.ensures.texts
+    c.in_ok-boxes.ensures.good)
 
 pub returns-clause-err : goal.returns-clause-err
 returns-clause-err c =

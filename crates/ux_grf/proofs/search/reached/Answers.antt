@@ -10,7 +10,8 @@ returns-clause-marks c =
     let visited = c.in_ok-visit.ensures.visited in
     λ u. subst (λ (ms : List Bool). (get_or ms u false ≡ true) ↔ Reached c.args.ways.now u)
     (sym (c.in_ok-done_marks.ensures ∙ ap (map is_done) c.deref.ensures.value))
-    (marks_reached c.args.ways.now c.visit.new.marks.items visited.0 visited.1 c.in_ok-visit.ensures.start u)
+    (marks_reached c.args.ways.now c.visit.new.marks.items visited.0 visited.1
+    c.in_ok-visit.ensures.start u)
 
 pub returns-clause-no_loop : goal.returns-clause-no_loop
 returns-clause-no_loop c =

@@ -19,13 +19,15 @@ pub step-requires-clause-node : goal.step-requires-clause-node
 step-requires-clause-node c =
     (top_of c.args.ways.now c.requires.inside c.loop-frame.marks.items
     (length c.loop-frame.done.items)
-    c.loop-frame.frames.items c.pop.new.self.items c.in-Some.frame c.loop-frame.invariant c.in-Some.ensures.items).0
+    c.loop-frame.frames.items c.pop.new.self.items c.in-Some.frame c.loop-frame.invariant
+    c.in-Some.ensures.items).0
 
 pub step-requires-clause-next : goal.step-requires-clause-next
 step-requires-clause-next c =
     (top_of c.args.ways.now c.requires.inside c.loop-frame.marks.items
     (length c.loop-frame.done.items)
-    c.loop-frame.frames.items c.pop.new.self.items c.in-Some.frame c.loop-frame.invariant c.in-Some.ensures.items).1
+    c.loop-frame.frames.items c.pop.new.self.items c.in-Some.frame c.loop-frame.invariant
+    c.in-Some.ensures.items).1
 
 pub step-requires-clause-children : goal.step-requires-clause-children
 step-requires-clause-children c = children_inside c.args.ways.now c.requires.inside c.in-Some.frame

@@ -17,4 +17,5 @@ returns-in-Some-clause-words c =
 
 pub returns-in-None-clause-words : goal.returns-in-None-clause-words
 returns-in-None-clause-words c =
-    words_of-last c.args.gap c.args.text.now c.range_from.result.now c.in-None.ensures c.range_from.ensures.value
+    words_of-last c.args.gap c.args.text.now c.range_from.result.now c.in-None.ensures
+    c.range_from.ensures.value

@@ -20,16 +20,19 @@ loop-end-init c =
     drop_all 0 c.new-numbers.result.keys (omega arith) in
     let texts : texts_in c.new-numbers.result ≡ [] =
     ap (λ (keys : List (Bor (List ℕ))). map (λ (s : Bor (List ℕ)). s.now) keys) empty in
-    subst (λ (pieces : List Piece). IsSoFar c.args.alphabet.now c.args.text.now 0 pieces (texts_in c.new-numbers.result))
+    subst (λ (pieces : List Piece). IsSoFar c.args.alphabet.now c.args.text.now 0 pieces
+    (texts_in c.new-numbers.result))
     (sym c.new-pieces.ensures.items)
     (subst (IsSoFar c.args.alphabet.now c.args.text.now 0 []) (sym texts)
     (so_far_start c.args.alphabet.now c.args.text.now c.utf8.text))
 
 pub returns-then-len-eq-MAX_TOKENS-clause-err : goal.returns-then-len-eq-MAX_TOKENS-clause-err
 returns-then-len-eq-MAX_TOKENS-clause-err c =
-    let same : length (tokens_from c.args.text.now 0 c.loop-end.pieces.items) ≡ length c.loop-end.pieces.items =
+    let same : length (tokens_from c.args.text.now 0 c.loop-end.pieces.items) ≡ length
+    c.loop-end.pieces.items =
     length-tokens_from c.args.text.now 0 c.loop-end.pieces.items in
-    let left : length (drop c.loop-end.end c.args.text.now) ≡ length c.args.text.now - c.loop-end.end =
+    let left : length (drop c.loop-end.end c.args.text.now) ≡ length c.args.text.now -
+    c.loop-end.end =
     length-drop c.loop-end.end c.args.text.now in
     let more = has_more c.args.alphabet.now c.args.text.now (drop c.loop-end.end c.args.text.now)
     (tokens_from c.args.text.now 0 c.loop-end.pieces.items)
@@ -60,9 +63,11 @@ loop-end-preserved c =
     c.range.ensures.value
     ∙ ap (λ (n : ℕ). take n c.range_from-rest.result.now) whole_len
     ∙ ap (λ (l : List ℕ). take len l) rest in
-    let texts : texts_in c.number_of.new.numbers ≡ with_text (texts_in c.loop-end.numbers) (take len (drop end text)) =
+    let texts : texts_in c.number_of.new.numbers ≡ with_text (texts_in c.loop-end.numbers)
+    (take len (drop end text)) =
     c.in_ok-number.ensures.texts ∙ ap (with_text (texts_in c.loop-end.numbers)) token in
-    let place : slice_get (with_text (texts_in c.loop-end.numbers) (take len (drop end text))) c.in_ok-number.number
+    let place : slice_get (with_text (texts_in c.loop-end.numbers) (take len (drop end text)))
+    c.in_ok-number.number
     ≡ Some (take len (drop end text)) =
     ap (λ (l : List (List ℕ)). slice_get l c.in_ok-number.number) (sym texts)
     ∙ c.in_ok-number.ensures.place ∙ ap Some token in
@@ -71,8 +76,10 @@ loop-end-preserved c =
     let first : IsFirstToken lines (drop end text) kind len =
     subst (λ (l : List ℕ). IsFirstToken lines l kind len) rest c.first_token-kind.ensures.is in
     let room : length c.loop-end.pieces.items < MAX_TOKENS =
-    (let few : length c.loop-end.pieces.items ≤ MAX_TOKENS = c.loop-end.invariant.few in omega arith) in
-    subst (λ (pieces : List Piece). IsSoFar lines text (end + len) pieces (texts_in c.number_of.new.numbers))
+    (let few : length c.loop-end.pieces.items ≤ MAX_TOKENS = c.loop-end.invariant.few in omega
+    arith) in
+    subst (λ (pieces : List Piece). IsSoFar lines text (end + len) pieces
+    (texts_in c.number_of.new.numbers))
     (sym c.in_ok-push.ensures.items)
     (subst (IsSoFar lines text (end + len) _) (sym texts)
     (so_far_more lines text c.utf8.text end c.loop-end.pieces.items (texts_in c.loop-end.numbers)
@@ -81,9 +88,11 @@ loop-end-preserved c =
 pub returns-clause-ok : goal.returns-clause-ok
 returns-clause-ok c =
     let all : c.loop-end.end ≡ length c.args.text.now =
-    (let within : c.loop-end.end ≤ length c.args.text.now = c.loop-end.invariant.between.0 in omega arith) in
+    (let within : c.loop-end.end ≤ length c.args.text.now = c.loop-end.invariant.between.0 in omega
+    arith) in
     let keys : length (texts_in c.loop-end.numbers) ≡ length c.loop-end.numbers.keys =
     length-map c.loop-end.numbers.keys (λ (s : Bor (List ℕ)). s.now) in
-    cut_whole c.args.alphabet.now c.args.text.now c.loop-end.end c.loop-end.pieces (texts_in c.loop-end.numbers)
+    cut_whole c.args.alphabet.now c.args.text.now c.loop-end.end c.loop-end.pieces
+    (texts_in c.loop-end.numbers)
     c.len-2.result c.loop-end.invariant all
     (c.len-2.ensures.len ∙ sym keys)

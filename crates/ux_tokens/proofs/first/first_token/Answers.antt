@@ -23,7 +23,8 @@ returns-in-Some-clause-cut c =
     let text = c.args.text.now in
     let first : text ≡ encode_utf8 c.in-Some.c ++ c.next.new.self.rest.now =
     sym c.chars.ensures.rest ∙ c.in-Some.ensures.steps.0 in
-    rw c.len_utf8.ensures.value (cut_char text c.next.new.self.rest.now c.in-Some.c c.utf8.text first)
+    rw c.len_utf8.ensures.value (cut_char text c.next.new.self.rest.now c.in-Some.c c.utf8.text
+    first)
 
 pub returns-in-Some-clause-is : goal.returns-in-Some-clause-is
 returns-in-Some-clause-is c =
@@ -44,6 +45,10 @@ returns-then-word-gt0-clause-is c =
     let len = c.word_len-word.result in
     let cut = c.word_len-word.ensures.cut in
     record {
-      is = (λ none. absurd (omega (arith, length-take-le len text cut.0, ap length none)), IsUtf8-take text len c.utf8.text cut, c.word_len-word.ensures.letters);
+      is = (
+        λ none. absurd (omega (arith, length-take-le len text cut.0, ap length none)),
+        IsUtf8-take text len c.utf8.text cut,
+        c.word_len-word.ensures.letters,
+      );
       longest = λ _. c.word_len-word.ensures.ends;
     }

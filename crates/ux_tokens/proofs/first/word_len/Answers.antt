@@ -19,4 +19,5 @@ loop-c-preserved c =
 pub returns-then-not-is_letter-clause-ends : goal.returns-then-not-is_letter-clause-ends
 returns-then-not-is_letter-clause-ends c =
     run_ends c.args.alphabet.now c.args.text.now c.utf8.text c.loop-c.len _ _ c.in-Some.c
-    c.loop-c.invariant c.in-Some.ensures.steps.0 (λ letter. let never = c.if-not-is_letter.ensures.1 letter in cc)
+    c.loop-c.invariant c.in-Some.ensures.steps.0
+    (λ letter. let never = c.if-not-is_letter.ensures.1 letter in cc)

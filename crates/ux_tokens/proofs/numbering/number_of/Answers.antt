@@ -7,7 +7,8 @@ use Rattle.ux_tokens.proofs.numbering.number_of.Goals as goal
 
 pub returns-clause-texts : goal.returns-clause-texts
 returns-clause-texts c =
-    ap (λ (keys : List (Bor (List ℕ))). map (λ (s : Bor (List ℕ)). s.now) keys) c.in_ok-number.ensures.keys
+    ap (λ (keys : List (Bor (List ℕ))). map (λ (s : Bor (List ℕ)). s.now) keys)
+    c.in_ok-number.ensures.keys
     ∙ texts-insert c.args.numbers.now.keys c.args.token
 
 pub returns-clause-place : goal.returns-clause-place

@@ -10,10 +10,12 @@ range-requires-clause-start_le_end c =
     let text = c.args.text.now in
     let pieces = c.args.pieces.now in
     let gap : c.args.first + (c.args.last + 1 - c.args.first) ≡ c.args.last + 1 = omega arith in
-    let order : start_at pieces c.args.first ≤ start_at pieces (c.args.first + (c.args.last + 1 - c.args.first)) =
+    let order : start_at pieces c.args.first ≤ start_at pieces
+    (c.args.first + (c.args.last + 1 - c.args.first)) =
     start_in_order text pieces (different_texts (tokens_from text 0 pieces)) c.requires.are
     (c.args.last + 1 - c.args.first) c.args.first (omega arith) in
-    let ends : start_at pieces (c.args.first + (c.args.last + 1 - c.args.first)) ≡ start_at pieces (c.args.last + 1) =
+    let ends : start_at pieces (c.args.first + (c.args.last + 1 - c.args.first)) ≡ start_at pieces
+    (c.args.last + 1) =
     ap (start_at pieces) gap in
     omega (arith, c.start_of-start.ensures, c.start_of-end.ensures)
 
@@ -22,7 +24,8 @@ range-requires-clause-start_boundary c some =
     let text = c.args.text.now in
     let pieces = c.args.pieces.now in
     subst (IsCharBoundary text) (sym c.start_of-start.ensures)
-    (start_boundary text pieces (different_texts (tokens_from text 0 pieces)) c.utf8.text c.requires.are
+    (start_boundary text pieces (different_texts (tokens_from text 0 pieces)) c.utf8.text
+    c.requires.are
     c.args.first (omega arith))
 
 pub range-requires-clause-end_boundary : goal.range-requires-clause-end_boundary
@@ -30,5 +33,6 @@ range-requires-clause-end_boundary c =
     let text = c.args.text.now in
     let pieces = c.args.pieces.now in
     subst (IsCharBoundary text) (sym c.start_of-end.ensures)
-    (start_boundary text pieces (different_texts (tokens_from text 0 pieces)) c.utf8.text c.requires.are
+    (start_boundary text pieces (different_texts (tokens_from text 0 pieces)) c.utf8.text
+    c.requires.are
     (c.args.last + 1) (omega arith))

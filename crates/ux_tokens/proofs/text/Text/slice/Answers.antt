@@ -22,8 +22,10 @@ returns c =
     within_pieces text pieces c.args.self.now c.args.last c.self.view_is c.requires.within in
     rw (← c.self.view_is)
     (c.part.ensures
-    ∙ slice_same c.as_str.result.now text c.as_slice.result.now pieces c.args.first (c.args.last + 1)
+    ∙ slice_same c.as_str.result.now text c.as_slice.result.now pieces c.args.first
+    (c.args.last + 1)
     c.as_str.ensures.value c.as_slice.ensures.value
     ∙ ap (λ (e : ℕ). slice_range text (start_at pieces c.args.first) (start_at pieces e)) (sym gap)
-    ∙ sym (joined-slice text pieces (different_texts (tokens_from text 0 pieces)) c.self.invariant.are
+    ∙ sym (joined-slice text pieces (different_texts (tokens_from text 0 pieces))
+    c.self.invariant.are
     (c.args.last + 1 - c.args.first) c.args.first (omega arith)))
