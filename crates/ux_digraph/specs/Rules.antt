@@ -1,0 +1,15 @@
+-- Places that follow from facts by rules with two premises.
+use Rattle.std.specs.Prelude.{ℕ, ◌<◌, List, Contains}
+use Rattle.ux_digraph.specs.declared.closing.Rule.{Rule}
+
+-- a place holds as a fact, or by a rule whose two premises hold
+pub data Derived (rules : List Rule) (facts : List ℕ) : ℕ → Type 0 where
+  fact : {x : ℕ} → Contains facts x → Derived rules facts x
+  by : (r : Rule) → Contains rules r → Derived rules facts r.first → Derived rules facts r.second →
+      Derived rules facts r.place
+
+-- the rules and the facts speak of the places below the size
+pub record AreRulesInside (size : ℕ) (rules : List Rule) (facts : List ℕ) : Type 0 where
+  pub rule : (r : Rule) → Contains rules r →
+      (r.place < size) × (r.first < size) × (r.second < size)
+  pub start : (x : ℕ) → Contains facts x → x < size
