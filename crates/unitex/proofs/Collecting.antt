@@ -1,9 +1,9 @@
 -- A list that takes in, element by element, what each element of another list leads to.
-use Rattle.std.proofs.Common.{arith, ◌≡◌, ℕ, zero, suc, ◌+◌, ◌<◌, ◌≤◌, List, [], ◌∷◌, ◌++◌, refl, sym, ◌∙◌, ap, subst, append_assoc, append-nil, ◌⊎◌, inl, inr, take, length, get_or}
+use Rattle.std.proofs.Common.{arith, ◌≡◌, ℕ, zero, suc, ◌+◌, ◌<◌, ◌≤◌, List, [], ◌∷◌, ◌++◌, refl, sym, ◌∙◌, ap, subst, ◌⊎◌, inl, inr, take, length, get_or}
 use Rattle.std.specs.Prelude.{Contains}
 use Rattle.std.proofs.lemmas.List.{take_more, take_all}
 use Rattle.std.proofs.lemmas.List.Elements.{Contains-append_left, Contains-push_cases, Contains-push}
-use Rattle.unitex.specs.Searching.{Grows, Includes}
+use Rattle.unitex.specs.Searching.{Includes}
 
 -- what some element of the list leads to
 abbrev pub Among : {S X : Type 0} → (S → X → Type 0) → List S → X → Type 0
@@ -39,81 +39,12 @@ module _ {S : Type 0} where
   pub seen_all : (all : List S) (i : ℕ) → length all ≤ i → take i all ≡ all
   seen_all all i le = take_all i all le
 
--- what was there stays
-pub grown_keeps : {X : Type 0} (Wanted : X → Type 0) (old new : List X) → Grows Wanted old new →
-    (x : X) → Contains old x → Contains new x
-grown_keeps Wanted old new g x c = subst (λ l. Contains l x) (sym g.kept.1)
-    (Contains-append_left old g.kept.0 x c)
-
 -- an element of a list, read with any other in place of a missing one
 pub item_at : {X : Type 0} (xs : List X) (i : ℕ) (d : X) → i < length xs → get_or xs i d ≡ get_or
     xs i (get_or xs i d)
 item_at [] i d lt = absurd (omega (arith, lt))
 item_at (x ∷ xs) zero d lt = refl
 item_at (x ∷ xs) (suc i) d lt = item_at xs i d (omega (arith, lt))
-
-module _ {S X : Type 0} (Leads : S → X → Type 0) where
-  pub grows_none : (old : List X) (all : List S) → Grows (Among Leads (take 0 all)) old old
-  grows_none old all = record {
-    kept = ([], sym (append-nil old));
-    only = λ x c. inl c;
-    has = λ x w. absurd (none_in w.0 w.1);
-  }
-
-  -- one more element, with all that it leads to
-  pub grows_more : (old now new : List X) (all : List S) (i : ℕ) (s : S) (Told : X → Type 0) → i <
-      length all → s ≡ get_or all i s →
-      Grows (Among Leads (take i all)) old now → Grows Told now new →
-      ((x : X) → Told x → Leads s x) → ((x : X) → Leads s x → Told x) →
-      Grows (Among Leads (take (i + 1) all)) old new
-  grows_more old now new all i s Told lt is g more sound whole = record {
-    kept = (
-      g.kept.0 ++ more.kept.0,
-      more.kept.1 ∙
-          (ap (λ l. l ++ more.kept.0) g.kept.1 ∙ append_assoc old g.kept.0 more.kept.0),
-    );
-    only = λ x c. elim (more.only x c) [
-      | inl c' ↦ elim (g.only x c') [
-        | inl o ↦ inl o
-        | inr w ↦ inr (w.0, seen_before all i s w.0 lt is w.1, w.2)
-      ]
-      | inr t ↦ inr (s, seen_itself all i s lt is, sound x t)
-    ];
-    has = λ x w. elim (seen_next all i s w.0 lt is w.1) [
-      | inl c ↦ grown_keeps Told now new more x (g.has x (w.0, c, w.2))
-      | inr e ↦ more.has x (whole x (subst (λ (t : S). Leads t x) (sym e) w.2))
-    ];
-  }
-
-  -- at the end of the list
-  pub grows_all : (old now : List X) (all : List S) (i : ℕ) (Wanted : X → Type 0) → length all ≤ i
-      → Grows (Among Leads (take i all)) old now →
-      ((x : X) → Among Leads all x → Wanted x) → ((x : X) → Wanted x → Among Leads all x) → Grows
-      Wanted old now
-  grows_all old now all i Wanted le g sound whole =
-      let h = subst (λ (l : List S). Grows (Among Leads l) old now) (seen_all all i le) g in record {
-        kept = h.kept;
-        only = λ x c. elim (h.only x c) [ inl o ↦ inl o | inr w ↦ inr (sound x w) ];
-        has = λ x w. h.has x (whole x w);
-      }
-
--- nothing was wanted
-pub grows_nothing : {X : Type 0} (Wanted : X → Type 0) (old : List X) → ((x : X) → Wanted x → ⊥) →
-    Grows Wanted old old
-grows_nothing Wanted old never = record {
-  kept = ([], sym (append-nil old));
-  only = λ x c. inl c;
-  has = λ x w. absurd (never x w);
-}
-
--- the same in other words
-pub grows_alike : {X : Type 0} (Told Wanted : X → Type 0) (old new : List X) → Grows Told old new →
-    ((x : X) → Told x → Wanted x) → ((x : X) → Wanted x → Told x) → Grows Wanted old new
-grows_alike Told Wanted old new g sound whole = record {
-  kept = g.kept;
-  only = λ x c. elim (g.only x c) [ inl o ↦ inl o | inr t ↦ inr (sound x t) ];
-  has = λ x w. g.has x (whole x w);
-}
 
 module _ {S X : Type 0} (Leads : S → X → Type 0) where
   pub includes_none : (old : List X) (all : List S) → Includes (Among Leads (take 0 all)) old old

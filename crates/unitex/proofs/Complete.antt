@@ -1,21 +1,30 @@
 -- A run whose files are all accepted ends well, unless a read or a write failed.
-use Rattle.std.proofs.Common.{arith, ◌≡◌, ℕ, ◌<◌, ◌⊎◌, inl, inr, List, Option, Some, Result, Ok, Err, length, refl, sym, ap, ◌∙◌, subst}
-use Rattle.std.specs.Prelude.{IsSomeAnd}
-use Rattle.std.proofs.lemmas.Option.{none-some, same_Some}
+use Rattle.std.proofs.Common.{arith, ◌≡◌, ◌≢◌, ℕ, zero, suc, ◌<◌, ◌≤◌, ◌⊎◌, inl, inr, List, [], ◌∷◌, ◌++◌, Option, Some, Result, Ok, Err, length, take, refl, sym, ap, ◌∙◌, subst}
+use Rattle.std.specs.Prelude.{IsSomeAnd, slice_get}
+use Rattle.std.proofs.lemmas.Option.{none-some, same_Some, slice_get_within}
+use Rattle.std.proofs.lemmas.Bool.{cases_lt}
+use Rattle.std.proofs.lemmas.List.{take_all}
 use Rattle.ux_base.specs.Outside.{Files, Rose, file_named, MAX}
 use Rattle.ux_base.specs.declared.counts.Counts.{Counts}
 use Rattle.ux_alphabet.specs.File.{alphabet_of}
 use Rattle.ux_alphabet.specs.declared.line.Line.{Line}
 use Rattle.ux_alphabet.specs.declared.error.AlphabetError.{AlphabetError}
+use Rattle.ux_grf.specs.File as grf
 use Rattle.ux_grf.specs.declared.graph.Graph.{Graph}
+use Rattle.ux_grf.specs.declared.graph.GrfBox.{GrfBox}
+use Rattle.ux_net.specs.Boxes.{Drawn}
+use Rattle.ux_net.specs.declared.error.NetError.{NetError}
+use Rattle.ux_net.specs.declared.error.NetError.TheVariants as net_error
+use Rattle.ux_net.proofs.RefusingLemmas.{compilable_not_refused}
 use Rattle.ux_tokens.specs.Tokens.{Token}
 use Rattle.ux_tokens.proofs.UniqueLemmas.{tokens_unique}
 use Rattle.unitex.specs.declared.status.Status.{Status}
 use Rattle.unitex.specs.declared.status.Status.TheVariants.{Done, Usage, Absent, Refused, ReadFault, WriteFault, TooLarge, NoMemory}
 use Rattle.unitex.specs.declared.status.Reason.{Reason}
-use Rattle.unitex.specs.declared.status.Reason.TheVariants.{NotYet, Alphabet, Grf, Text}
-use Rattle.unitex.specs.Running.{Asked, Format, IsLong, Stops, Explains, Denies, HasText, HasAlphabet, HasGraph, HasTokens, IsAccepted, IsAnswerable, HasTooManyTokens, RefusesAlphabet, RefusesGraph, RefusesText, alphabet_format, graph_format, text_format}
-use Rattle.unitex.proofs.GraphRefusals.{drawn_not_refused}
+use Rattle.unitex.specs.declared.status.Reason.TheVariants.{NotYet, Alphabet, Grf, Net, Text, TooManyGraphs}
+use Rattle.unitex.specs.Grammars.{file_of, next_name, MOST_GRAPHS}
+use Rattle.unitex.specs.Running.{Asked, AreRead, Format, IsLong, NamesFile, Stops, StopsGrammar, StopsNet, Explains, Denies, HasText, HasAlphabet, HasGrammar, HasGraph, HasTokens, IsAccepted, IsAnswerable, HasTooManyTokens, RefusesAlphabet, RefusesGraph, RefusesGraphAt, RefusesText, alphabet_format, graph_format, text_format}
+use Rattle.unitex.proofs.GraphRefusals.{drawn_not_refused, drawn_once}
 
 module _ (files : Files) (old new : Counts) (sound : Rose old.faults new.faults → ⊥) where
   -- a file whose text its reader takes is not why a run ends
@@ -61,14 +70,25 @@ alphabet_taken told name alphabet has (Alphabet error) refused =
     read_not_refused (alphabet_of has.text) alphabet error has.lines refused.1
 alphabet_taken told name alphabet has (Grf error) refused = refused
 alphabet_taken told name alphabet has (Text error) refused = refused
+alphabet_taken told name alphabet has (Net error) refused = refused
+alphabet_taken told name alphabet has TooManyGraphs refused = refused
 
-graph_taken : (told : Option Files) (name : List ℕ) (graph : Graph)
-    (has : HasGraph told name graph) (reason : Reason) → RefusesGraph has.text reason → ⊥
-graph_taken told name graph has NotYet refused = refused has.has.plain
-graph_taken told name graph has (Alphabet error) refused = refused
-graph_taken told name graph has (Grf error) refused =
-    drawn_not_refused has.text graph error has.draws refused.2 refused.1
-graph_taken told name graph has (Text error) refused = refused
+graph_taken : (told : Option Files) (name : List ℕ) (boxes : List GrfBox)
+    (has : HasGraph told name boxes) (reason : Reason) → RefusesGraph has.text reason → ⊥
+graph_taken told name boxes has NotYet refused = refused has.has.plain
+graph_taken told name boxes has (Alphabet error) refused = refused
+graph_taken told name boxes has (Grf error) refused =
+    drawn_not_refused has.text (record { boxes = boxes }) error has.draws refused.2 refused.1
+graph_taken told name boxes has (Text error) refused = refused
+graph_taken told name boxes has (Net error) refused = refused
+graph_taken told name boxes has TooManyGraphs refused = refused
+
+graph_taken_at : (n : ℕ) (told : Option Files) (name : List ℕ) (boxes : List GrfBox)
+    (has : HasGraph told name boxes) → n < MOST_GRAPHS → (reason : Reason) →
+    RefusesGraphAt n has.text reason → ⊥
+graph_taken_at n told name boxes has few reason (inl refused) =
+    graph_taken told name boxes has reason refused.1
+graph_taken_at n told name boxes has few reason (inr many) = omega (arith, few, many.0)
 
 text_taken : (told : Option Files) (name : List ℕ) (alphabet : List Line) (tokens : List Token)
     (has : HasTokens told name alphabet tokens) (reason : Reason) → RefusesText has.text reason → ⊥
@@ -76,10 +96,108 @@ text_taken told name alphabet tokens has NotYet refused = refused has.has.plain
 text_taken told name alphabet tokens has (Alphabet error) refused = refused
 text_taken told name alphabet tokens has (Grf error) refused = refused
 text_taken told name alphabet tokens has (Text error) refused = has.no_brace refused.2
+text_taken told name alphabet tokens has (Net error) refused = refused
+text_taken told name alphabet tokens has TooManyGraphs refused = refused
+
+-- one graph is drawn by a file
+same_boxes : (files : Files) (name : List ℕ) (one other : List GrfBox) →
+    HasGraph (Some files) name one → HasGraph (Some files) name other → one ≡ other
+same_boxes files name one other a b =
+    let text : b.text ≡ a.text = same_Some b.text a.text (sym b.has.bytes ∙ a.has.bytes) in
+    ap (λ (g : Graph). g.boxes)
+    (drawn_once a.text (record { boxes = one }) (record { boxes = other }) a.draws
+    (subst (λ (t : List ℕ). grf.IsGraphOf t (record { boxes = other })) text b.draws))
+
+-- the graphs that are read first are the front of the whole grammar
+module _ (files : Files) (word : List ℕ) (graphs : List Drawn)
+    (has : HasGrammar (Some files) word graphs) where
+  there : (xs : List Drawn) (k : ℕ) → k < length xs → (x : Drawn) × (slice_get xs k ≡ Some x)
+  there [] k low = absurd (omega (arith, low))
+  there (x ∷ xs) zero low = (x, refl)
+  there (x ∷ xs) (suc k) low = there xs k (omega (arith, low))
+
+  one_more : (xs : List Drawn) (k : ℕ) (x : Drawn) → slice_get xs k ≡ Some x →
+      take (suc k) xs ≡ take k xs ++ x ∷ []
+  one_more [] k x at = absurd (none-some x at)
+  one_more (y ∷ xs) zero x at = ap (λ (z : Drawn). z ∷ []) (same_Some y x at)
+  one_more (y ∷ xs) (suc k) x at = ap (λ (l : List Drawn). y ∷ l) (one_more xs k x at)
+
+  -- behind the same graphs the same graph is read
+  same_next : (others : List Drawn) (n : ℕ) (name : List ℕ) → n ≤ length graphs →
+      take n others ≡ take n graphs → next_name word (take n others) ≡ Some name →
+      (graph : Drawn) × (slice_get graphs n ≡ Some graph) × (graph.name ≡ name)
+  same_next others n name within same named =
+      elim (cases_lt n (length graphs)) [
+        | inl low ↦
+            let g = there graphs n low in (
+              g.0,
+              g.1,
+              same_Some g.0.name name
+                  (sym (has.read n g.0 g.1).named ∙ (ap (next_name word) (sym same) ∙ named)),
+            )
+        | inr past ↦
+            let all : take n graphs ≡ graphs = take_all n graphs past in
+            absurd (none-some name (sym has.whole
+            ∙ (ap (next_name word) (sym all ∙ sym same) ∙ named)))
+      ]
+
+  same_front : (others : List Drawn) → AreRead (Some files) word others → (n : ℕ) →
+      n ≤ length others → (n ≤ length graphs) × (take n others ≡ take n graphs)
+  same_front others read zero within = (omega arith, refl)
+  same_front others read (suc n) within =
+      let before = same_front others read n (omega (arith, within)) in
+      let o = there others n (omega (arith, within)) in
+      let one = read n o.0 o.1 in
+      let g = same_next others n o.0.name before.0 before.1 one.named in
+      let mine : HasGraph (Some files) (file_of word n o.0.name) g.0.boxes =
+      subst (λ (name : List ℕ). HasGraph (Some files) (file_of word n name) g.0.boxes) g.2
+      (has.read n g.0 g.1).has in
+      let boxes = same_boxes files (file_of word n o.0.name) g.0.boxes o.0.boxes mine one.has in
+      let same : o.0 ≡ g.0 =
+      ap (λ (name : List ℕ). record { name = name; boxes = o.0.boxes }) (sym g.2)
+      ∙ ap (λ (b : List GrfBox). record { name = g.0.name; boxes = b }) (sym boxes) in (
+        omega (arith, slice_get_within graphs n g.0 g.1),
+        one_more others n o.0 o.1 ∙ (ap (λ (l : List Drawn). l ++ o.0 ∷ []) before.1
+            ∙ (ap (λ (x : Drawn). take n graphs ++ x ∷ []) same ∙ sym (one_more graphs n g.0 g.1))),
+      )
+
+  -- so a whole grammar is the only one
+  same_grammar : (others : List Drawn) → HasGrammar (Some files) word others → others ≡ graphs
+  same_grammar others other =
+      let front = same_front others other.read (length others) (omega arith) in
+      let mine : others ≡ take (length others) graphs =
+      sym (take_all (length others) others (omega arith)) ∙ front.1 in
+      elim (cases_lt (length others) (length graphs)) [
+        | inl low ↦
+            let g = there graphs (length others) low in
+            absurd (none-some g.0.name (sym other.whole ∙ (ap (next_name word) mine
+            ∙ (has.read (length others) g.0 g.1).named)))
+        | inr past ↦ mine ∙ take_all (length others) graphs past
+      ]
+
+  module _ (old new : Counts) (sound : Rose old.faults new.faults → ⊥) where
+    -- no file of it stops the reading
+    grammar_memory : (status : Status) → StopsGrammar (Some files) word old new status →
+        status ≡ NoMemory
+    grammar_memory status stops =
+        let n = length stops.graphs in
+        let front = same_front stops.graphs stops.read n (omega arith) in
+        let whole : take n stops.graphs ≡ stops.graphs = take_all n stops.graphs (omega arith) in
+        let g = same_next stops.graphs n stops.name front.0 front.1
+        (ap (next_name word) whole ∙ stops.next) in
+        let mine : HasGraph (Some files) (file_of word n stops.name) g.0.boxes =
+        subst (λ (name : List ℕ). HasGraph (Some files) (file_of word n name) g.0.boxes) g.2
+        (has.read n g.0 g.1).has in
+        let few : n < MOST_GRAPHS =
+        (let low = slice_get_within graphs n g.0 g.1 in
+        let most = has.few in omega (arith, low, most)) in
+        only_memory files old new sound (graph_format n) (file_of word n stops.name) mine.text
+        mine.has (graph_taken_at n (Some files) (file_of word n stops.name) g.0.boxes mine few)
+        (λ (none : ⊥). none) status stops.stops
 
 module _ (asked : Asked) (files : Files)
-    (alphabet : List Line) (graph : Graph) (tokens : List Token)
-    (accepted : IsAccepted asked (Some files) alphabet graph tokens)
+    (alphabet : List Line) (graphs : List Drawn) (tokens : List Token)
+    (accepted : IsAccepted asked (Some files) alphabet graphs tokens)
     (old new : Counts) (sound : Rose old.faults new.faults → ⊥) where
   -- the alphabet is the only one
   same_alphabet : (other : List Line) → HasAlphabet (Some files) asked.alphabet other →
@@ -105,6 +223,33 @@ module _ (asked : Asked) (files : Files)
       only_memory files old new sound (text_format alphabet) asked.text has.text has.has
       (text_taken (Some files) asked.text alphabet tokens has) no_more status stops
 
+  placed : (error : NetError) (file : List ℕ) → NamesFile asked.graph error file →
+      error ≢ net_error.NoMemory
+  placed net_error.NoMemory file names e = names
+  placed (net_error.MissingGraph name) file names e = names
+  placed (net_error.NotYet name node) file names e = cc
+  placed (net_error.EmptyLoop name node) file names e = cc
+  placed (net_error.LeftRecursion name node) file names e = cc
+
+  -- nor is the grammar refused
+  net_memory : (status : Status) → StopsNet asked.graph alphabet graphs status →
+      status ≡ NoMemory
+  net_memory (Refused file (Net error)) refused =
+      absurd (placed error file refused.1
+      (compilable_not_refused alphabet graphs error accepted.compilable refused.0))
+  net_memory NoMemory refused = refl
+  net_memory Done refused = absurd refused
+  net_memory Usage refused = absurd refused
+  net_memory (Absent name) refused = absurd refused
+  net_memory (Refused file NotYet) refused = absurd refused
+  net_memory (Refused file (Alphabet error)) refused = absurd refused
+  net_memory (Refused file (Grf error)) refused = absurd refused
+  net_memory (Refused file (Text error)) refused = absurd refused
+  net_memory (Refused file TooManyGraphs) refused = absurd refused
+  net_memory (ReadFault name) refused = absurd refused
+  net_memory WriteFault refused = absurd refused
+  net_memory (TooLarge file) refused = absurd refused
+
   -- a search whose files are accepted ends early for want of memory alone
   only_for_memory : (status : Status) → Explains asked (Some files) old new status →
       status ≡ NoMemory
@@ -113,10 +258,14 @@ module _ (asked : Asked) (files : Files)
       only_memory files old new sound alphabet_format asked.alphabet has.text has.has
       (alphabet_taken (Some files) asked.alphabet alphabet has) (λ (none : ⊥). none) status stops
   only_for_memory status (inr (other, has_other, inl stops)) =
-      let has = accepted.has_graph in
-      only_memory files old new sound graph_format asked.graph has.text has.has
-      (graph_taken (Some files) asked.graph graph has) (λ (none : ⊥). none) status stops
-  only_for_memory status (inr (other, has_other, inr (drawn, has_drawn, stops))) =
+      grammar_memory files asked.graph graphs accepted.has_grammar old new sound status stops
+  only_for_memory status (inr (other, has_other, inr (others, read, inl refused))) =
+      net_memory status
+      (subst (λ (a : List Line). StopsNet asked.graph a graphs status)
+      (sym (same_alphabet other has_other))
+      (subst (λ (l : List Drawn). StopsNet asked.graph other l status)
+      (same_grammar files asked.graph graphs accepted.has_grammar others read) refused))
+  only_for_memory status (inr (other, has_other, inr (others, read, inr (compilable, stops)))) =
       text_memory status
       (subst (λ (a : List Line). Stops (text_format a) asked.text (Some files) old new status)
       (sym (same_alphabet other has_other)) stops)
@@ -129,7 +278,7 @@ module _ (request : Option Asked) (told : Option Files) (ready : IsAnswerable re
       let here : Denies (Some ready.asked) (Some ready.files) old new status =
       subst (λ (files : Option Files). Denies (Some ready.asked) files old new status) ready.tells
       (subst (λ (r : Option Asked). Denies r told old new status) ready.is denies) in
-      only_for_memory ready.asked ready.files ready.alphabet ready.graph ready.tokens
+      only_for_memory ready.asked ready.files ready.alphabet ready.graphs ready.tokens
       ready.accepted old new sound status here
 
   -- where nothing is answered, memory ran out, or the line that says why could not be written

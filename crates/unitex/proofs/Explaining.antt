@@ -1,12 +1,15 @@
 -- What stops a search at its graph or its text explains it from the start on.
-use Rattle.std.proofs.Common.{arith, ◌≡◌, ℕ, ◌≤◌, inl, inr, List, Option, Some, None, refl, sym, subst, ◌⊎◌}
+use Rattle.std.proofs.Common.{arith, ◌≡◌, ℕ, ◌≤◌, inl, inr, List, Option, Some, None, refl, sym, subst, ◌⊎◌, length}
 use Rattle.ux_base.specs.Outside.{Files, Rose}
 use Rattle.ux_base.specs.declared.counts.Counts.{Counts}
 use Rattle.ux_alphabet.specs.declared.line.Line.{Line}
-use Rattle.ux_grf.specs.declared.graph.Graph.{Graph}
+use Rattle.ux_net.specs.Boxes.{Drawn}
+use Rattle.ux_net.specs.Refusing.{IsCompilable}
 use Rattle.unitex.specs.declared.status.Status.{Status}
 use Rattle.unitex.specs.declared.status.Status.TheVariants.{Done, Usage, Absent, Refused, ReadFault, WriteFault, TooLarge, NoMemory}
-use Rattle.unitex.specs.Running.{Asked, Format, IsLong, Stops, Explains, Denies, EndsBy, NoneFell, HasAlphabet, HasGraph, alphabet_format, graph_format, text_format}
+use Rattle.unitex.specs.Grammars.{file_of}
+use Rattle.unitex.specs.Reading.{StopsBefore}
+use Rattle.unitex.specs.Running.{Asked, Format, IsLong, Stops, StopsGrammar, StopsNet, Explains, Denies, EndsBy, NoneFell, HasAlphabet, HasGrammar, alphabet_format, graph_format, text_format}
 
 -- a count that rose of late rose in all
 rose_earlier : (old mid new : ℕ) → old ≤ mid → Rose mid new → Rose old new
@@ -41,28 +44,50 @@ stops_earlier format name told old mid new (TooLarge file) none stops =
     (stops.0, is_long_earlier format name told old mid new none stops.1)
 stops_earlier format name told old mid new NoMemory none stops = stops
 
+-- and so does what stops the reading of a grammar
+pub grammar_stops_earlier : (told : Option Files) (word : List ℕ) (old mid new : Counts)
+    (status : Status) → NoneFell old mid → StopsGrammar told word mid new status →
+    StopsGrammar told word old new status
+grammar_stops_earlier told word old mid new status none stops = record {
+  graphs = stops.graphs;
+  read = stops.read;
+  few = stops.few;
+  name = stops.name;
+  next = stops.next;
+  stops = stops_earlier (graph_format (length stops.graphs))
+      (file_of word (length stops.graphs) stops.name) told old mid new status none stops.stops;
+}
+
 module _ (asked : Asked) (told now : Option Files) (kept : now ≡ told)
     (old mid new : Counts) (none : NoneFell old mid)
     (alphabet : List Line) (has : HasAlphabet told asked.alphabet alphabet) where
-  -- the graph stops the search
-  pub explained_by_graph : (status : Status) → Stops graph_format asked.graph now mid new status →
-      Explains asked told old new status
-  explained_by_graph status stops =
-      let here : Stops graph_format asked.graph told mid new status =
-      subst (λ (t : Option Files). Stops graph_format asked.graph t mid new status) kept stops in
-      let from_start = stops_earlier graph_format asked.graph told old mid new status none here in
-      inr (alphabet, has, inl from_start)
+  -- a graph or the grammar stops the search
+  pub explained_by_net : (status : Status) →
+      StopsBefore now asked.graph alphabet mid new status → Explains asked told old new status
+  explained_by_net status (inl stops) =
+      let here : StopsGrammar told asked.graph mid new status =
+      subst (λ (t : Option Files). StopsGrammar t asked.graph mid new status) kept stops in
+      inr (
+        alphabet,
+        has,
+        inl (grammar_stops_earlier told asked.graph old mid new status none here),
+      )
+  explained_by_net status (inr (graphs, read, refused)) =
+      let here : HasGrammar told asked.graph graphs =
+      subst (λ (t : Option Files). HasGrammar t asked.graph graphs) kept read in
+      inr (alphabet, has, inr (graphs, here, inl refused))
 
   -- the text stops the search
-  pub explained_by_text : (graph : Graph) → HasGraph told asked.graph graph → (status : Status) →
+  pub explained_by_text : (graphs : List Drawn) → HasGrammar told asked.graph graphs →
+      IsCompilable alphabet graphs → (status : Status) →
       Stops (text_format alphabet) asked.text now mid new status →
       Explains asked told old new status
-  explained_by_text graph drawn status stops =
+  explained_by_text graphs read compilable status stops =
       let format = text_format alphabet in
       let here : Stops format asked.text told mid new status =
       subst (λ (t : Option Files). Stops format asked.text t mid new status) kept stops in
       let from_start = stops_earlier format asked.text told old mid new status none here in
-      inr (alphabet, has, inr (graph, drawn, from_start))
+      inr (alphabet, has, inr (graphs, read, inr (compilable, from_start)))
 
 done_differs : Done ≡ Usage → ⊥
 done_differs same = cc
@@ -71,14 +96,20 @@ fault_differs : WriteFault ≡ Usage → ⊥
 fault_differs same = cc
 
 module _ (told : Option Files) (old new : Counts) where
-  -- a status by which no file stops a search explains none
+  -- a status by which nothing stops a search explains none
   explains_none : (asked : Asked) (status : Status) →
       ((format : Format) (name : List ℕ) → Stops format name told old new status → ⊥) →
+      ((alphabet : List Line) (graphs : List Drawn) →
+      StopsNet asked.graph alphabet graphs status → ⊥) →
       Explains asked told old new status → ⊥
-  explains_none asked status none (inl stops) = none alphabet_format asked.alphabet stops
-  explains_none asked status none (inr (alphabet, has, inl stops)) = none graph_format asked.graph
-      stops
-  explains_none asked status none (inr (alphabet, has, inr (graph, drawn, stops))) =
+  explains_none asked status none never (inl stops) = none alphabet_format asked.alphabet stops
+  explains_none asked status none never (inr (alphabet, has, inl stops)) =
+      none (graph_format (length stops.graphs))
+      (file_of asked.graph (length stops.graphs) stops.name) stops.stops
+  explains_none asked status none never (inr (alphabet, has, inr (graphs, read, inl refused))) =
+      never alphabet graphs refused
+  explains_none asked status none never
+      (inr (alphabet, has, inr (graphs, read, inr (compilable, stops)))) =
       none (text_format alphabet) asked.text stops
 
   -- why words are denied is why the run ends
@@ -93,14 +124,17 @@ module _ (told : Option Files) (old new : Counts) where
   denied_ends None faults (TooLarge file) denies = denies
   denied_ends None faults NoMemory denies = denies
   denied_ends (Some asked) faults Done denies =
-      absurd (explains_none asked Done (λ format name stops. stops) denies)
+      absurd (explains_none asked Done (λ format name stops. stops)
+      (λ alphabet graphs stops. stops) denies)
   denied_ends (Some asked) faults Usage denies =
-      absurd (explains_none asked Usage (λ format name stops. stops) denies)
+      absurd (explains_none asked Usage (λ format name stops. stops)
+      (λ alphabet graphs stops. stops) denies)
   denied_ends (Some asked) faults (Absent name) denies = denies
   denied_ends (Some asked) faults (Refused file reason) denies = denies
   denied_ends (Some asked) faults (ReadFault name) denies = denies
   denied_ends (Some asked) faults WriteFault denies =
-      absurd (explains_none asked WriteFault (λ format name stops. stops) denies)
+      absurd (explains_none asked WriteFault (λ format name stops. stops)
+      (λ alphabet graphs stops. stops) denies)
   denied_ends (Some asked) faults (TooLarge file) denies = denies
   denied_ends (Some asked) faults NoMemory denies = denies
 

@@ -1,13 +1,20 @@
--- A text that draws a graph is not refused.
-use Rattle.std.proofs.Common.{◌≡◌, ◌≢◌, ℕ, ◌<◌, true, List, [], ◌∷◌, Option, Some, None, refl, sym, ap, ◌∙◌, subst}
-use Rattle.std.proofs.lemmas.Bool.{false≢true, both_ways}
+-- A text that draws a graph draws no other, and is not refused.
+use Rattle.std.proofs.Common.{arith, ◌≡◌, ◌≢◌, ℕ, suc, ◌<◌, ◌↔◌, Bool, true, false, length, get_or, List, [], ◌∷◌, Option, Some, None, refl, sym, ap, ◌∙◌, subst}
+use Rattle.std.proofs.lemmas.Bool.{false≢true, both_ways, lt-ltb}
 use Rattle.std.proofs.lemmas.Option.{none-some, same_Some}
 use Rattle.ux_grf.specs.declared.error.GrfError.{GrfError}
-use Rattle.ux_grf.specs.declared.error.GrfError.TheVariants.{NoHeader, BadCount, BadBoxLine, BadTarget, NotYet, NoMemory}
+use Rattle.ux_grf.specs.declared.error.GrfError.TheVariants.{NoHeader, BadCount, BadBoxLine, BadTarget, BadContent, NoMemory}
 use Rattle.ux_grf.specs.declared.graph.Graph.{Graph}
 use Rattle.ux_grf.specs.BoxLine.{BoxText}
 use Rattle.ux_grf.specs.Boxes.{box_at, texts_of, is_good, HasBadTarget}
-use Rattle.ux_grf.specs.File.{IsGraphOf, Refuses, HasBoxLines, IsBeyond, count_at}
+use Rattle.ux_grf.specs.Content.{content_of, is_read, IsBoxOf}
+use Rattle.ux_grf.specs.File.{IsGraphOf, Refuses, HasBoxLines, Draws, IsFirstBad, count_at, text_at, ways_in}
+use Rattle.ux_grf.specs.Reached.{Reached}
+use Rattle.ux_grf.specs.WellFormed.{box_of_graph}
+use Rattle.ux_grf.specs.declared.graph.GrfBox.{GrfBox}
+use Rattle.ux_grf.specs.declared.item.Item.{Item}
+use Rattle.ux_grf.specs.declared.item.Piece.{Piece}
+use Rattle.ux_grf.proofs.UniqueLemmas.{IsContent-once, IsContent-IsFault}
 
 -- the lines behind a first line
 abbrev tail_of : List (List ℕ) → List (List ℕ)
@@ -60,9 +67,82 @@ drawn_not_refused text graph (BadTarget node) is other refused =
     subst (λ (ls : List (List ℕ)). HasBadTarget is.0 (box_at ls node)) same_lines
     (subst (λ (n : ℕ). HasBadTarget n (box_at refused.1 node)) same_count refused.3.2) in
     no_target is.0 (box_at is.1 node) (is.3 node inside) bad
-drawn_not_refused text graph NotYet is other refused =
+drawn_not_refused text graph (BadContent node place) is other refused =
     let same_count = count_same text is.0 refused.0 is.1 refused.1 is.2 refused.2 in
     let same_lines = lines_same text is.0 refused.0 is.1 refused.1 is.2 refused.2 in
-    is.4.within (subst (λ (ls : List (List ℕ)). IsBeyond (texts_of is.0 ls)) same_lines
-    (subst (λ (n : ℕ). IsBeyond (texts_of n refused.1)) same_count refused.4))
+    let texts = texts_of is.0 is.1 in
+    let first : IsFirstBad texts node place =
+    subst (λ (ls : List (List ℕ)). IsFirstBad (texts_of is.0 ls) node place) same_lines
+    (subst (λ (n : ℕ). IsFirstBad (texts_of n refused.1) node place) same_count refused.4) in
+    let read = (is.4.reached node first.box.inside).1 first.box.reached in
+    let inner = lt-ltb 1 node first.box.inner in
+    let content = (is.4.boxes node first.box.inside).read (rw read inner) in
+    IsContent-IsFault (content_of (text_at texts node)) first.bad.left
+    (record { lines = (box_of_graph graph node).lines; output = (box_of_graph graph node).output })
+    content first.bad.fault
 drawn_not_refused text graph NoMemory is other refused = other refl
+
+-- two tests of one thing are the same
+same_test : (b c : Bool) (P : Type 0) → (b ≡ true) ↔ P → (c ≡ true) ↔ P → b ≡ c
+same_test true true P f g = refl
+same_test true false P f g = let c = g.1 (f.0 refl) in cc
+same_test false true P f g = let b = f.1 (g.0 refl) in cc
+same_test false false P f g = refl
+
+made_of : (r s : Bool) (l m : List (List Item)) (o p : List Piece) (t u : List ℕ) → r ≡ s → l ≡ m →
+    o ≡ p → t ≡ u →
+    ◌≡◌ {A = GrfBox} (record { reached = r; lines = l; output = o; targets = t })
+    (record { reached = s; lines = m; output = p; targets = u })
+made_of r s l m o p t u e f g h =
+    ap (λ (x : Bool). record { reached = x; lines = l; output = o; targets = t }) e
+    ∙ (ap (λ (x : List (List Item)). record { reached = s; lines = x; output = o; targets = t }) f
+    ∙ (ap (λ (x : List Piece). record { reached = s; lines = m; output = x; targets = t }) g
+    ∙ ap (λ (x : List ℕ). record { reached = s; lines = m; output = p; targets = x }) h))
+
+-- a text draws one box
+box_once : (text : BoxText) (node : ℕ) (a b : GrfBox) → a.reached ≡ b.reached →
+    IsBoxOf text node a → IsBoxOf text node b → a ≡ b
+box_once text node a b same one other = by (is_read node a.reached) refl
+  where
+    by : (r : Bool) → is_read node a.reached ≡ r → a ≡ b
+    by true read =
+        let also = ap (is_read node) (sym same) ∙ read in
+        let contents = IsContent-once (content_of text)
+        (record { lines = a.lines; output = a.output })
+        (record { lines = b.lines; output = b.output }) (one.read read) (other.read also) in
+        made_of a.reached b.reached a.lines b.lines a.output b.output a.targets b.targets same
+        contents.0 contents.1 (one.targets ∙ sym other.targets)
+    by false bare =
+        let also = ap (is_read node) (sym same) ∙ bare in
+        made_of a.reached b.reached a.lines b.lines a.output b.output a.targets b.targets same
+        ((one.bare bare).0 ∙ sym (other.bare also).0) ((one.bare bare).1 ∙ sym (other.bare also).1)
+        (one.targets ∙ sym other.targets)
+
+-- lists that are the same at each place are the same
+same_boxes : (d : GrfBox) (xs ys : List GrfBox) → length xs ≡ length ys →
+    ((n : ℕ) → n < length xs → get_or xs n d ≡ get_or ys n d) → xs ≡ ys
+same_boxes d [] [] len each = refl
+same_boxes d [] (y ∷ ys) len each = absurd (omega (arith, len))
+same_boxes d (x ∷ xs) [] len each = absurd (omega (arith, len))
+same_boxes d (x ∷ xs) (y ∷ ys) len each =
+    ap (λ (z : GrfBox). z ∷ xs) (each 0 (omega arith))
+    ∙ ap (λ (l : List GrfBox). y ∷ l)
+    (same_boxes d xs ys (omega (arith, len)) (λ n low. each (suc n) (omega (arith, low))))
+
+-- a text draws one graph
+pub drawn_once : (text : List ℕ) (one other : Graph) → IsGraphOf text one →
+    IsGraphOf text other → one ≡ other
+drawn_once text one other is also =
+    let same_count = count_same text is.0 also.0 is.1 also.1 is.2 also.2 in
+    let same_lines = lines_same text is.0 also.0 is.1 also.1 is.2 also.2 in
+    let texts = texts_of is.0 is.1 in
+    let draws : Draws texts other =
+    subst (λ (ls : List (List ℕ)). Draws (texts_of is.0 ls) other) same_lines
+    (subst (λ (n : ℕ). Draws (texts_of n also.1) other) same_count also.4) in
+    ap (λ (boxes : List GrfBox). record { boxes = boxes })
+    (same_boxes _ one.boxes other.boxes (is.4.len ∙ sym draws.len) (λ n low.
+    let inside : n < length texts = (let len = is.4.len in omega (arith, len, low)) in
+    box_once (text_at texts n) n (box_of_graph one n) (box_of_graph other n)
+    (same_test (box_of_graph one n).reached (box_of_graph other n).reached
+    (Reached (ways_in texts) n) (is.4.reached n inside) (draws.reached n inside))
+    (is.4.boxes n inside) (draws.boxes n inside)))

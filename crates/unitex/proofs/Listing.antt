@@ -1,27 +1,19 @@
 -- How the spans of a text are listed, start by start.
-use Rattle.std.proofs.Common.{arith, ◌≡◌, ℕ, zero, suc, ◌+◌, ◌-◌, ◌<◌, List, [], ◌∷◌, ◌++◌, refl, sym, ◌∙◌, ap, subst, ◌⊎◌, inl, inr, map, length, get_or}
+use Rattle.std.proofs.Common.{arith, ◌≡◌, ℕ, zero, suc, ◌+◌, ◌-◌, ◌<◌, List, [], ◌∷◌, ◌++◌, refl, sym, ◌∙◌, ap, subst, ◌⊎◌, inl, inr, ◌↔◌, map, length, get_or}
 use Rattle.std.specs.Prelude.{Contains, Some, slice_get}
 use Rattle.std.specs.List.Sorted.{IsStrictlyIncreasing}
 use Rattle.std.proofs.lemmas.Bool.Decides.{leb_tells}
 use Rattle.std.proofs.lemmas.Option.{same_Some, none-some, slice_get_within}
 use Rattle.std.proofs.lemmas.List.Elements.{Contains-append_left, Contains-append_right, Contains-append_cases}
 use Rattle.ux_alphabet.specs.declared.line.Line.{Line}
-use Rattle.ux_tokens.specs.declared.kind.Kind.TheVariants as kind
 use Rattle.ux_tokens.specs.Tokens.{Token}
-use Rattle.unitex.specs.declared.places.Place.{Place}
-use Rattle.unitex.specs.declared.searching.Configuration.{Configuration}
+use Rattle.ux_net.specs.Words.{Grammar}
+use Rattle.ux_outputs.specs.declared.event.Event.{Event}
+use Rattle.ux_walk.specs.Derivations.{Der}
 use Rattle.unitex.specs.declared.searching.Span.{Span}
-use Rattle.unitex.specs.declared.symbol.Symbol.{Symbol}
-use Rattle.unitex.specs.declared.symbol.Symbol.TheVariants.{Fold, Space}
-use Rattle.unitex.specs.Words.{Run, stop, along}
-use Rattle.unitex.specs.Matches.{Event, Seq, done, takes, FitsToken, kind_of}
-use Rattle.unitex.specs.Places.{place_graph, IsReached}
-use Rattle.unitex.specs.Spans.{IsSpan, IsStart}
-use Rattle.unitex.specs.Searching.{AreFirstEntries, AreReached, EndsAt, IsFirstEntry, ListsSpans, ListsUpTo, MayNotBegin, Precedes, span_to}
-use Rattle.unitex.proofs.Reaching.{nothing_taken, reached_then, reached_start, seq_split}
-use Rattle.unitex.proofs.Rendering.{skip-start}
-
--- ---- lists of spans in order
+use Rattle.unitex.specs.Hits.{IsStart}
+use Rattle.unitex.specs.Spans.{IsSpan}
+use Rattle.unitex.specs.Searching.{EndsAt, ListsSpans, ListsUpTo, Precedes, span_to}
 
 first_append : (xs ys : List Span) (k : ℕ) (a : Span) → slice_get (xs ++ ys) k ≡ Some a →
     ((k < length xs) × (slice_get xs k ≡ Some a)) ⊎
@@ -168,124 +160,45 @@ module _ (Is : Span → Type 0) where
     ordered = l.ordered;
   }
 
--- ---- spans and what is reached
+-- what was found from a start is all that is derived from it
+abbrev pub AreDerived : List Line → List Token → Grammar → ℕ → List (ℕ × List Event) → Type 0
+AreDerived alphabet tokens grammar start found =
+    (end : ℕ) (events : List Event) →
+    Contains found (end, events) ↔ Der alphabet tokens grammar 1 start end events
 
-module _ (alphabet : List Line) (tokens : List Token) (places : List Place) where
-  pub span_within : (span : Span) → IsSpan alphabet tokens (place_graph places) span → span.first <
-      length tokens
+module _ (alphabet : List Line) (tokens : List Token) (grammar : Grammar) where
+  pub span_within : (span : Span) → IsSpan alphabet tokens grammar span → span.first < length tokens
   span_within span s = slice_get_within tokens span.first s.starts.token s.starts.at_start
 
-  -- where a run ends behind a start, a span does
-  pub span_of_end : (start e : ℕ) (all : List Configuration) → IsStart tokens start → AreReached
-      alphabet tokens places start all →
-      EndsAt places all start e → (start < e) × IsSpan alphabet tokens (place_graph places)
-      (span_to start e)
-  span_of_end start e all starts are w =
-      let c = w.0 in
-      let r = (are c).0 w.1 in
-      let lt : start < e = w.2.1 in
-      let back : c.position ≡ (e - 1) + 1 = omega (arith, w.2.0, lt) in (
+  -- where no search begins, no span does
+  pub none_begins : (start : ℕ) → (IsStart tokens start → ⊥) → (span : Span) →
+      span.first ≡ start → IsSpan alphabet tokens grammar span → ⊥
+  none_begins start none span here s = none (subst (IsStart tokens) here s.starts)
+
+  -- where a derivation ends behind a start, a span does
+  pub span_of_end : (start e : ℕ) (found : List (ℕ × List Event)) → IsStart tokens start →
+      AreDerived alphabet tokens grammar start found → EndsAt found start e →
+      (start < e) × IsSpan alphabet tokens grammar (span_to start e)
+  span_of_end start e found starts are (d, inside, ends) =
+      let lt : start < e = ends.0 in
+      let back : e ≡ (e - 1) + 1 = omega (arith, lt) in
+      let derived = (are d.0 d.1).0 inside in (
         lt,
         record {
           starts = starts;
-          some = omega arith;
-          events = r.events;
-          derived = record {
-            word = r.word;
-            of_graph = record { last = c.place; ends = w.2.2; run = r.run };
-            seq = subst (λ n. Seq alphabet tokens r.word start n r.events) back r.seq;
-          };
+          some = omega (arith, lt);
+          events = d.1;
+          derived = subst (λ n. Der alphabet tokens grammar 1 start n d.1) (ends.1 ∙ back) derived;
         },
       )
 
   -- and the other way round
-  pub end_of_span : (start : ℕ) (all : List Configuration) → AreReached alphabet tokens places
-      start all →
-      (span : Span) → span.first ≡ start → IsSpan alphabet tokens (place_graph places) span →
-      EndsAt places all start (span.last + 1)
-  end_of_span start all are span here s =
-      let c : Configuration = record { place = s.derived.of_graph.last; position = span.last + 1 }
-      in (
-        c,
-        (are c).1 (record {
-          word = s.derived.word;
-          run = s.derived.of_graph.run;
-          events = s.events;
-          seq = subst (λ n. Seq alphabet tokens s.derived.word n (span.last + 1) s.events) here
-              s.derived.seq;
-        }),
-        (refl, omega (arith, here, s.some), s.derived.of_graph.ends),
-      )
-
-  -- the entry with which a word begins that takes a token at a start
-  begins : {a b : ℕ} {word : List Symbol} → Run (place_graph places) a b word → (start e : ℕ)
-      (events : List Event) → Seq alphabet tokens word start e events →
-      start < e → IsStart tokens start → IsReached alphabet [] (place_graph places) 0
-      (record { place = a; position = 0 }) →
-      (entry : List ℕ) × (token : Token) × IsFirstEntry alphabet places entry ×
-      (slice_get tokens start ≡ Some token) × FitsToken alphabet entry token
-  begins stop start e events s lt starts r = absurd
-      (omega (arith, nothing_taken alphabet tokens s, lt))
-  begins (along {word = word} step is run) start e events s lt starts r =
-      by step.symbols refl (seq_split alphabet tokens step.symbols word start e events s)
-      (λ later l r'. begins run start e later l lt starts r')
-    where
-      no_space : (rest : List Symbol) {k : ℕ} {first : List Event} → Seq alphabet tokens
-          (Space ∷ rest) start k first → ⊥
-      no_space rest (takes t s') = starts.no_space
-          (same_Some starts.token.kind kind.Space (sym (ap kind_of starts.at_start) ∙ t.0))
-
-      fitting : (entry : List ℕ) (rest : List Symbol) {k : ℕ} {first : List Event} → step.symbols ≡
-          Fold entry ∷ rest → Seq alphabet tokens (Fold entry ∷ rest) start k first →
-          (entry : List ℕ) × (token : Token) × IsFirstEntry alphabet places entry ×
-          (slice_get tokens start ≡ Some token) × FitsToken alphabet entry token
-      fitting entry rest one (takes t s') = (
-        entry,
-        t.0,
-        record {
-          place = step.from;
-          reached = r;
-          opens =
-              (step.to, is.leads, (step.symbols, is.line, (rest, one)));
-        },
-        subst (λ n. slice_get tokens n ≡ Some t.0) (skip-start alphabet tokens start starts) t.1,
-        t.2,
-      )
-
-      by : (symbols : List Symbol) → step.symbols ≡ symbols →
-          (k : ℕ) × (first later : List Event) × Seq alphabet tokens step.symbols start k first ×
-          Seq alphabet tokens word k e later →
-          ((later : List Event) → Seq alphabet tokens word start e later → IsReached alphabet []
-          (place_graph places) 0 (record { place = step.to; position = 0 }) →
-          (entry : List ℕ) × (token : Token) × IsFirstEntry alphabet places entry ×
-          (slice_get tokens start ≡ Some token) × FitsToken alphabet entry token) →
-          (entry : List ℕ) × (token : Token) × IsFirstEntry alphabet places entry ×
-          (slice_get tokens start ≡ Some token) × FitsToken alphabet entry token
-      by [] none h go =
-          let none_taken : start ≡ h.0 = nothing_taken alphabet tokens
-          (subst (λ v. Seq alphabet tokens v start h.0 h.1) none h.3) in
-          go h.2 (subst (λ n. Seq alphabet tokens word n e h.2) (sym none_taken) h.4)
-          (reached_then alphabet [] (place_graph places) 0
-          (record { place = step.from; position = 0 })
-          (record { place = step.to; position = 0 }) r
-          (record {
-            symbols = step.symbols;
-            step = is;
-            events = [];
-            seq = subst
-                (λ v. Seq alphabet [] v 0 0 []) (sym none) done;
-          }))
-      by (Space ∷ rest) one h go = absurd (no_space rest
-          (subst (λ v. Seq alphabet tokens v start h.0 h.1) one h.3))
-      by (Fold entry ∷ rest) one h go = fitting entry rest one
-          (subst (λ v. Seq alphabet tokens v start h.0 h.1) one h.3)
-
-  -- where no entry fits the token, no span begins
-  pub none_begins : (entries : List (List ℕ)) (start : ℕ) → AreFirstEntries alphabet places entries
-      → MayNotBegin alphabet entries tokens start →
-      (span : Span) → span.first ≡ start → IsSpan alphabet tokens (place_graph places) span → ⊥
-  none_begins entries start are none span here s =
-      let b = begins s.derived.of_graph.run span.first (span.last + 1) s.events s.derived.seq
-      (omega (arith, s.some)) s.starts
-      (reached_start alphabet [] (place_graph places) 0) in
-      none b.0 b.1 (are b.0 b.2) (subst (λ n. slice_get tokens n ≡ Some b.1) here b.3) b.4
+  pub end_of_span : (start : ℕ) (found : List (ℕ × List Event)) →
+      AreDerived alphabet tokens grammar start found → (span : Span) → span.first ≡ start →
+      IsSpan alphabet tokens grammar span → EndsAt found start (span.last + 1)
+  end_of_span start found are span here s = (
+    (span.last + 1, s.events),
+    (are (span.last + 1) s.events).1
+        (subst (λ n. Der alphabet tokens grammar 1 n (span.last + 1) s.events) here s.derived),
+    (omega (arith, here, s.some), refl),
+  )

@@ -1,11 +1,8 @@
-pub mod Boxes
+pub mod Grammars
 pub mod Hits
 pub mod Index
-pub mod Matches
-pub mod Places
+pub mod Reading
 pub mod Running
 pub mod Searching
 pub mod Spans
-pub mod Splitting
 pub mod Statuses
-pub mod Words

@@ -1,5 +1,5 @@
 -- What a run has to answer, and why it may end otherwise.
-use Rattle.std.specs.Prelude.{◌≡◌, ◌≢◌, ◌⊎◌, ⊤, ℕ, ◌<◌, ◌≤◌, ◌&&◌, ◌==◌, nat_eq, Bool, false, not, if◌then◌else◌, List, [], ◌∷◌, Contains, length, codes, Option, Some, None, IfSome, IsSome, IsSomeAnd, Ok, Err}
+use Rattle.std.specs.Prelude.{◌≡◌, ◌≢◌, ◌⊎◌, ⊤, ℕ, ◌<◌, ◌≤◌, ◌&&◌, ◌==◌, nat_eq, Bool, false, not, if◌then◌else◌, List, [], ◌∷◌, Contains, length, codes, Option, Some, None, IfSome, IsSome, IsSomeAnd, Ok, Err, slice_get, take}
 use Rattle.std.specs.List.{starts_with, ends_with}
 use Rattle.std.specs.Str.{IsUtf8, bytes_eq}
 use Rattle.ux_base.specs.Outside.{Files, file_named, MAX, Rose}
@@ -7,8 +7,13 @@ use Rattle.ux_base.specs.declared.counts.Counts.{Counts}
 use Rattle.ux_alphabet.specs.File.{alphabet_of}
 use Rattle.ux_alphabet.specs.declared.line.Line.{Line}
 use Rattle.ux_grf.specs.File as grf
-use Rattle.ux_grf.specs.declared.graph.Graph.{Graph}
+use Rattle.ux_grf.specs.declared.graph.GrfBox.{GrfBox}
 use Rattle.ux_grf.specs.declared.error.GrfError.TheVariants as grf_error
+use Rattle.ux_net.specs.Boxes.{Drawn, box_grammar}
+use Rattle.ux_net.specs.Refusing as net
+use Rattle.ux_net.specs.Refusing.{IsCompilable}
+use Rattle.ux_net.specs.declared.error.NetError.{NetError}
+use Rattle.ux_net.specs.declared.error.NetError.TheVariants as net_error
 use Rattle.ux_tokens.specs.Tokens.{Token, AreTokens}
 use Rattle.ux_tokens.specs.Reading.{OPENING_BRACE}
 use Rattle.ux_tokens.specs.Reading as reading
@@ -18,8 +23,8 @@ use Rattle.unitex.specs.declared.request.Request.{Request}
 use Rattle.unitex.specs.declared.status.Status.{Status}
 use Rattle.unitex.specs.declared.status.Status.TheVariants.{Done, Usage, Absent, Refused, ReadFault, WriteFault, TooLarge, NoMemory}
 use Rattle.unitex.specs.declared.status.Reason.{Reason}
-use Rattle.unitex.specs.declared.status.Reason.TheVariants.{NotYet, Alphabet, Grf, Text}
-use Rattle.unitex.specs.Boxes.{box_graph}
+use Rattle.unitex.specs.declared.status.Reason.TheVariants.{NotYet, Alphabet, Grf, Net, Text, TooManyGraphs}
+use Rattle.unitex.specs.Grammars.{next_name, file_of, main_name, callee_file, MOST_GRAPHS}
 use Rattle.unitex.specs.Hits.{IsHit}
 use Rattle.unitex.specs.Index.{IsIndex}
 
@@ -93,10 +98,27 @@ pub record HasAlphabet (told : Option Files) (name : List ℕ) (alphabet : List 
   pub lines : alphabet_of text ≡ Ok alphabet
 
 -- the graph's file draws the graph
-pub record HasGraph (told : Option Files) (name : List ℕ) (graph : Graph) : Type 0 where
+pub record HasGraph (told : Option Files) (name : List ℕ) (boxes : List GrfBox) : Type 0 where
   pub text : List ℕ
   pub has : HasText told name text
-  pub draws : grf.IsGraphOf text graph
+  pub draws : grf.IsGraphOf text (record { boxes = boxes })
+
+-- the graph is the next that is read behind the first k of these, and its file draws it
+pub record IsReadAt (told : Option Files) (word : List ℕ) (graphs : List Drawn) (k : ℕ)
+    (graph : Drawn) : Type 0 where
+  pub named : next_name word (take k graphs) ≡ Some graph.name
+  pub has : HasGraph told (file_of word k graph.name) graph.boxes
+
+-- the graphs are those that are read first, in order
+abbrev pub AreRead : Option Files → List ℕ → List Drawn → Type 0
+AreRead told word graphs =
+    (k : ℕ) (graph : Drawn) → slice_get graphs k ≡ Some graph → IsReadAt told word graphs k graph
+
+-- the graphs are all of the grammar whose main graph's file the word names
+pub record HasGrammar (told : Option Files) (word : List ℕ) (graphs : List Drawn) : Type 0 where
+  pub read : AreRead told word graphs
+  pub whole : next_name word graphs ≡ None
+  pub few : length graphs ≤ MOST_GRAPHS
 
 -- the text's file has these tokens, and not too many
 pub record HasTokens (told : Option Files) (name : List ℕ) (alphabet : List Line)
@@ -107,22 +129,23 @@ pub record HasTokens (told : Option Files) (name : List ℕ) (alphabet : List Li
   pub are : AreTokens alphabet text tokens
   pub few : length tokens ≤ MAX_TOKENS
 
--- each file of the search is accepted
-pub record IsAccepted (asked : Asked) (told : Option Files) (alphabet : List Line) (graph : Graph)
-    (tokens : List Token) : Type 0 where
+-- each file of the search is accepted, and the grammar has a meaning
+pub record IsAccepted (asked : Asked) (told : Option Files) (alphabet : List Line)
+    (graphs : List Drawn) (tokens : List Token) : Type 0 where
   pub has_alphabet : HasAlphabet told asked.alphabet alphabet
-  pub has_graph : HasGraph told asked.graph graph
+  pub has_grammar : HasGrammar told asked.graph graphs
+  pub compilable : IsCompilable alphabet graphs
   pub has_tokens : HasTokens told asked.text alphabet tokens
 
--- the text is the answer to the request: the index of the graph's hits in the text
+-- the text is the answer to the request: the index of the grammar's hits in the text
 pub record IsAnswer (request : Option Asked) (told : Option Files) (answer : List ℕ) : Type 0 where
   pub asked : Asked
   pub is : request ≡ Some asked
   pub alphabet : List Line
-  pub graph : Graph
+  pub graphs : List Drawn
   pub tokens : List Token
-  pub accepted : IsAccepted asked told alphabet graph tokens
-  pub index : IsIndex (IsHit alphabet tokens (box_graph alphabet graph.boxes)) answer
+  pub accepted : IsAccepted asked told alphabet graphs tokens
+  pub index : IsIndex (IsHit alphabet tokens (box_grammar alphabet graphs)) answer
 
 -- the folder tells its files, and each file of the request is accepted
 pub record IsAnswerable (request : Option Asked) (told : Option Files) : Type 0 where
@@ -131,9 +154,9 @@ pub record IsAnswerable (request : Option Asked) (told : Option Files) : Type 0 
   pub files : Files
   pub tells : told ≡ Some files
   pub alphabet : List Line
-  pub graph : Graph
+  pub graphs : List Drawn
   pub tokens : List Token
-  pub accepted : IsAccepted asked (Some files) alphabet graph tokens
+  pub accepted : IsAccepted asked (Some files) alphabet graphs tokens
 
 -- WHY NOTHING IS ANSWERED
 
@@ -148,6 +171,8 @@ RefusesPlain text NotYet = ¬ IsPlain text
 RefusesPlain text (Alphabet error) = ⊥
 RefusesPlain text (Grf error) = ⊥
 RefusesPlain text (Text error) = ⊥
+RefusesPlain text (Net error) = ⊥
+RefusesPlain text TooManyGraphs = ⊥
 
 -- why a file is no alphabet
 abbrev pub RefusesAlphabet : List ℕ → Reason → Type 0
@@ -155,6 +180,8 @@ RefusesAlphabet text NotYet = ¬ IsPlain text
 RefusesAlphabet text (Alphabet error) = IsPlain text × (alphabet_of text ≡ Err error)
 RefusesAlphabet text (Grf error) = ⊥
 RefusesAlphabet text (Text error) = ⊥
+RefusesAlphabet text (Net error) = ⊥
+RefusesAlphabet text TooManyGraphs = ⊥
 
 -- why a file is no graph
 abbrev pub RefusesGraph : List ℕ → Reason → Type 0
@@ -162,6 +189,15 @@ RefusesGraph text NotYet = ¬ IsPlain text
 RefusesGraph text (Alphabet error) = ⊥
 RefusesGraph text (Grf error) = IsPlain text × grf.Refuses text error × (error ≢ grf_error.NoMemory)
 RefusesGraph text (Text error) = ⊥
+RefusesGraph text (Net error) = ⊥
+RefusesGraph text TooManyGraphs = ⊥
+
+-- why the file of the graph behind so many others is refused: one more than there may be is refused
+-- whatever it holds
+abbrev pub RefusesGraphAt : ℕ → List ℕ → Reason → Type 0
+RefusesGraphAt n text reason =
+    ((n < MOST_GRAPHS) × RefusesGraph text reason)
+    ⊎ ((MOST_GRAPHS ≤ n) × (reason ≡ TooManyGraphs))
 
 -- why a file is no text of tokens
 abbrev pub RefusesText : List ℕ → Reason → Type 0
@@ -170,6 +206,8 @@ RefusesText text (Alphabet error) = ⊥
 RefusesText text (Grf error) = ⊥
 RefusesText text (Text error) =
     IsPlain text × (error ≡ text_error.NotYet) × Contains text OPENING_BRACE
+RefusesText text (Net error) = ⊥
+RefusesText text TooManyGraphs = ⊥
 
 -- the text has more tokens than a text may have
 pub record HasTooManyTokens (alphabet : List Line) (text : List ℕ) : Type 0 where
@@ -189,9 +227,9 @@ plain_format = record { Refuses = RefusesPlain; IsTooLarge = λ text. ⊥ }
 abbrev pub alphabet_format : Format
 alphabet_format = record { Refuses = RefusesAlphabet; IsTooLarge = λ text. ⊥ }
 
--- graph files
-abbrev pub graph_format : Format
-graph_format = record { Refuses = RefusesGraph; IsTooLarge = λ text. ⊥ }
+-- the file of the graph behind so many others
+abbrev pub graph_format : ℕ → Format
+graph_format n = record { Refuses = RefusesGraphAt n; IsTooLarge = λ text. ⊥ }
 
 -- texts, which are cut by the letters of an alphabet
 abbrev pub text_format : List Line → Format
@@ -230,15 +268,47 @@ Stops format name told old new WriteFault = ⊥
 Stops format name told old new (TooLarge file) = (file ≡ name) × IsLong format name told old new
 Stops format name told old new NoMemory = ⊤
 
--- behind the alphabet, the graph is not accepted, or else the text is not
+-- the file of a graph that is behind those that were read stops the reading
+pub record StopsGrammar (told : Option Files) (word : List ℕ) (old new : Counts)
+    (status : Status) : Type 0 where
+  pub graphs : List Drawn
+  pub read : AreRead told word graphs
+  pub few : length graphs ≤ MOST_GRAPHS
+  pub name : List ℕ
+  pub next : next_name word graphs ≡ Some name
+  pub stops : Stops (graph_format (length graphs)) (file_of word (length graphs) name) told old new
+      status
+
+-- the file of a graph by its name
+abbrev pub named_file : (word name : List ℕ) → List ℕ
+named_file word name = if bytes_eq name (main_name word) then word else callee_file word name
+
+-- the file that a refusal of the grammar names
+abbrev pub NamesFile : List ℕ → NetError → List ℕ → Type 0
+NamesFile word (net_error.NotYet name node) file = file ≡ named_file word name
+NamesFile word (net_error.EmptyLoop name node) file = file ≡ named_file word name
+NamesFile word (net_error.LeftRecursion name node) file = file ≡ named_file word name
+NamesFile word (net_error.MissingGraph name) file = ⊥
+NamesFile word net_error.NoMemory file = ⊥
+
+-- the grammar whose files are all read is refused
+abbrev pub StopsNet : List ℕ → List Line → List Drawn → Status → Type 0
+StopsNet word alphabet graphs (Refused file (Net error)) =
+    net.Refuses alphabet graphs error × NamesFile word error file
+StopsNet word alphabet graphs NoMemory = ⊤
+StopsNet word alphabet graphs status = ⊥
+
+-- behind the alphabet, a graph's file is not accepted, or else the grammar or the text is not
 abbrev pub StopsLater : Asked → List Line → Option Files → Counts → Counts → Status → Type 0
 StopsLater asked alphabet told old new status =
-    Stops graph_format asked.graph told old new status
-    ⊎ ((graph : Graph) × HasGraph told asked.graph graph
-    × Stops (text_format alphabet) asked.text told old new status)
+    StopsGrammar told asked.graph old new status
+    ⊎ ((graphs : List Drawn) × HasGrammar told asked.graph graphs
+    × (StopsNet asked.graph alphabet graphs status
+    ⊎ (IsCompilable alphabet graphs
+    × Stops (text_format alphabet) asked.text told old new status)))
 
 -- Why a search is not begun: the first of its files that is not accepted stops it. The alphabet is
--- read first, then the graph, then the text.
+-- read first, then the graphs, then the text.
 abbrev pub Explains : Asked → Option Files → Counts → Counts → Status → Type 0
 Explains asked told old new status =
     Stops alphabet_format asked.alphabet told old new status

@@ -5,12 +5,14 @@ use Rattle.ux_alphabet.specs.declared.error.AlphabetError.{AlphabetError}
 use Rattle.ux_alphabet.specs.declared.error.AlphabetError.TheVariants as alphabet_error
 use Rattle.ux_grf.specs.declared.error.GrfError.{GrfError}
 use Rattle.ux_grf.specs.declared.error.GrfError.TheVariants as grf_error
+use Rattle.ux_net.specs.declared.error.NetError.{NetError}
+use Rattle.ux_net.specs.declared.error.NetError.TheVariants as net_error
 use Rattle.ux_tokens.specs.declared.text_error.TextError.{TextError}
 use Rattle.ux_tokens.specs.declared.text_error.TextError.TheVariants as text_error
 use Rattle.unitex.specs.declared.status.Status.{Status}
 use Rattle.unitex.specs.declared.status.Status.TheVariants.{Done, Usage, Absent, Refused, ReadFault, WriteFault, TooLarge, NoMemory}
 use Rattle.unitex.specs.declared.status.Reason.{Reason}
-use Rattle.unitex.specs.declared.status.Reason.TheVariants.{NotYet, Alphabet, Grf, Text}
+use Rattle.unitex.specs.declared.status.Reason.TheVariants.{NotYet, Alphabet, Grf, Net, Text, TooManyGraphs}
 
 -- the exit status
 abbrev pub number_of : Status → ℕ
@@ -35,7 +37,8 @@ grf_reason grf_error.NoHeader = codes "NoHeader"
 grf_reason grf_error.BadCount = codes "BadCount"
 grf_reason (grf_error.BadBoxLine node) = codes "BadBoxLine node=" ++ decimal node
 grf_reason (grf_error.BadTarget node) = codes "BadTarget node=" ++ decimal node
-grf_reason grf_error.NotYet = codes "NotYet"
+grf_reason (grf_error.BadContent node place) =
+    codes "BadContent node=" ++ decimal node ++ codes " place=" ++ decimal place
 grf_reason grf_error.NoMemory = codes "NoMemory"
 
 -- the same of a text
@@ -44,12 +47,25 @@ text_reason text_error.TooManyTokens = codes "TooManyTokens"
 text_reason text_error.NotYet = codes "NotYet"
 text_reason text_error.NoMemory = codes "NoMemory"
 
+-- the same of a grammar
+abbrev pub net_reason : NetError → List ℕ
+net_reason (net_error.MissingGraph name) = codes "MissingGraph name=" ++ name
+net_reason (net_error.NotYet graph node) =
+    codes "NotYet graph=" ++ graph ++ codes " node=" ++ decimal node
+net_reason (net_error.EmptyLoop graph node) =
+    codes "EmptyLoop graph=" ++ graph ++ codes " node=" ++ decimal node
+net_reason (net_error.LeftRecursion graph node) =
+    codes "LeftRecursion graph=" ++ graph ++ codes " node=" ++ decimal node
+net_reason net_error.NoMemory = codes "NoMemory"
+
 -- the same of any file
 abbrev pub reason_text : Reason → List ℕ
 reason_text NotYet = codes "NotYet"
 reason_text (Alphabet error) = alphabet_reason error
 reason_text (Grf error) = grf_reason error
+reason_text (Net error) = net_reason error
 reason_text (Text error) = text_reason error
+reason_text TooManyGraphs = codes "TooManyGraphs"
 
 -- the line of an ending, which a run that is done has not
 abbrev pub line_of : Status → List ℕ

@@ -3,7 +3,7 @@
 ghost use Rattle.std.specs.Prelude.{◌≡◌, ◌<◌, ◌≤◌, ◌++◌, All, IfOk, OnOk, length, map, codes, string_bytes};
 ghost use Rattle.std.specs.Fmt.{decimal};
 ghost use Rattle.unitex.specs.Index.{index_line, index_of};
-ghost use Rattle.unitex.specs.Spans.{found_at};
+ghost use Rattle.unitex.specs.Spans.{hit_at};
 
 use crate::searching::Span;
 use itoa::Buffer;
@@ -17,7 +17,7 @@ pub fn index_text(alloc: Global, text: &Text, hits: &[Span]) -> Mem<String>
     requires in_order { All (λ hit. hit.first ≤ hit.last) hits.now }
     requires within { All (λ hit. hit.last < length text.now) hits.now }
     ensures { IfOk result (λ index.
-        string_bytes index ≡ index_of (map (found_at text.now) hits.now)) }
+        string_bytes index ≡ index_of (map (hit_at text.now) hits.now)) }
 {
     let mut index = String::from_str(alloc, "#I\n")?;
     for hit in hits {
@@ -31,7 +31,7 @@ fn push_line(index: &mut String, text: &Text, hit: Span) -> Result<(), AllocErro
     requires in_order { hit.first ≤ hit.last }
     requires within { hit.last < length text.now }
     ensures { OnOk result
-        (string_bytes index.new ≡ string_bytes index.old ++ index_line (found_at text.now hit)) }
+        (string_bytes index.new ≡ string_bytes index.old ++ index_line (hit_at text.now hit)) }
 {
     push_number(index, hit.first)?;
     push_number(index, hit.last)?;

@@ -1,18 +1,17 @@
-//! The program `unitex`: searches a text by a graph, and writes the index of what is found.
+//! The program `unitex`: searches a text by a grammar, and writes the index of what is found.
 //!
 //! `top_call::run` does the work over a folder and two sinks; `main` gives it the real ones. Begin
-//! with `top_call`, then follow the files: `reading`, `places`, `searching`, `index`. What the result
-//! has to be stands in `specs/`: `Words`, `Boxes`, `Matches`, `Hits`, `Index`.
+//! with `top_call`, then follow the files: `reading`, `graphs`, `searching`, `index`. What the
+//! result has to be stands in `specs/`: `Hits`, `Index`, `Grammars`, `Running`.
 #![tactic(auto)]
 
+pub mod graphs;
 pub mod index;
-pub mod matching;
-pub mod places;
+pub mod naming;
 pub mod reading;
 pub mod request;
 pub mod searching;
 pub mod status;
-pub mod symbol;
 pub mod telling;
 #[cfg(test)]
 mod tests;

@@ -1,18 +1,20 @@
-//! The files of a request, read in their order: the alphabet, the graph, the text.
+//! The files of a request, read in their order: the alphabet, the graphs, the text.
 //!
 //! Each is read, decoded and given to its format's reader before the next is looked at, so the
 //! first that isn't accepted ends the run.
 
 ghost use Rattle.std.specs.Prelude.{◌≡◌, ◌⊎◌, ℕ, ◌≤◌, Ok, IfOk, IfErr, IfSome, IfNone, length, string_bytes};
 ghost use Rattle.ux_base.specs.Outside.{MAX};
-ghost use Rattle.unitex.specs.Running.{asked_by, counts_of, IsPlain, HasBytes, HasText, HasAlphabet, HasGraph, HasTokens, IsAccepted, NoneFell, Stops, Explains, alphabet_format, graph_format, text_format, bytes_format, plain_format};
+ghost use Rattle.unitex.specs.Reading.{AreFiles, HasNet, StopsBefore};
+ghost use Rattle.unitex.specs.Running.{asked_by, counts_of, IsPlain, HasBytes, HasText, HasAlphabet, HasTokens, NoneFell, Stops, Explains, alphabet_format, text_format, bytes_format, plain_format};
 
+use crate::graphs::{compile, read_graphs};
 use crate::request::Request;
 use crate::status::{Reason, Status};
 use std::alloc::{AllocError, Global};
 use ux_alphabet::{Alphabet, AlphabetError};
 use ux_base::{Folder, FolderError, Txt};
-use ux_grf::{Graph, GrfError, read_grf};
+use ux_net::Net;
 use ux_tokens::{Text, TextError};
 
 /// A request's files, each as its reader gives it.
@@ -20,8 +22,8 @@ use ux_tokens::{Text, TextError};
 pub struct Files {
     /// The letters.
     pub alphabet: Alphabet,
-    /// The boxes.
-    pub graph: Graph,
+    /// The grammar, as states.
+    pub net: Net,
     /// The tokens.
     pub text: Text,
 }
@@ -37,18 +39,18 @@ pub fn read_files<F: Folder>(
     ensures counts { NoneFell (counts_of F.faults F.misses F.overlong folder.old)
         (counts_of F.faults F.misses F.overlong folder.new) }
     ensures ok { IfOk result (λ files.
-        IsAccepted (asked_by request.entry) (F.files folder.old)
-        files.alphabet files.graph files.text) }
+        AreFiles (asked_by request.entry) (F.files folder.old)
+        files.alphabet files.net files.text) }
     ensures err { IfErr result (Explains (asked_by request.entry) (F.files folder.old)
         (counts_of F.faults F.misses F.overlong folder.old)
         (counts_of F.faults F.misses F.overlong folder.new)) }
 {
     let alphabet = read_alphabet(alloc, request.alphabet, folder)?;
-    let graph = read_graph(alloc, request.graph, folder)?;
+    let net = read_net(alloc, request.graph, &alphabet, folder)?;
     let text = read_text(alloc, request.text, &alphabet, folder)?;
     Ok(Files {
         alphabet,
-        graph,
+        net,
         text,
     })
 }
@@ -71,22 +73,23 @@ fn read_alphabet<F: Folder>(alloc: Global, name: &str, folder: &mut F) -> Result
     }
 }
 
-/// Reads the graph's file.
-fn read_graph<F: Folder>(alloc: Global, name: &str, folder: &mut F) -> Result<Graph, Status>
+/// Reads the grammar's files, and compiles it.
+fn read_net<F: Folder>(
+    alloc: Global,
+    word: &str,
+    alphabet: &Alphabet,
+    folder: &mut F,
+) -> Result<Net, Status>
     ensures kept { F.files folder.new ≡ F.files folder.old }
     ensures counts { NoneFell (counts_of F.faults F.misses F.overlong folder.old)
         (counts_of F.faults F.misses F.overlong folder.new) }
-    ensures ok { IfOk result (HasGraph (F.files folder.old) name.now) }
-    ensures err { IfErr result (Stops graph_format name.now (F.files folder.old)
+    ensures ok { IfOk result (HasNet (F.files folder.old) word.now alphabet.now) }
+    ensures err { IfErr result (StopsBefore (F.files folder.old) word.now alphabet.now
         (counts_of F.faults F.misses F.overlong folder.old)
         (counts_of F.faults F.misses F.overlong folder.new)) }
 {
-    let text = read_decoded(alloc, name, folder)?;
-    match read_grf(alloc, text.as_str()) {
-        Ok(graph) => Ok(graph),
-        Err(GrfError::NoMemory) => Err(Status::NoMemory),
-        Err(error) => Err(refused(alloc, name, Reason::Grf(error))),
-    }
+    let graphs = read_graphs(alloc, word, folder)?;
+    compile(alloc, word, alphabet, graphs)
 }
 
 /// Reads the text's file.
@@ -131,7 +134,7 @@ fn read_decoded<F: Folder>(alloc: Global, name: &str, folder: &mut F) -> Result<
 }
 
 /// The bytes of a file.
-fn read_bytes<F: Folder>(alloc: Global, name: &str, folder: &mut F) -> Result<Vec<u8>, Status>
+pub fn read_bytes<F: Folder>(alloc: Global, name: &str, folder: &mut F) -> Result<Vec<u8>, Status>
     ensures kept { F.files folder.new ≡ F.files folder.old }
     ensures counts { NoneFell (counts_of F.faults F.misses F.overlong folder.old)
         (counts_of F.faults F.misses F.overlong folder.new) }
@@ -151,7 +154,7 @@ fn read_bytes<F: Folder>(alloc: Global, name: &str, folder: &mut F) -> Result<Ve
 }
 
 /// The text of the bytes, if they are UTF-8 without a byte order mark.
-fn decoded(bytes: Vec<u8>) -> Option<String>
+pub fn decoded(bytes: Vec<u8>) -> Option<String>
     ensures some { IfSome result (λ text. string_bytes text ≡ bytes.items) }
     ensures plain { IfSome result (λ text. IsPlain bytes.items) }
     ensures none { IfNone result (¬ IsPlain bytes.items) }
@@ -199,7 +202,7 @@ fn too_large(alloc: Global, name: &str) -> Status
 }
 
 /// The ending that names a file which isn't of its format.
-fn refused(alloc: Global, name: &str, reason: Reason) -> Status
+pub fn refused(alloc: Global, name: &str, reason: Reason) -> Status
     ensures { (result ≡ Status.Refused name.now reason) ⊎ (result ≡ Status.NoMemory) }
 {
     match Txt::from_str(alloc, name) {

@@ -1,8 +1,10 @@
 //! How the program ends.
 
+use std::alloc::{AllocError, AllocFailed};
 use ux_alphabet::AlphabetError;
-use ux_base::Txt;
+use ux_base::{NoMemory, Txt};
 use ux_grf::GrfError;
+use ux_net::NetError;
 use ux_tokens::TextError;
 
 /// How a run ended.
@@ -35,8 +37,45 @@ pub enum Reason {
     Alphabet(AlphabetError),
     /// The graph's own reason.
     Grf(GrfError),
+    /// The grammar's own reason.
+    Net(NetError),
     /// The text's own reason.
     Text(TextError),
+    /// The grammar has 65,535 graphs before this one.
+    TooManyGraphs,
+}
+
+impl From<NoMemory> for Status {
+    ghost use Rattle.std.specs.Prelude.{◌≡◌};
+    ghost use Rattle.unitex.specs.declared.status.Status.TheVariants as status;
+
+    ghost from_gives = { λ _ s. s ≡ status.NoMemory };
+
+    fn from(_error: NoMemory) -> Status {
+        Status::NoMemory
+    }
+}
+
+impl From<AllocError> for Status {
+    ghost use Rattle.std.specs.Prelude.{◌≡◌};
+    ghost use Rattle.unitex.specs.declared.status.Status.TheVariants as status;
+
+    ghost from_gives = { λ _ s. s ≡ status.NoMemory };
+
+    fn from(_error: AllocError) -> Status {
+        Status::NoMemory
+    }
+}
+
+impl<T: Drop> From<AllocFailed<T>> for Status {
+    ghost use Rattle.std.specs.Prelude.{◌≡◌};
+    ghost use Rattle.unitex.specs.declared.status.Status.TheVariants as status;
+
+    ghost from_gives = { λ _ s. s ≡ status.NoMemory };
+
+    fn from(_error: AllocFailed<T>) -> Status {
+        Status::NoMemory
+    }
 }
 
 impl Status {

@@ -4,13 +4,14 @@ ghost use Rattle.std.specs.Prelude.{◌≢◌, ℕ, ◌≤◌, ◌++◌, OnOk, O
 ghost use Rattle.std.specs.Fmt.{decimal};
 ghost use Rattle.ux_base.specs.Outside.{Rose, Appended};
 ghost use Rattle.unitex.specs.declared.status.Status.TheVariants.{Done};
-ghost use Rattle.unitex.specs.Statuses.{line_of, reason_text, alphabet_reason, grf_reason, text_reason};
+ghost use Rattle.unitex.specs.Statuses.{line_of, reason_text, alphabet_reason, grf_reason, net_reason, text_reason};
 
 use crate::status::{Reason, Status};
 use itoa::Buffer;
 use ux_alphabet::AlphabetError;
-use ux_base::{Sink, SinkError};
+use ux_base::{Sink, SinkError, Txt};
 use ux_grf::GrfError;
+use ux_net::NetError;
 use ux_tokens::TextError;
 
 /// Writes the line of a status. A run that is done has none.
@@ -144,7 +145,9 @@ fn say_reason<E: Sink>(err: &mut E, reason: &Reason) -> Result<(), SinkError>
         Reason::NotYet => say(err, "NotYet"),
         Reason::Alphabet(error) => say_alphabet_error(err, error),
         Reason::Grf(error) => say_grf_error(err, error),
+        Reason::Net(error) => say_net_error(err, error),
         Reason::Text(error) => say_text_error(err, error),
+        Reason::TooManyGraphs => say(err, "TooManyGraphs"),
     }
 }
 
@@ -172,9 +175,88 @@ fn say_grf_error<E: Sink>(err: &mut E, error: &GrfError) -> Result<(), SinkError
         GrfError::BadCount => say(err, "BadCount"),
         GrfError::BadBoxLine { node } => say_number(err, "BadBoxLine node=", *node as usize),
         GrfError::BadTarget { node } => say_number(err, "BadTarget node=", *node as usize),
-        GrfError::NotYet => say(err, "NotYet"),
+        GrfError::BadContent { node, place } => say_place(err, *node, *place),
         GrfError::NoMemory => say(err, "NoMemory"),
     }
+}
+
+/// Writes the node and the place of a bad content.
+#[tactic(auto, using(ux_base::proofs::Fronts::both_parts))]
+fn say_place<E: Sink>(err: &mut E, node: u32, place: usize) -> Result<(), SinkError>
+    ensures later { E.faults err.old ≤ E.faults err.new }
+    ensures cause { OnErr result (Rose (E.faults err.old) (E.faults err.new)) }
+    ensures line { OnOk result (Appended (E.written err.old) (E.written err.new)
+        (codes "BadContent node=" ++ decimal node ++ codes " place=" ++ decimal place)) }
+{
+    say(err, "BadContent node=")?;
+    say_numbers(err, node as usize, place)?;
+    Ok(())
+}
+
+/// Writes a node and a place.
+#[tactic(auto, using(ux_base::proofs::Fronts::both_parts))]
+fn say_numbers<E: Sink>(err: &mut E, node: usize, place: usize) -> Result<(), SinkError>
+    ensures later { E.faults err.old ≤ E.faults err.new }
+    ensures cause { OnErr result (Rose (E.faults err.old) (E.faults err.new)) }
+    ensures line { OnOk result (Appended (E.written err.old) (E.written err.new)
+        (decimal node ++ codes " place=" ++ decimal place)) }
+{
+    say_number(err, "", node)?;
+    say_number(err, " place=", place)?;
+    Ok(())
+}
+
+fn say_net_error<E: Sink>(err: &mut E, error: &NetError) -> Result<(), SinkError>
+    ensures later { E.faults err.old ≤ E.faults err.new }
+    ensures cause { OnErr result (Rose (E.faults err.old) (E.faults err.new)) }
+    ensures line { OnOk result (Appended (E.written err.old) (E.written err.new)
+        (net_reason error.now)) }
+{
+    match error {
+        NetError::MissingGraph { name } => say_name(err, "MissingGraph name=", name),
+        NetError::NotYet { graph, node } => say_node(err, "NotYet graph=", graph, *node),
+        NetError::EmptyLoop { graph, node } => say_node(err, "EmptyLoop graph=", graph, *node),
+        NetError::LeftRecursion { graph, node } => {
+            say_node(err, "LeftRecursion graph=", graph, *node)
+        },
+        NetError::NoMemory => say(err, "NoMemory"),
+    }
+}
+
+/// Writes what happened and a name.
+fn say_name<E: Sink>(err: &mut E, what: &str, name: &Txt) -> Result<(), SinkError>
+    ensures later { E.faults err.old ≤ E.faults err.new }
+    ensures cause { OnErr result (Rose (E.faults err.old) (E.faults err.new)) }
+    ensures line { OnOk result (Appended (E.written err.old) (E.written err.new)
+        (what.now ++ name.now)) }
+{
+    say_both(err, what, name.as_str())
+}
+
+/// Writes what happened, the graph and the node.
+#[tactic(auto, using(ux_base::proofs::Fronts::both_parts))]
+fn say_node<E: Sink>(err: &mut E, what: &str, graph: &Txt, node: u32) -> Result<(), SinkError>
+    ensures later { E.faults err.old ≤ E.faults err.new }
+    ensures cause { OnErr result (Rose (E.faults err.old) (E.faults err.new)) }
+    ensures line { OnOk result (Appended (E.written err.old) (E.written err.new)
+        (what.now ++ graph.now ++ codes " node=" ++ decimal node)) }
+{
+    say(err, what)?;
+    say_graph_node(err, graph, node)?;
+    Ok(())
+}
+
+/// Writes the graph and the node.
+#[tactic(auto, using(ux_base::proofs::Fronts::both_parts))]
+fn say_graph_node<E: Sink>(err: &mut E, graph: &Txt, node: u32) -> Result<(), SinkError>
+    ensures later { E.faults err.old ≤ E.faults err.new }
+    ensures cause { OnErr result (Rose (E.faults err.old) (E.faults err.new)) }
+    ensures line { OnOk result (Appended (E.written err.old) (E.written err.new)
+        (graph.now ++ codes " node=" ++ decimal node)) }
+{
+    say(err, graph.as_str())?;
+    say_number(err, " node=", node as usize)?;
+    Ok(())
 }
 
 fn say_text_error<E: Sink>(err: &mut E, error: &TextError) -> Result<(), SinkError>

@@ -2,14 +2,13 @@
 
 ghost use Rattle.std.specs.Prelude.{◌≡◌, ◌≢◌, ◌⊎◌, ℕ, ◌<◌, ◌≤◌, List, None, IfOk, IfErr, map, length, string_bytes};
 ghost use Rattle.ux_base.specs.Outside.{Rose, Appended, AppendedFront};
-ghost use Rattle.unitex.specs.Boxes.{box_graph};
+ghost use Rattle.ux_net.specs.Nets.{net_grammar};
 ghost use Rattle.unitex.specs.Hits.{IsHit};
 ghost use Rattle.unitex.specs.Index.{IsIndex};
 ghost use Rattle.unitex.specs.Statuses.{line_of};
 ghost use Rattle.unitex.specs.Running.{request_of, counts_of, IsAnswer, IsAnswerable, Denies, EndsBy, NoneFell, WritesNothing};
 
 use crate::index::index_text;
-use crate::places::places_of;
 use crate::reading::{Files, read_files};
 use crate::request::request_of;
 use crate::searching::hits;
@@ -69,6 +68,7 @@ pub fn run<F: Folder, S: Sink, E: Sink>(
 }
 
 /// The result that the words ask for, or how the run ends without one.
+#[tactic(auto, using(crate::proofs::Answering::answered))]
 fn answer<F: Folder>(alloc: Global, words: &[String], folder: &mut F) -> Result<String, Status>
     ensures ok { IfOk result (λ answer.
         IsAnswer (request_of (map string_bytes words.now)) (F.files folder.old)
@@ -91,20 +91,17 @@ fn answer<F: Folder>(alloc: Global, words: &[String], folder: &mut F) -> Result<
     }
 }
 
-/// The index of the graph's hits in the text. A graph has a box.
+/// The index of the grammar's hits in the text.
 fn index_of(alloc: Global, files: Files) -> Mem<String>
-    requires { 0 < length files.graph.boxes }
     ensures { IfOk result (λ index.
-        IsIndex (IsHit files.alphabet files.text (box_graph files.alphabet files.graph.boxes))
-        (string_bytes index)) }
+        IsIndex (IsHit files.alphabet files.text (net_grammar files.net)) (string_bytes index)) }
 {
     let Files {
         alphabet,
-        graph,
+        net,
         text,
     } = files;
-    let places = places_of(alloc, &alphabet, graph)?;
-    let hits = hits(alloc, places.as_slice(), &alphabet, &text)?;
+    let hits = hits(alloc, &net, &alphabet, &text)?;
     index_text(alloc, &text, hits.as_slice())
 }
 

@@ -1,18 +1,26 @@
 -- Worked examples of the definitions.
 use Rattle.std.proofs.Common.{◌≡◌, [], ◌∷◌, ◌++◌, refl, Some, None, true, false}
 use Rattle.std.specs.Prelude.{codes}
-use Rattle.ux_grf.specs.declared.item.Item.TheVariants.{Literal, Empty}
-use Rattle.ux_grf.specs.declared.words.Gap.TheVariants.{Blanks}
+use Rattle.ux_grf.specs.declared.item.Item.TheVariants.{Literal, Mask, Empty, Call, Begin}
+use Rattle.ux_grf.specs.declared.item.Piece.TheVariants.{Chars, Value}
+use Rattle.ux_grf.specs.declared.words.Gap.TheVariants.{Spaces}
 use Rattle.ux_grf.specs.Words.{words_of}
 use Rattle.ux_grf.specs.Numbers.{is_number, is_coordinate}
 use Rattle.ux_grf.specs.Header.{is_mark, count_of, behind_header}
-use Rattle.ux_grf.specs.BoxLine.{content_end, box_of}
+use Rattle.ux_grf.specs.declared.protection.Stop.TheVariants.{Mark}
+use Rattle.ux_grf.specs.declared.protection.Layer.TheVariants.{File}
+use Rattle.ux_grf.specs.Protection.{first_free, resolved}
+use Rattle.ux_grf.specs.BoxLine.{box_of}
 use Rattle.ux_grf.specs.Boxes.{distinct}
-use Rattle.ux_grf.specs.Content.{has_sign, line_of}
+use Rattle.ux_grf.specs.Items.{part, fault, begin_of}
+use Rattle.ux_grf.specs.Lines.{marked_item, AreLines, last_line, line_with_output, line_then, of_items, of_mark}
+use Rattle.ux_grf.specs.Items.{line_over, item_then}
+use Rattle.ux_grf.specs.Output.{ArePieces, chars_only, value_then}
 use Rattle.ux_grf.specs.Reached.{ways_of, Reached, start, step}
-use Rattle.ux_grf.proofs.SearchLemmas.{contains_first}
+use Rattle.ux_grf.specs.Needs.{with_names}
+use Rattle.ux_grf.proofs.CallsLemmas.{Contains-first}
 
-two_words : words_of Blanks (codes " the  cat ") ≡ codes "the" ∷ codes "cat" ∷ []
+two_words : words_of Spaces (codes " the  cat ") ≡ codes "the" ∷ codes "cat" ∷ []
 two_words = refl
 
 a_coordinate : is_coordinate (codes "-84") ≡ true
@@ -35,8 +43,12 @@ one_box : count_of (codes "1") ≡ None
 one_box = refl
 
 -- the quotation mark behind a backslash is part of the content
-a_protected_mark : content_end false (97 ∷ 92 ∷ 34 ∷ 34 ∷ []) ≡ Some 3
+a_protected_mark : first_free Mark false (97 ∷ 92 ∷ 34 ∷ 34 ∷ []) ≡ Some 3
 a_protected_mark = refl
+
+-- the file's `\\+\"` is the content's `\+"`
+a_protected_text : resolved File false (92 ∷ 92 ∷ 43 ∷ 92 ∷ 34 ∷ []) ≡ 92 ∷ 43 ∷ 34 ∷ []
+a_protected_text = refl
 
 -- "the cat" 170 248 1 1
 a_box_line : box_of (34 ∷ codes "the cat" ++ 34 ∷ codes " 170 248 1 1 ")
@@ -46,15 +58,40 @@ a_box_line = refl
 once : distinct (2 ∷ 1 ∷ 2 ∷ []) ≡ 2 ∷ 1 ∷ []
 once = refl
 
-two_literals : line_of (codes "the cat") ≡ Literal (codes "the") ∷ Literal (codes "cat") ∷ []
-two_literals = refl
+a_mask : begin_of (codes "<N:p>x") ≡ part (Some (Mask (codes "N:p"))) (codes "x")
+a_mask = refl
 
-no_literal : line_of [] ≡ Empty ∷ []
-no_literal = refl
+an_empty_mask : begin_of (codes "<>x") ≡ fault (codes "<>x")
+an_empty_mask = refl
 
-a_sign : has_sign (codes "a remark <x") ≡ true
-a_sign = refl
+a_call : marked_item (codes ": np.grf ") ≡ Some (Call (codes "np"))
+a_call = refl
+
+a_variable : marked_item (codes "$x( ") ≡ Some (Begin (codes "x"))
+a_variable = refl
+
+no_form : marked_item (codes "$x") ≡ None
+no_form = refl
+
+-- `a +:np/[N]` has two lines and an output
+two_lines : AreLines (codes "a +:np/[N]")
+    ((Literal (codes "a") ∷ []) ∷ (Call (codes "np") ∷ []) ∷ []) (codes "[N]")
+two_lines =
+    line_then (of_items refl (item_then refl (item_then refl (line_over refl))))
+    (line_with_output (of_mark refl refl))
+
+-- the end of a line without items
+no_items : AreLines (codes " ") ((Empty ∷ []) ∷ []) []
+no_items = last_line (of_items refl (item_then refl (line_over refl)))
+
+-- `[$x$]`
+a_value : ArePieces (codes "[$x$]")
+    (Chars (codes "[") ∷ Value (codes "x") ∷ Chars (codes "]") ∷ [])
+a_value = value_then refl (chars_only refl)
+
+names_once : with_names [] (codes "np" ∷ codes "vp" ∷ codes "np" ∷ []) ≡ codes "np" ∷ codes "vp" ∷ []
+names_once = refl
 
 -- from box 0 by box 2 to box 1
 the_end_is_reached : Reached (ways_of ((2 ∷ []) ∷ [] ∷ (1 ∷ []) ∷ [])) 1
-the_end_is_reached = step (step start (contains_first 2 [])) (contains_first 1 [])
+the_end_is_reached = step (step start (Contains-first 2 [])) (Contains-first 1 [])

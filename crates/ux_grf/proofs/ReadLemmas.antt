@@ -1,25 +1,22 @@
 -- The boxes of a file, line by line, and the graph that is made of them.
-use Rattle.std.proofs.Common.{arith, ◌≡◌, ◌≢◌, ℕ, zero, suc, ◌+◌, ◌<◌, ◌≤◌, List, [], ◌∷◌, ◌++◌, refl, sym, ◌∙◌, ap, subst, ◌⊎◌, inl, inr, Bool, true, false, ◌↔◌, length, drop, get_or, length-set, map, Option, None, Some, cond, ltb, eqb}
+use Rattle.std.proofs.Common.{arith, ◌≡◌, ◌≢◌, ℕ, zero, suc, ◌+◌, ◌<◌, ◌≤◌, List, [], ◌∷◌, ◌++◌, refl, sym, ◌∙◌, ap, subst, ◌⊎◌, inl, inr, Bool, true, false, length, drop, get_or, length-set, map, Option, None, Some, cond, ltb, eqb}
 use Rattle.std.specs.Prelude.{Contains, fold, slice_get}
-use Rattle.std.specs.List.{list_any, range_with_len}
+use Rattle.std.specs.List.{list_any}
 use borrow.Author.Count.{below_more}
 use Rattle.std.proofs.lemmas.List.{get_or-map, length-map, map-append, get_or-set_same, get_or-set_other, get_or_past}
 use Rattle.std.proofs.lemmas.List.FromFn.{map-range_with_len_more, length-map-range_with_len, get_or-map-range_with_len}
 use Rattle.std.proofs.lemmas.List.Folds.{list_all-append}
 use Rattle.std.proofs.lemmas.List.Sums.{AllPass-from_list_all}
 use Rattle.std.proofs.lemmas.List.Elements.{All-contains}
-use Rattle.std.proofs.lemmas.Bool.{ltb-true, lt-ltb}
+use Rattle.std.proofs.lemmas.Bool.{ltb-true}
 use Rattle.ux_grf.specs.declared.box_line.BoxLine.{BoxLine}
 use Rattle.ux_grf.specs.declared.error.GrfError.{GrfError}
-use Rattle.ux_grf.specs.declared.error.GrfError.TheVariants.{NoHeader, BadCount, BadBoxLine, BadTarget, NotYet, NoMemory}
-use Rattle.ux_grf.specs.declared.graph.GrfBox.{GrfBox}
-use Rattle.ux_grf.specs.declared.graph.Graph.{Graph}
+use Rattle.ux_grf.specs.declared.error.GrfError.TheVariants.{NoHeader, BadCount, BadBoxLine, BadTarget, BadContent, NoMemory}
 use Rattle.ux_grf.specs.BoxLine.{BoxText, said_by}
 use Rattle.ux_grf.specs.Boxes.{added, box_in_line, box_at, is_inside, is_good, text_of, texts_of, HasBadTarget, RefusesBox, AreGood, RefusesBoxes}
-use Rattle.ux_grf.specs.Reached.{row_of, ways_of, Reached, HasLoop}
-use Rattle.ux_grf.specs.Search.{IsInside, IsCause}
-use Rattle.ux_grf.specs.Content.{has_sign, box_made, is_odd, is_read}
-use Rattle.ux_grf.specs.File.{ways_in, text_at, AreReached, boxes_made, IsOddBox, IsBeyond, Draws, RefusesTexts, HasBoxLines, Refuses}
+use Rattle.ux_grf.specs.Reached.{row_of, ways_of}
+use Rattle.ux_digraph.specs.Paths.{IsInside}
+use Rattle.ux_grf.specs.File.{text_at, IsFirstBad, RefusesTexts, HasBoxLines, Refuses}
 use Rattle.ux_grf.proofs.NumbersLemmas.{and_left, and_right}
 
 -- the line in front of what is left
@@ -60,7 +57,7 @@ refuses_at count lines node (BadTarget n) lt good h = (
   subst (λ m. AreGood count lines m) (sym h.0) good,
   subst (λ m. HasBadTarget count (box_at lines m)) (sym h.0) h.1,
 )
-refuses_at count lines node NotYet lt good h = h
+refuses_at count lines node (BadContent n place) lt good h = absurd h
 refuses_at count lines node NoMemory lt good h = tt
 
 pub refuses_boxes : (count : ℕ) (lines : List (List ℕ)) (node : ℕ) (line : Option (List ℕ))
@@ -102,25 +99,6 @@ text_is boxes node line lt is =
           [];
     }) lt)
 
--- the box at a place is made of the line there
-pub boxes_more : (boxes : List BoxLine) (marks : List Bool) (node : ℕ) (line : BoxLine)
-    (made more : List GrfBox) (b : GrfBox) →
-    node < length boxes → line ≡ get_or boxes node line →
-    b ≡ box_made (said_by line) node (get_or marks node false) →
-    made ≡ map (λ n. box_made (text_at (map said_by boxes) n) n (get_or marks n false))
-    (range_with_len 0 node) →
-    more ≡ made ++ b ∷ [] →
-    more ≡ map (λ n. box_made (text_at (map said_by boxes) n) n (get_or marks n false))
-    (range_with_len 0 (node + 1))
-boxes_more boxes marks node line made more b lt is here before pushed =
-    pushed
-    ∙ (ap (λ bs. bs ++ b ∷ []) before
-    ∙ (ap (λ x. map (λ n. box_made (text_at (map said_by boxes) n) n (get_or marks n false))
-    (range_with_len 0 node) ++ x ∷ [])
-    (here ∙ ap (λ t. box_made t node (get_or marks node false)) (text_is boxes node line lt is))
-    ∙ sym (map-range_with_len_more (λ n. box_made (text_at (map said_by boxes) n) n
-    (get_or marks n false)) 0 node node (omega arith))))
-
 -- what the reader takes the targets from
 pub targets_said : (boxes : List BoxLine) →
     map (λ (t : BoxText). t.targets) (map said_by boxes) ≡ map (λ
@@ -150,83 +128,6 @@ ways_inside rows two inside = record {
       | inr n ↦ inr
           (λ e. n (omega arith))
     ]
-
--- what ends the search refuses the graph
-pub cause_refuses : (texts : List BoxText) (ways : List (List ℕ)) (e : GrfError) →
-    ways ≡ ways_in texts →
-    IsCause ways e → RefusesTexts texts e
-cause_refuses texts ways NoHeader is h = h
-cause_refuses texts ways BadCount is h = h
-cause_refuses texts ways (BadBoxLine n) is h = h
-cause_refuses texts ways (BadTarget n) is h = h
-cause_refuses texts ways NotYet is h = inl (subst (λ ws. HasLoop ws) is h)
-cause_refuses texts ways NoMemory is h = tt
-
--- a box with more than literals, by the test and by what it means
-odd_box : (texts : List BoxText) (marks : List Bool) (node : ℕ) → AreReached texts marks →
-    node < length texts →
-    is_odd (text_at texts node) node (get_or marks node false) ≡ true → IsOddBox texts node
-odd_box texts marks node reached lt e =
-    let read = and_left (is_read node (get_or marks node false)) (has_sign
-    (text_at texts node).content) e in
-    let mark = and_left (get_or marks node false) (ltb 1 node) read in
-    let inner = and_right (get_or marks node false) (ltb 1 node) read in
-    record {
-      inside = lt;
-      reached = (reached.reached node).0 mark;
-      inner = ltb-true 1 node inner;
-      sign = and_right (is_read node (get_or marks node false)) (has_sign
-          (text_at texts node).content) e;
-    }
-
--- the search tells which boxes are reached
-pub marks_are : (texts : List BoxText) (ways : List (List ℕ)) (marks : List Bool) →
-    ways ≡ ways_in texts →
-    length marks ≡ length ways → ((node : ℕ) →
-    (get_or marks node false ≡ true) ↔ Reached ways node) →
-    AreReached texts marks
-marks_are texts ways marks is len reached = record {
-  len = len ∙ (ap (λ (ws : List (List ℕ)). length ws) is
-      ∙ (length-set (map (λ (t : BoxText). t.targets) texts) 1 []
-      ∙ length-map texts (λ (t : BoxText). t.targets)));
-  reached = λ node. subst (λ ws. (get_or marks node false ≡ true) ↔ Reached ws node) is
-      (reached node);
-}
-
-module _ (boxes : List BoxLine) (marks : List Bool) (reached : AreReached
-    (map said_by boxes) marks) where
-  pub odd_refuses : (e : GrfError) →
-      ((e ≡ NotYet) × ((node : ℕ) × (node < length boxes)
-      × (is_odd (text_at (map said_by boxes) node) node (get_or marks node false) ≡ true)))
-      ⊎ (e ≡ NoMemory) → RefusesTexts (map said_by boxes) e
-  odd_refuses e (inl h) =
-      let lt = subst (λ n. h.1.0 < n) (sym (length-map boxes said_by)) h.1.1 in
-      subst (RefusesTexts (map said_by boxes)) (sym h.0)
-      (inr (h.1.0, odd_box (map said_by boxes) marks h.1.0 reached lt h.1.2))
-  odd_refuses e (inr h) = subst (RefusesTexts (map said_by boxes)) (sym h) tt
-
-  not_beyond : (HasLoop (ways_in (map said_by boxes)) → ⊥) →
-      ((node : ℕ) → node < length boxes →
-      is_odd (text_at (map said_by boxes) node) node (get_or marks node false) ≡ false) →
-      IsBeyond (map said_by boxes) → ⊥
-  not_beyond no_loop plain (inl h) = no_loop h
-  not_beyond no_loop plain (inr h) =
-      let odd = h.1 in
-      let mark = (reached.reached h.0).1 odd.reached in
-      let inner = lt-ltb 1 h.0 odd.inner in
-      let lt = subst (λ n. h.0 < n) (length-map boxes said_by) odd.inside in
-      let is : is_odd (text_at (map said_by boxes) h.0) h.0 (get_or marks h.0 false) ≡ true =
-      rw (mark, inner) odd.sign in
-      let no : true ≡ false = sym is ∙ plain h.0 lt in cc
-
-  -- the graph that is made is the one drawn
-  pub draws : (graph : Graph) → graph.boxes ≡ boxes_made (map said_by boxes) marks →
-      (HasLoop (ways_in (map said_by boxes)) → ⊥) →
-      ((node : ℕ) → node < length boxes →
-      is_odd (text_at (map said_by boxes) node) node (get_or marks node false) ≡ false) →
-      Draws (map said_by boxes) graph
-  draws graph made no_loop plain =
-      record { marks = marks; reached = reached; boxes = made; within = not_beyond no_loop plain }
 
 -- targets that are kept once are boxes
 inside_more : (count : ℕ) (seen numbers : List ℕ) → is_inside count seen ≡ true →
@@ -325,6 +226,6 @@ texts_refuse text count lines texts NoHeader has good is h = absurd h
 texts_refuse text count lines texts BadCount has good is h = absurd h
 texts_refuse text count lines texts (BadBoxLine n) has good is h = absurd h
 texts_refuse text count lines texts (BadTarget n) has good is h = absurd h
-texts_refuse text count lines texts NotYet has good is h =
-    (count, lines, has, good, subst (λ ts. IsBeyond ts) is h)
+texts_refuse text count lines texts (BadContent node place) has good is h =
+    (count, lines, has, good, subst (λ ts. IsFirstBad ts node place) is h)
 texts_refuse text count lines texts NoMemory has good is h = tt

@@ -7,7 +7,7 @@ use Rattle.ux_grf.specs.declared.words.Gap.{Gap}
 use Rattle.ux_grf.specs.declared.words.Gap.TheVariants.{Spaces, Blanks}
 use Rattle.ux_grf.specs.Words.{is_gap, word_in, words_behind, words_of, HasNoGapBefore, IsFirstGap}
 
-or_true : (a b : Bool) → (a || b) ≡ true → (a ≡ true) ⊎ (b ≡ true)
+pub or_true : (a b : Bool) → (a || b) ≡ true → (a ≡ true) ⊎ (b ≡ true)
 or_true true b e = inl refl
 or_true false b e = inr e
 

@@ -1,18 +1,14 @@
 -- The line of one box: an `s` or nothing, the content between quotation marks, two coordinates, the
 -- number of targets and the targets.
-use Rattle.std.specs.Prelude.{ℕ, suc, ◌==◌, ◌+◌, Bool, false, not, ◌&&◌, List, [], Option, None, Some, option_map, if◌then◌else◌, length, take, drop, map, ◌∷◌, slice_index, slice_index_or, Vec}
+use Rattle.std.specs.Prelude.{ℕ, ◌==◌, ◌+◌, Bool, false, ◌&&◌, List, [], Option, None, Some, option_map, if◌then◌else◌, length, take, drop, map, slice_index, slice_index_or, Vec}
 use Rattle.std.specs.declared.alloc.Global.{Global}
 use Rattle.std.specs.List.{list_all}
 use Rattle.ux_grf.specs.declared.box_line.BoxLine.{BoxLine}
 use Rattle.ux_grf.specs.declared.words.Gap.TheVariants.{Spaces}
 use Rattle.ux_grf.specs.Words.{SPACE, words_of}
+use Rattle.ux_grf.specs.declared.protection.Stop.TheVariants.{Mark}
+use Rattle.ux_grf.specs.Protection.{QUOTE, first_free}
 use Rattle.ux_grf.specs.Numbers.{is_number, is_coordinate, value_of}
-
-abbrev pub QUOTE : ℕ
-QUOTE = 34
-
-abbrev pub BACKSLASH : ℕ
-BACKSLASH = 92
 
 abbrev pub START_MARK : ℕ
 START_MARK = 115
@@ -28,14 +24,6 @@ said_by line = record { content = line.content.now; targets = line.targets.items
 
 abbrev pub values_in : Option (Vec ℕ Global) → Option (List ℕ)
 values_in values = option_map (λ v. v.items) values
-
--- the place of the first quotation mark that isn't protected; the first byte may be protected from
--- outside, each other one is by a backslash before it that isn't protected itself
-abbrev pub content_end : Bool → List ℕ → Option ℕ
-content_end protected [] = None
-content_end protected (b ∷ text) =
-    if b == QUOTE && not protected then Some 0
-    else option_map suc (content_end (b == BACKSLASH && not protected) text)
 
 -- the word at a place, which is empty where there is none
 abbrev pub word_at : List (List ℕ) → ℕ → List ℕ
@@ -70,7 +58,7 @@ cut_at text (Some end) = box_in (take end text) (drop (end + 1) text)
 
 -- what stands behind the first quotation mark
 abbrev pub content_and_fields : List ℕ → Option BoxText
-content_and_fields text = cut_at text (content_end false text)
+content_and_fields text = cut_at text (first_free Mark false text)
 
 -- the line without an `s` in front
 abbrev pub without_mark : List ℕ → List ℕ

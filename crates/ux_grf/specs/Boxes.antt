@@ -2,7 +2,7 @@
 use Rattle.std.specs.Prelude.{◌≡◌, ℕ, ◌==◌, ◌<◌, Bool, true, false, nat_lt, List, [], ◌∷◌, ◌++◌, Option, None, Some, if◌then◌else◌, fold, map, slice_get, length, slice_index, ◌≤◌}
 use Rattle.std.specs.List.{list_any, list_all, range_with_len}
 use Rattle.ux_grf.specs.declared.error.GrfError.{GrfError}
-use Rattle.ux_grf.specs.declared.error.GrfError.TheVariants.{NoHeader, BadCount, BadBoxLine, BadTarget, NotYet, NoMemory}
+use Rattle.ux_grf.specs.declared.error.GrfError.TheVariants.{NoHeader, BadCount, BadBoxLine, BadTarget, BadContent, NoMemory}
 use Rattle.ux_grf.specs.BoxLine.{BoxText, box_of}
 
 -- the numbers, and this one behind them if it isn't among them
@@ -46,7 +46,7 @@ RefusesBox count node box NoHeader = ⊥
 RefusesBox count node box BadCount = ⊥
 RefusesBox count node box (BadBoxLine n) = (n ≡ node) × (box ≡ None)
 RefusesBox count node box (BadTarget n) = (n ≡ node) × HasBadTarget count box
-RefusesBox count node box NotYet = ⊥
+RefusesBox count node box (BadContent n place) = ⊥
 RefusesBox count node box NoMemory = Unit {0}
 
 -- the lines before this box are box lines, whose targets are boxes
@@ -61,7 +61,7 @@ RefusesBoxes count lines (BadBoxLine n) =
     (n < count) × AreGood count lines n × (box_at lines n ≡ None)
 RefusesBoxes count lines (BadTarget n) =
     (n < count) × AreGood count lines n × HasBadTarget count (box_at lines n)
-RefusesBoxes count lines NotYet = ⊥
+RefusesBoxes count lines (BadContent n place) = ⊥
 RefusesBoxes count lines NoMemory = Unit {0}
 
 -- what the lines of this many boxes say

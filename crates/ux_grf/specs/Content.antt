@@ -1,44 +1,115 @@
--- What stands in a box: the literals of its content.
-use Rattle.std.specs.Prelude.{ℕ, ◌==◌, Bool, ◌&&◌, ◌||◌, nat_lt, List, [], ◌∷◌, if◌then◌else◌, map}
-use Rattle.std.specs.List.{list_any}
+-- What stands in a box: the lines and the output that its content writes, and where a content is
+-- refused.
+use Rattle.std.specs.Prelude.{◌≡◌, ℕ, ◌++◌, Bool, true, false, ◌&&◌, ◌⊎◌, nat_lt, List, [], ◌∷◌, length, None}
+use Rattle.std.specs.Str.{chars}
 use Rattle.ux_grf.specs.declared.item.Item.{Item}
-use Rattle.ux_grf.specs.declared.item.Item.TheVariants.{Literal, Empty}
+use Rattle.ux_grf.specs.declared.content.Content.{Content}
+use Rattle.ux_grf.specs.declared.line.Fault.{Fault}
+use Rattle.ux_grf.specs.declared.line.Fault.TheVariants.{At, NoRoom}
+use Rattle.ux_grf.specs.declared.error.GrfError.{GrfError}
+use Rattle.ux_grf.specs.declared.error.GrfError.TheVariants.{NoHeader, BadCount, BadBoxLine, BadTarget, BadContent, NoMemory}
 use Rattle.ux_grf.specs.declared.graph.GrfBox.{GrfBox}
-use Rattle.ux_grf.specs.declared.words.Gap.TheVariants.{Blanks}
-use Rattle.ux_grf.specs.Words.{words_of}
+use Rattle.ux_grf.specs.declared.protection.Layer.TheVariants.{File}
+use Rattle.ux_grf.specs.Protection.{BACKSLASH, ends_open, resolved}
 use Rattle.ux_grf.specs.BoxLine.{BoxText}
+use Rattle.ux_grf.specs.Items.{Fails}
+use Rattle.ux_grf.specs.Lines.{marked_item, own_text, IsBadLine, AreLines, IsBadIn}
+use Rattle.ux_grf.specs.Output.{IsOutput}
 
--- one of + / : $ " < { # \, which write more than literals
-abbrev pub is_sign : ℕ → Bool
-is_sign b =
-    b == 43 || b == 47 || b == 58 || b == 36 || b == 34 || b == 60 || b == 123 || b == 35 || b == 92
+-- the content writes these lines, and behind its first free `/` this output
+pub record IsContent (content : List ℕ) (read : Content) : Type 0 where
+  pub written : List ℕ
+  pub lines : AreLines content read.lines written
+  pub closed : ends_open false written ≡ false
+  pub output : IsOutput written read.output
 
-abbrev pub has_sign : List ℕ → Bool
-has_sign content = list_any is_sign content
+-- the lines are good, and a backslash ends the output
+pub record HasOpenOutput (content left : List ℕ) : Type 0 where
+  pub lines : List (List Item)
+  pub written : List ℕ
+  pub good : AreLines content lines written
+  pub opened : ends_open false written ≡ true
+  pub here : left ≡ BACKSLASH ∷ []
 
--- a literal for each word, or the empty word
-abbrev pub line_in : List (List ℕ) → List Item
-line_in [] = Empty ∷ []
-line_in (word ∷ words) = Literal word ∷ map Literal words
+-- what stands from the first fault of a content on
+abbrev pub IsFault : (content left : List ℕ) → Type 0
+IsFault content left = IsBadIn content left ⊎ HasOpenOutput content left
 
-abbrev pub line_of : List ℕ → List Item
-line_of content = line_in (words_of Blanks content)
+-- a content has its first fault here: behind so many characters
+pub record IsBadAt (content : List ℕ) (place : ℕ) : Type 0 where
+  pub front : List ℕ
+  pub left : List ℕ
+  pub whole : content ≡ front ++ left
+  pub fault : IsFault content left
+  pub count : place ≡ length (chars front)
+
+-- the content has no other reading, and no fault
+pub record IsOnly (content : List ℕ) (read : Content) : Type 0 where
+  pub one : (other : Content) → IsContent content other →
+      (read.lines ≡ other.lines) × (read.output ≡ other.output)
+  pub good : (left : List ℕ) → IsFault content left → ⊥
+
+-- this stands at the content's end
+abbrev pub IsEndOf : (content left : List ℕ) → Type 0
+IsEndOf content left = (front : List ℕ) × (content ≡ front ++ left)
+
+-- why the content of a box is refused
+abbrev pub RefusesContent : ℕ → List ℕ → GrfError → Type 0
+RefusesContent node content NoHeader = ⊥
+RefusesContent node content BadCount = ⊥
+RefusesContent node content (BadBoxLine n) = ⊥
+RefusesContent node content (BadTarget n) = ⊥
+RefusesContent node content (BadContent n place) = (n ≡ node) × IsBadAt content place
+RefusesContent node content NoMemory = Unit {0}
+
+-- why reading ends early: at the items of a line, at a line, at the lines and at the content
+abbrev pub StopsItems : List ℕ → Fault → Type 0
+StopsItems text (At left) = Fails text left.now
+StopsItems text NoRoom = Unit {0}
+
+abbrev pub StopsMark : List ℕ → Fault → Type 0
+StopsMark text (At left) = (left.now ≡ text) × (marked_item (own_text text) ≡ None)
+StopsMark text NoRoom = Unit {0}
+
+abbrev pub StopsLine : List ℕ → Fault → Type 0
+StopsLine text (At left) = IsBadLine text left.now
+StopsLine text NoRoom = Unit {0}
+
+abbrev pub StopsLines : List ℕ → Fault → Type 0
+StopsLines text (At left) = IsBadIn text left.now
+StopsLines text NoRoom = Unit {0}
+
+abbrev pub StopsContent : List ℕ → Fault → Type 0
+StopsContent text (At left) = IsFault text left.now
+StopsContent text NoRoom = Unit {0}
+
+-- the content of a box, without the backslashes that the file needs
+abbrev pub content_of : BoxText → List ℕ
+content_of text = resolved File false text.content
 
 -- the contents of the start, of the end and of boxes that aren't reached are not read
 abbrev pub is_read : ℕ → Bool → Bool
 is_read node reached = reached && nat_lt 1 node
 
-abbrev pub lines_at : BoxText → ℕ → Bool → List (List Item)
-lines_at text node reached = if is_read node reached then line_of text.content ∷ [] else []
+-- what the text of a box draws: its targets, and where its content is read, the lines and the output
+-- that this writes
+pub record IsBoxOf (text : BoxText) (node : ℕ) (b : GrfBox) : Type 0 where
+  pub targets : b.targets ≡ text.targets
+  pub read : is_read node b.reached ≡ true →
+      IsContent (content_of text) (record { lines = b.lines; output = b.output })
+  pub bare : is_read node b.reached ≡ false → (b.lines ≡ []) × (b.output ≡ [])
 
-abbrev pub box_made : BoxText → ℕ → Bool → GrfBox
-box_made text node reached = record {
-  reached = reached;
-  lines = lines_at text node reached;
-  output = [];
-  targets = text.targets;
-}
+-- the box is made of its text and the mark that tells whether it is reached
+pub record IsMade (text : BoxText) (node : ℕ) (mark : Bool) (b : GrfBox) : Type 0 where
+  pub marked : b.reached ≡ mark
+  pub box : IsBoxOf text node b
 
--- the content is read and has a sign
-abbrev pub is_odd : BoxText → ℕ → Bool → Bool
-is_odd text node reached = is_read node reached && has_sign text.content
+-- why no box is made of its text
+abbrev pub RefusesRead : BoxText → ℕ → Bool → GrfError → Type 0
+RefusesRead text node mark NoHeader = ⊥
+RefusesRead text node mark BadCount = ⊥
+RefusesRead text node mark (BadBoxLine n) = ⊥
+RefusesRead text node mark (BadTarget n) = ⊥
+RefusesRead text node mark (BadContent n place) =
+    (n ≡ node) × (is_read node mark ≡ true) × IsBadAt (content_of text) place
+RefusesRead text node mark NoMemory = Unit {0}

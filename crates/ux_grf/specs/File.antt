@@ -1,16 +1,17 @@
 -- A graph file: what it draws, and why it is refused.
-use Rattle.std.specs.Prelude.{◌≡◌, ℕ, ◌<◌, ◌⊎◌, ◌↔◌, Bool, true, false, List, [], ◌∷◌, Option, None, Some, length, map, get_or}
-use Rattle.std.specs.List.{range_with_len}
+use Rattle.std.specs.Prelude.{◌≡◌, ℕ, ◌<◌, ◌↔◌, Bool, true, false, List, [], ◌∷◌, Option, None, Some, length, map, get_or}
 use Rattle.ux_base.specs.Lines.{lines_of}
+use Rattle.ux_grf.specs.declared.content.Content.{Content}
 use Rattle.ux_grf.specs.declared.error.GrfError.{GrfError}
-use Rattle.ux_grf.specs.declared.error.GrfError.TheVariants.{NoHeader, BadCount, BadBoxLine, BadTarget, NotYet, NoMemory}
+use Rattle.ux_grf.specs.declared.error.GrfError.TheVariants.{NoHeader, BadCount, BadBoxLine, BadTarget, BadContent, NoMemory}
 use Rattle.ux_grf.specs.declared.graph.Graph.{Graph}
 use Rattle.ux_grf.specs.declared.graph.GrfBox.{GrfBox}
 use Rattle.ux_grf.specs.Header.{behind_header, count_of}
 use Rattle.ux_grf.specs.BoxLine.{BoxText}
 use Rattle.ux_grf.specs.Boxes.{texts_of, AreGood, RefusesBoxes}
-use Rattle.ux_grf.specs.Reached.{ways_of, Reached, HasLoop}
-use Rattle.ux_grf.specs.Content.{has_sign, box_made, is_odd}
+use Rattle.ux_grf.specs.Reached.{ways_of, Reached}
+use Rattle.ux_grf.specs.Content.{content_of, is_read, IsContent, IsBadAt, IsBoxOf, IsMade}
+use Rattle.ux_grf.specs.WellFormed.{box_of_graph}
 
 -- the ways from box to box
 abbrev pub ways_in : List BoxText → List (List ℕ)
@@ -19,49 +20,26 @@ ways_in texts = ways_of (map (λ (t : BoxText). t.targets) texts)
 abbrev pub text_at : List BoxText → ℕ → BoxText
 text_at texts node = get_or texts node (record { content = []; targets = [] })
 
--- the marks tell which boxes are reached
-pub record AreReached (texts : List BoxText) (marks : List Bool) : Type 0 where
-  pub len : length marks ≡ length texts
-  pub reached : (node : ℕ) → (get_or marks node false ≡ true) ↔ Reached (ways_in texts) node
+-- the graph has these boxes
+pub record Draws (texts : List BoxText) (graph : Graph) : Type 0 where
+  pub len : length graph.boxes ≡ length texts
+  pub reached : (node : ℕ) → node < length texts →
+      ((box_of_graph graph node).reached ≡ true) ↔ Reached (ways_in texts) node
+  pub boxes : (node : ℕ) → node < length texts →
+      IsBoxOf (text_at texts node) node (box_of_graph graph node)
 
-abbrev pub boxes_made : List BoxText → List Bool → List GrfBox
-boxes_made texts marks =
-    map (λ node. box_made (text_at texts node) node (get_or marks node false))
-    (range_with_len 0 (length texts))
-
--- the content of a box is read and has more than literals
-abbrev pub odd_at : List BoxText → List Bool → ℕ → Bool
-odd_at texts marks node = is_odd (text_at texts node) node (get_or marks node false)
-
--- no box before this count is so
-abbrev pub ArePlain : ℕ → List BoxText → List Bool → Type 0
-ArePlain count texts marks = (node : ℕ) → node < count → odd_at texts marks node ≡ false
-
--- a box before this count is so
-abbrev pub HasOdd : ℕ → List BoxText → List Bool → Type 0
-HasOdd count texts marks = (node : ℕ) × (node < count) × (odd_at texts marks node ≡ true)
-
--- why the contents of the boxes are refused
-abbrev pub RefusesContents : ℕ → List BoxText → List Bool → GrfError → Type 0
-RefusesContents count texts marks e = ((e ≡ NotYet) × HasOdd count texts marks) ⊎ (e ≡ NoMemory)
-
--- a box that is reached, other than the start and the end, has more than literals
-pub record IsOddBox (texts : List BoxText) (node : ℕ) : Type 0 where
+-- the content of the box is read: it is reached, and neither the start nor the end
+pub record IsReadBox (texts : List BoxText) (node : ℕ) : Type 0 where
   pub inside : node < length texts
   pub reached : Reached (ways_in texts) node
   pub inner : 1 < node
-  pub sign : has_sign (text_at texts node).content ≡ true
 
--- the graph has a loop, or a box with more than literals
-abbrev pub IsBeyond : List BoxText → Type 0
-IsBeyond texts = HasLoop (ways_in texts) ⊎ ((node : ℕ) × IsOddBox texts node)
-
--- the graph has these boxes
-pub record Draws (texts : List BoxText) (graph : Graph) : Type 0 where
-  pub marks : List Bool
-  pub reached : AreReached texts marks
-  pub boxes : graph.boxes ≡ boxes_made texts marks
-  pub within : IsBeyond texts → ⊥
+-- the first bad content is that of this box, and bad at this place
+pub record IsFirstBad (texts : List BoxText) (node place : ℕ) : Type 0 where
+  pub box : IsReadBox texts node
+  pub bad : IsBadAt (content_of (text_at texts node)) place
+  pub first : (m : ℕ) → m < node → IsReadBox texts m →
+      (read : Content) × IsContent (content_of (text_at texts m)) read
 
 -- why no graph is made of these boxes
 abbrev pub RefusesTexts : List BoxText → GrfError → Type 0
@@ -69,8 +47,38 @@ RefusesTexts texts NoHeader = ⊥
 RefusesTexts texts BadCount = ⊥
 RefusesTexts texts (BadBoxLine node) = ⊥
 RefusesTexts texts (BadTarget node) = ⊥
-RefusesTexts texts NotYet = IsBeyond texts
+RefusesTexts texts (BadContent node place) = IsFirstBad texts node place
 RefusesTexts texts NoMemory = Unit {0}
+
+abbrev pub mark_at : List Bool → ℕ → Bool
+mark_at marks node = get_or marks node false
+
+abbrev pub box_in : List GrfBox → ℕ → GrfBox
+box_in boxes node =
+    get_or boxes node (record { reached = false; lines = []; output = []; targets = [] })
+
+-- the first boxes are made of their texts and marks
+abbrev pub AreMade : List BoxText → List Bool → List GrfBox → ℕ → Type 0
+AreMade texts marks boxes count =
+    (node : ℕ) → node < count →
+    IsMade (text_at texts node) node (mark_at marks node) (box_in boxes node)
+
+-- the first bad content, of the boxes that are marked
+pub record IsBadMarked (texts : List BoxText) (marks : List Bool) (node place : ℕ) : Type 0 where
+  pub inside : node < length texts
+  pub read : is_read node (mark_at marks node) ≡ true
+  pub bad : IsBadAt (content_of (text_at texts node)) place
+  pub first : (m : ℕ) → m < node → is_read m (mark_at marks m) ≡ true →
+      (read : Content) × IsContent (content_of (text_at texts m)) read
+
+-- why no boxes are made of texts and marks
+abbrev pub RefusesMarked : List BoxText → List Bool → GrfError → Type 0
+RefusesMarked texts marks NoHeader = ⊥
+RefusesMarked texts marks BadCount = ⊥
+RefusesMarked texts marks (BadBoxLine node) = ⊥
+RefusesMarked texts marks (BadTarget node) = ⊥
+RefusesMarked texts marks (BadContent node place) = IsBadMarked texts marks node place
+RefusesMarked texts marks NoMemory = Unit {0}
 
 -- the number that the first of the lines tells
 abbrev pub count_at : List (List ℕ) → Option ℕ
@@ -105,7 +113,7 @@ Refuses text (BadBoxLine node) =
 Refuses text (BadTarget node) =
     (count : ℕ) × (lines : List (List ℕ)) × HasBoxLines text count lines
     × RefusesBoxes count lines (BadTarget node)
-Refuses text NotYet =
+Refuses text (BadContent node place) =
     (count : ℕ) × (lines : List (List ℕ)) × HasBoxLines text count lines × AreGood count lines count
-    × IsBeyond (texts_of count lines)
+    × IsFirstBad (texts_of count lines) node place
 Refuses text NoMemory = Unit {0}

@@ -1,10 +1,15 @@
 pub mod WellFormed
 pub mod Words
 pub mod Numbers
-pub mod File
+pub mod Protection
+pub mod Items
+pub mod Lines
+pub mod Output
 pub mod Header
 pub mod BoxLine
 pub mod Boxes
 pub mod Content
 pub mod Reached
-pub mod Search
+pub mod File
+pub mod Size
+pub mod Needs

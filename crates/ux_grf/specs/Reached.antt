@@ -12,12 +12,3 @@ row_of ways box = get_or ways box []
 pub data Reached (ways : List (List ℕ)) : ℕ → Type 0 where
   start : Reached ways 0
   step : {u v : ℕ} → Reached ways u → Contains (row_of ways u) v → Reached ways v
-
--- one or more steps lead from the first box to the second
-pub data Path (ways : List (List ℕ)) : ℕ → ℕ → Type 0 where
-  one : {u v : ℕ} → Contains (row_of ways u) v → Path ways u v
-  more : {u v w : ℕ} → Contains (row_of ways u) v → Path ways v w → Path ways u w
-
--- a box that is reached leads back to itself
-abbrev pub HasLoop : List (List ℕ) → Type 0
-HasLoop ways = (u : ℕ) × Reached ways u × Path ways u u

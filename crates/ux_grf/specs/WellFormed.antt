@@ -1,9 +1,9 @@
 -- What holds of every graph that is read, and what those who use a graph may ask.
-use Rattle.std.specs.Prelude.{◌≡◌, ◌≢◌, ℕ, ◌<◌, ◌≤◌, ◌↔◌, true, false, List, [], length, map, get_or, All, AllPairs}
+use Rattle.std.specs.Prelude.{◌≡◌, ◌≢◌, ℕ, ◌<◌, ◌≤◌, ◌↔◌, ◌⊎◌, Bool, true, false, List, [], length, map, get_or, All, AllPairs}
 use Rattle.ux_grf.specs.declared.graph.Graph.{Graph}
 use Rattle.ux_grf.specs.declared.graph.GrfBox.{GrfBox}
 use Rattle.ux_grf.specs.declared.item.Item.{Item}
-use Rattle.ux_grf.specs.declared.item.Item.TheVariants.{Literal, Empty}
+use Rattle.ux_grf.specs.declared.item.Item.TheVariants.{Literal, Quoted, Mask, Brace, Glue, Empty, Call, Begin, End, Positive, Negative, ContextEnd, Cut}
 use Rattle.ux_grf.specs.Reached.{ways_of, Reached}
 use Rattle.ux_grf.specs.Content.{is_read}
 
@@ -17,11 +17,45 @@ ways_of_graph graph = ways_of (map (λ (b : GrfBox). b.targets) graph.boxes)
 -- no text is empty
 abbrev pub HasText : Item → Type 0
 HasText (Literal text) = 0 < length text
+HasText (Quoted text) = 0 < length text
+HasText (Mask text) = 0 < length text
+HasText (Brace text) = 0 < length text
+HasText Glue = Unit {0}
 HasText Empty = Unit {0}
+HasText (Call name) = 0 < length name
+HasText (Begin name) = 0 < length name
+HasText (End name) = 0 < length name
+HasText Positive = Unit {0}
+HasText Negative = Unit {0}
+HasText ContextEnd = Unit {0}
+HasText Cut = Unit {0}
 
--- a line has an item
-abbrev pub IsFilled : List Item → Type 0
-IsFilled line = (0 < length line) × All HasText line
+-- the item may have others beside it in its line: what calls a graph, bounds a variable or a context,
+-- or cuts stands alone
+abbrev pub may_be_beside : Item → Bool
+may_be_beside (Literal text) = true
+may_be_beside (Quoted text) = true
+may_be_beside (Mask text) = true
+may_be_beside (Brace text) = true
+may_be_beside Glue = true
+may_be_beside Empty = true
+may_be_beside (Call name) = false
+may_be_beside (Begin name) = false
+may_be_beside (End name) = false
+may_be_beside Positive = false
+may_be_beside Negative = false
+may_be_beside ContextEnd = false
+may_be_beside Cut = false
+
+-- the line is one item, or has only items that may have others beside them
+abbrev pub IsShared : List Item → Type 0
+IsShared line = (length line ≡ 1) ⊎ All (λ (item : Item). may_be_beside item ≡ true) line
+
+-- a line has an item, no text is empty, and what has to stands alone
+pub record IsFilled (line : List Item) : Type 0 where
+  pub some : 0 < length line
+  pub texts : All HasText line
+  pub shared : IsShared line
 
 -- a box of a graph with so many boxes: only boxes that are reached, other than the start and the
 -- end, have lines

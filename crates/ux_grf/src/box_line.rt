@@ -2,11 +2,12 @@
 //!
 //! `specs/BoxLine.antt` has the form of the line.
 
-ghost use Rattle.std.specs.Prelude.{◌≡◌, ◌==◌, ◌<◌, false, map, length, slice_index, IfOk, IfSome, option_map};
-ghost use Rattle.ux_grf.specs.BoxLine.{content_end, without_mark, box_of, box_in, content_and_fields, values_in, targets_in, numbers_in, said_by, QUOTE};
+ghost use Rattle.std.specs.Prelude.{◌≡◌, ◌==◌, ◌<◌, map, slice_index, IfOk, option_map};
+ghost use Rattle.ux_grf.specs.BoxLine.{without_mark, box_of, box_in, content_and_fields, values_in, targets_in, numbers_in, said_by};
 
 use crate::number::{is_coordinate_word, number};
-use crate::words::{Gap, behind, words};
+use crate::protection::{Stop, find_free};
+use crate::words::{Gap, before, behind, words};
 use std::alloc::{AllocError, Global};
 
 /// What a box line says.
@@ -33,8 +34,8 @@ pub fn read_box_line<'a>(alloc: Global, line: &'a str) -> Result<Option<BoxLine<
 fn read_quoted<'a>(alloc: Global, text: &'a str) -> Result<Option<BoxLine<'a>>, AllocError>
     ensures { IfOk result (λ said. option_map said_by said ≡ content_and_fields text.now) }
 {
-    match find_content_end(text.as_bytes()) {
-        Some(end) => read_box(alloc, &text[..end], behind(text, end)),
+    match find_free(Stop::Mark, text) {
+        Some(end) => read_box(alloc, before(text, end), behind(text, end)),
         None => Ok(None),
     }
 }
@@ -77,22 +78,6 @@ fn without_start_mark(line: &str) -> &str
     } else {
         line
     }
-}
-
-/// The place of the first quotation mark that no backslash protects.
-fn find_content_end(text: &[u8]) -> Option<usize>
-    ensures end { result ≡ content_end false text.now }
-    ensures inside { IfSome result (λ end. end < length text.now) }
-    ensures quote { IfSome result (λ end. slice_index text.now end ≡ QUOTE) }
-{
-    let mut protected = false;
-    for (place, byte) in text.iter().enumerate() {
-        if *byte == b'"' && !protected {
-            return Some(place);
-        }
-        protected = *byte == b'\\' && !protected;
-    }
-    None
 }
 
 /// The targets that the words behind the content name.

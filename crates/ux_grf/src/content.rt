@@ -1,101 +1,82 @@
-//! What stands in a box: the literals of its content. Signs that write anything else are refused.
+//! What stands in a box: the lines and the output that its content writes.
 //!
-//! `specs/Content.antt` has the definitions.
+//! `specs/Content.antt` has the definitions. A content is read from left to right in one pass: its
+//! lines by `line`, the items of a line by `start`, lines of one item by `marked`, and what stands
+//! behind the first free `/` by `output`.
 
-ghost use Rattle.std.specs.Prelude.{◌≡◌, [], ◌∷◌, map, ◌⊎◌, IfOk, IfErr, OnOk, true, false};
-ghost use Rattle.ux_grf.specs.BoxLine.{said_by};
-ghost use Rattle.ux_grf.specs.Content.{is_sign, has_sign, line_of, box_made, is_odd};
-ghost use Rattle.ux_grf.specs.declared.item.Item.TheVariants.{Literal, Empty};
-ghost use Rattle.ux_grf.specs.declared.error.GrfError.TheVariants.{NotYet, NoMemory};
+ghost use Rattle.std.specs.Prelude.{◌≡◌, ℕ, List, ◌++◌, length, IfOk, IfErr};
+ghost use Rattle.std.specs.Str.{chars};
+ghost use Rattle.ux_grf.specs.Content.{IsContent, RefusesContent, StopsContent, IsOnly, IsEndOf};
 
-use crate::box_line::BoxLine;
 use crate::error::GrfError;
-use crate::graph::GrfBox;
-use crate::item::Item;
-use crate::words::{Gap, words};
-use std::alloc::{AllocError, Global};
-use ux_base::{Lst, Txt};
+use crate::item::{Item, Piece};
+use crate::line::{Fault, read_lines};
+use crate::output::read_output;
+use crate::protection::is_open;
+use std::alloc::Global;
+use ux_base::Lst;
 
-/// The box whose line this is.
-pub fn read_box_content(
-    alloc: Global,
-    line: &BoxLine<'_>,
-    node: usize,
-    reached: bool,
-) -> Result<GrfBox, GrfError>
-    ensures made { IfOk result (λ made. made ≡ box_made (said_by line.now) node reached) }
-    ensures plain { OnOk result (is_odd (said_by line.now) node reached ≡ false) }
-    ensures err { IfErr result (λ e. (e ≡ NotYet × is_odd (said_by line.now) node reached ≡ true) ⊎ (e ≡ NoMemory)) }
+/// What a content writes.
+#[derive(Clone, Debug, Drop, PartialEq, Eq)]
+pub struct Content {
+    /// The alternatives, each a list of items.
+    pub lines: Lst<Lst<Item>>,
+    /// What each line puts out.
+    pub output: Lst<Piece>,
+}
+
+/// What the content writes, or the place of its first fault in a box 0. The content is what stands
+/// there once the file's own protection was taken off. The time is linear in it.
+pub fn read_content(alloc: Global, content: &str) -> Result<Content, GrfError>
+    ensures ok { IfOk result (IsContent content.now) }
+    ensures only { IfOk result (IsOnly content.now) }
+    ensures err { IfErr result (RefusesContent 0 content.now) }
 {
-    let lines = if reached && 1 < node {
-        read_lines(alloc, line.content)?
-    } else {
-        Lst::new(Vec::new(alloc))
-    };
-    Ok(GrfBox {
-        reached,
-        lines,
-        output: Lst::new(Vec::new(alloc)),
-        targets: Lst::new(Vec::from_slice(alloc, line.targets.as_slice())?),
+    read_in_box(alloc, content, 0)
+}
+
+/// What the content of the box writes, or the place of its first fault.
+pub fn read_in_box(alloc: Global, content: &str, node: u32) -> Result<Content, GrfError>
+    ensures ok { IfOk result (IsContent content.now) }
+    ensures err { IfErr result (RefusesContent node content.now) }
+{
+    match read_text(alloc, content) {
+        Ok(read) => Ok(read),
+        Err(Fault::At(left)) => Err(GrfError::BadContent {
+            node,
+            place: count_before(content, left),
+        }),
+        Err(Fault::NoRoom) => Err(GrfError::NoMemory),
+    }
+}
+
+/// What the content writes, or what stands from its first fault on.
+fn read_text<'a>(alloc: Global, content: &'a str) -> Result<Content, Fault<'a>>
+    ensures ok { IfOk result (IsContent content.now) }
+    ensures bad { IfErr result (StopsContent content.now) }
+{
+    let parts = read_lines(alloc, content)?;
+    if is_open(parts.output) {
+        return Err(Fault::At("\\"));
+    }
+    let output = read_output(alloc, parts.output)?;
+    Ok(Content {
+        lines: Lst::new(parts.lines),
+        output: Lst::new(output),
     })
 }
 
-/// The one line of a content.
-fn read_lines(alloc: Global, content: &str) -> Result<Lst<Lst<Item>>, GrfError>
-    ensures line { IfOk result (λ lines. lines ≡ line_of content.now ∷ []) }
-    ensures plain { OnOk result (has_sign content.now ≡ false) }
-    ensures err { IfErr result (λ e. (e ≡ NotYet × has_sign content.now ≡ true) ⊎ (e ≡ NoMemory)) }
+/// How many characters of the content stand before what is left of it.
+fn count_before(content: &str, left: &str) -> usize
+    requires { IsEndOf content.now left.now }
+    ensures { (front : List ℕ) → content.now ≡ front ++ left.now → result ≡ length (chars front) }
 {
-    if has_sign_byte(content) {
-        return Err(GrfError::NotYet);
-    }
-    let mut lines = Vec::new(alloc);
-    lines.push(Lst::new(read_line(alloc, content)?))?;
-    Ok(Lst::new(lines))
+    count_chars(content) - count_chars(left)
 }
 
-fn has_sign_byte(content: &str) -> bool
-    ensures { result ≡ has_sign content.now }
+/// How many characters the text has.
+fn count_chars(text: &str) -> usize
+    ensures { result ≡ length (chars text.now) }
 {
-    content.as_bytes().iter().any(|byte| is_sign_byte(*byte))
-}
-
-fn is_sign_byte(byte: u8) -> bool
-    ensures { result ≡ is_sign byte }
-{
-    matches!(
-        byte,
-        b'+' | b'/' | b':' | b'$' | b'"' | b'<' | b'{' | b'#' | b'\\'
-    )
-}
-
-/// The literals of the content, or the empty word.
-fn read_line(alloc: Global, content: &str) -> Result<Vec<Item>, AllocError>
-    ensures { IfOk result (λ line. line.items ≡ line_of content.now) }
-{
-    let words = words(alloc, Gap::Blanks, content)?;
-    match words.as_slice() {
-        [] => empty_line(alloc),
-        words => literals(alloc, words),
-    }
-}
-
-/// The line of a content without a word.
-fn empty_line(alloc: Global) -> Result<Vec<Item>, AllocError>
-    ensures { IfOk result (λ line. line.items ≡ Empty ∷ []) }
-{
-    let mut line = Vec::new(alloc);
-    line.push(Item::Empty)?;
-    Ok(line)
-}
-
-/// A literal for each word.
-fn literals(alloc: Global, words: &[&str]) -> Result<Vec<Item>, AllocError>
-    ensures { IfOk result (λ line. line.items ≡ map Literal (map (λ w. w.now) words.now)) }
-{
-    let mut line = Vec::new(alloc);
-    for word in words {
-        line.push(Item::Literal(Txt::from_str(alloc, word)?))?;
-    }
-    Ok(line)
+    text.chars().count()
 }

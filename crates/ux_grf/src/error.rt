@@ -21,9 +21,10 @@ pub enum GrfError {
     /// A target of this box is no box.
     #[error("bad target of box {node}")]
     BadTarget { node: u32 },
-    /// The graph has a loop, or a box with more than literals.
-    #[error("not yet")]
-    NotYet,
+    /// The content of this box can't be read. The place of its first fault counts characters from
+    /// 0 in the content, once the file's own protection was taken off.
+    #[error("bad content of box {node} at character {place}")]
+    BadContent { node: u32, place: usize },
     /// Memory ran out.
     #[error("no memory")]
     NoMemory,
@@ -41,6 +42,14 @@ impl<T: Drop> From<AllocFailed<T>> for GrfError {
     ghost from_gives = { λ _ e. e ≡ NoMemory };
 
     fn from(_error: AllocFailed<T>) -> GrfError {
+        GrfError::NoMemory
+    }
+}
+
+impl From<ux_base::NoMemory> for GrfError {
+    ghost from_gives = { λ _ e. e ≡ NoMemory };
+
+    fn from(_error: ux_base::NoMemory) -> GrfError {
         GrfError::NoMemory
     }
 }

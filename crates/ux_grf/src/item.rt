@@ -2,13 +2,35 @@
 
 use ux_base::Txt;
 
-/// One item of a line.
+/// One item of a line. The manual, on graphs.
 #[derive(Clone, Debug, Drop, PartialEq, Eq)]
 pub enum Item {
     /// A run of characters that is no other item.
     Literal(Txt),
-    /// The empty word: a line without items.
+    /// A text between quotation marks, which matches exactly.
+    Quoted(Txt),
+    /// The text between `<` and `>`: a lexical mask.
+    Mask(Txt),
+    /// A text in braces, with the braces.
+    Brace(Txt),
+    /// `#`: no space may stand here.
+    Glue,
+    /// The empty word: `<E>`, or a line without items.
     Empty,
+    /// `:name`: a word of the graph of this name.
+    Call(Txt),
+    /// `$name(`: a variable begins.
+    Begin(Txt),
+    /// `$name)`: a variable ends.
+    End(Txt),
+    /// `$[`: a context that has to follow.
+    Positive,
+    /// `$![`: a context that may not follow.
+    Negative,
+    /// `$]`: the context ends.
+    ContextEnd,
+    /// `$*`: what stands on the left is context.
+    Cut,
 }
 
 /// A piece of a box's output.

@@ -1,27 +1,29 @@
 //! The reader of graph files.
 
-ghost use Rattle.std.specs.Prelude.{◌≡◌, ◌∷◌, ◌⊎◌, List, None, ℕ, ◌+◌, ◌<◌, ◌≤◌, length, drop, slice_get, map, slice_index, option_copied, true, false, IfOk, IfErr, OnOk, Some, Contains};
+ghost use Rattle.std.specs.Prelude.{◌≡◌, ◌∷◌, ◌⊎◌, List, None, ℕ, ◌+◌, ◌*◌, ◌<◌, ◌≤◌, length, drop, slice_get, map, slice_index, option_copied, true, false, IfOk, IfErr, OnOk, Some, Contains};
 ghost use Rattle.ux_grf.specs.BoxLine.{said_by};
-ghost use Rattle.ux_grf.specs.File.{IsGraphOf, Refuses, Draws, RefusesTexts, IsNextCount, boxes_made, count_at, ArePlain, RefusesContents};
+ghost use Rattle.ux_grf.specs.File.{IsGraphOf, Refuses, Draws, RefusesTexts, IsNextCount, count_at};
+ghost use Rattle.ux_grf.specs.Size.{size_of};
 ghost use Rattle.ux_grf.specs.WellFormed.{IsWellFormed};
-ghost use Rattle.ux_grf.specs.Search.{IsInside};
+ghost use Rattle.ux_digraph.specs.Paths.{IsInside};
 ghost use Rattle.ux_grf.specs.declared.error.GrfError.TheVariants.{BadCount, NoMemory};
 ghost use Rattle.ux_grf.specs.Boxes.{box_in_line, box_at, is_good, text_of, texts_of, is_inside, RefusesBox, RefusesBoxes, AreGood};
 
 use crate::box_line::{BoxLine, read_box_line};
-use crate::content::read_box_content;
+use crate::boxes::make_boxes;
 use crate::error::GrfError;
-use crate::graph::{Graph, GrfBox};
+use crate::graph::Graph;
 use crate::header::{read_count, skip_header};
-use crate::search::reached;
 use crate::targets::{each_once, ways};
 use std::alloc::Global;
 use ux_base::{Lines, Lst, lines};
+use ux_digraph::reached;
 
 /// The graph that the text of a graph file draws. The time is linear in the text.
 pub fn read_grf(alloc: Global, text: &str) -> Result<Graph, GrfError>
     ensures ok { IfOk result (IsGraphOf text.now) }
     ensures well_formed { IfOk result IsWellFormed }
+    ensures size { IfOk result (λ graph. size_of graph ≤ 4 * length text.now) }
     ensures err { IfErr result (Refuses text.now) }
 {
     read_graph(alloc, text)
@@ -126,31 +128,14 @@ fn are_inside(targets: &[u32], count: u32) -> bool
 /// The graph of these boxes.
 fn make_graph(alloc: Global, boxes: &[BoxLine<'_>]) -> Result<Graph, GrfError>
     requires two { 1 < length boxes.now }
+    requires most { length boxes.now ≤ 65535 }
     requires inside { IsInside (map (λ b. b.targets.items) boxes.now) }
     ensures draws { IfOk result (Draws (map said_by boxes.now)) }
     ensures refused { IfErr result (RefusesTexts (map said_by boxes.now)) }
 {
     let ways = ways(alloc, boxes)?;
-    let reached = reached(alloc, &ways)?;
+    let reached = reached(alloc, &ways, 0)?;
     Ok(Graph {
         boxes: Lst::new(make_boxes(alloc, boxes, &reached)?),
     })
-}
-
-/// The boxes, of which these are reached.
-fn make_boxes(
-    alloc: Global,
-    boxes: &[BoxLine<'_>],
-    reached: &[bool],
-) -> Result<Vec<GrfBox>, GrfError>
-    requires { length reached.now ≡ length boxes.now }
-    ensures made { IfOk result (λ made. made.items ≡ boxes_made (map said_by boxes.now) reached.now) }
-    ensures plain { OnOk result (ArePlain (length boxes.now) (map said_by boxes.now) reached.now) }
-    ensures err { IfErr result (RefusesContents (length boxes.now) (map said_by boxes.now) reached.now) }
-{
-    let mut made = Vec::new(alloc);
-    for (node, line) in boxes.iter().enumerate() {
-        made.push(read_box_content(alloc, line, node, reached[node])?)?;
-    }
-    Ok(made)
 }

@@ -2,7 +2,7 @@
 //!
 //! `specs/Words.antt` has the definition. Words are lent slices of the text.
 
-ghost use Rattle.std.specs.Prelude.{◌≡◌, ◌+◌, ◌<◌, ◌++◌, length, drop, map, IfOk, MatchOption, slice_index};
+ghost use Rattle.std.specs.Prelude.{◌≡◌, ◌+◌, ◌<◌, ◌++◌, length, take, drop, map, IfOk, MatchOption, slice_index};
 ghost use Rattle.ux_grf.specs.Words.{is_gap, word_in, words_of, HasNoGapBefore, IsFirstGap};
 
 use std::alloc::{AllocError, Global};
@@ -53,7 +53,8 @@ fn first_gap(gap: Gap, text: &str) -> Option<usize>
         .position(|byte| is_gap_byte(gap, *byte))
 }
 
-fn is_gap_byte(gap: Gap, byte: u8) -> bool
+/// Whether the byte stands between words.
+pub fn is_gap_byte(gap: Gap, byte: u8) -> bool
     ensures { result ≡ is_gap gap byte }
 {
     match gap {
@@ -69,4 +70,31 @@ pub fn behind(text: &str, place: usize) -> &str
     ensures { result.now ≡ drop (place + 1) text.now }
 {
     &text[place + 1..]
+}
+
+/// What stands before an ASCII character.
+pub fn before(text: &str, place: usize) -> &str
+    requires inside { place < length text.now }
+    requires ascii { slice_index text.now place < 128 }
+    ensures { result.now ≡ take place text.now }
+{
+    &text[..place]
+}
+
+/// What stands from an ASCII character on.
+pub fn from(text: &str, place: usize) -> &str
+    requires inside { place < length text.now }
+    requires ascii { slice_index text.now place < 128 }
+    ensures { result.now ≡ drop place text.now }
+{
+    &text[place..]
+}
+
+/// What stands up to an ASCII character, with it.
+pub fn through(text: &str, place: usize) -> &str
+    requires inside { place < length text.now }
+    requires ascii { slice_index text.now place < 128 }
+    ensures { result.now ≡ take (place + 1) text.now }
+{
+    &text[..place + 1]
 }

@@ -90,6 +90,10 @@ one_place (first ∷ texts) apart (suc i) zero text at also =
 one_place (first ∷ texts) apart (suc i) (suc j) text at also =
     ap suc (one_place texts apart.1 i j text at also)
 
+-- no text stands at two places
+pub each_once-once : (texts : List (List ℕ)) → StandOnce (each_once texts)
+each_once-once texts = one_place (each_once texts) (each_once-apart texts)
+
 -- so two numbers of one text are one
 pub different_texts-once : (tokens : List Token) → StandOnce (different_texts tokens)
 different_texts-once tokens =

@@ -127,6 +127,18 @@ fn extend_run<'a>(
                     match item {
                         Item::Literal(text) => extended.push(text.as_str())?,
                         Item::Empty => (),
+                        // No graph of these rows has another item.
+                        Item::Quoted(_)
+                        | Item::Mask(_)
+                        | Item::Brace(_)
+                        | Item::Glue
+                        | Item::Call(_)
+                        | Item::Begin(_)
+                        | Item::End(_)
+                        | Item::Positive
+                        | Item::Negative
+                        | Item::ContextEnd
+                        | Item::Cut => (),
                     }
                 }
                 longer.push((*target as usize, extended))?;

@@ -107,7 +107,7 @@ fn refuses_alphabets(rt: HostRuntime) -> Result<(), Fail> {
 
 #[test]
 fn refuses_graphs(rt: HostRuntime) -> Result<(), Fail> {
-    let cases: [(&str, &[u8], &str); 11] = [
+    let cases: [(&str, &[u8], &str); 8] = [
         ("no header", b"#Graph\n#\n2\n", "refused: g.grf: NoHeader\n"),
         (
             "no end of the header",
@@ -133,21 +133,6 @@ fn refuses_graphs(rt: HostRuntime) -> Result<(), Fail> {
             "a target too far",
             b"#Unigraph\n#\n2\n\"\" 0 0 1 2 \n\"\" 0 0 0 \n",
             "refused: g.grf: BadTarget node=0\n",
-        ),
-        (
-            "quotes",
-            b"#Unigraph\n#\n3\n\"\" 0 0 1 2 \n\"\" 0 0 0 \n\"\\\"the\\\"\" 0 0 1 1 \n",
-            "refused: g.grf: NotYet\n",
-        ),
-        (
-            "a call",
-            b"#Unigraph\n#\n3\n\"\" 0 0 1 2 \n\"\" 0 0 0 \n\":X\" 0 0 1 1 \n",
-            "refused: g.grf: NotYet\n",
-        ),
-        (
-            "a loop",
-            b"#Unigraph\n#\n3\n\"\" 0 0 1 2 \n\"\" 0 0 0 \n\"a\" 0 0 2 1 2 \n",
-            "refused: g.grf: NotYet\n",
         ),
         ("no text", b"#Unigraph\n\xc3", "refused: g.grf: NotYet\n"),
         (

@@ -1,11 +1,10 @@
 use Rattle.std.proofs.Common.{take, [], List, ℕ}
-use Rattle.unitex.specs.Searching.{Includes, EndsBehind}
+use Rattle.unitex.specs.Searching.{Includes, IsEndOf}
 use Rattle.unitex.proofs.Collecting.{Among}
 use Rattle.unitex.proofs.searching.end_positions.Given as goal
 
--- the ends of the configurations so far were added
-abbrev pub invariant-loop-configuration : goal.invariant-loop-configuration
-invariant-loop-configuration l =
+-- the ends of the derivations so far were added
+abbrev pub invariant-loop-derivation : goal.invariant-loop-derivation
+invariant-loop-derivation l =
     let none : List ℕ = [] in
-    Includes (Among (EndsBehind l.places l.start)
-    (take l.configuration-index l.configuration-items)) none l.positions.keys
+    Includes (Among (IsEndOf l.start) (take l.derivation-index l.found)) none l.positions.keys

@@ -1,53 +1,54 @@
-use Rattle.std.proofs.Common.{◌+◌, List, map, subst, arith}
-use Rattle.std.proofs.lemmas.List.{take_all}
-use Rattle.ux_tokens.specs.Tokens.{Token}
-use Rattle.unitex.specs.Places.{place_graph}
+use Rattle.std.proofs.Common.{◌+◌, sym, subst, arith}
+use Rattle.ux_net.specs.Nets.{net_grammar}
 use Rattle.unitex.specs.Spans.{IsSpan}
-use Rattle.unitex.specs.Searching.{AreReached}
-use Rattle.unitex.proofs.Listing.{listed_skip, listed_more, listed_all, none_begins, span_of_end, end_of_span, span_within}
+use Rattle.unitex.proofs.Listing.{AreDerived, listed_skip, listed_more, listed_all, none_begins, span_of_end, end_of_span, span_within}
 use Rattle.unitex.proofs.searching.hits.Goals as goal
 
-pub loop-start-preserved-then-not-may_begin : goal.loop-start-preserved-then-not-may_begin
-loop-start-preserved-then-not-may_begin c = record {
-  sound = rw (← c.as_slice.ensures.value) c.may_begin.ensures.sound;
-  count = c.may_begin.ensures.count;
-  listed = listed_skip (IsSpan c.args.alphabet.now c.args.text.now (place_graph c.args.places.now))
-      c.loop-start.start c.loop-start.hits.items
-      c.loop-start.invariant.listed
-      (none_begins c.args.alphabet.now c.args.text.now c.args.places.now
-      (map (λ e. e.now) c.as_slice.result.now) c.loop-start.start
-      (rw c.as_slice.ensures.value c.in_ok-entries.ensures)
-      (c.may_begin.ensures.none c.if-not-may_begin.true));
-}
+pub loop-start-preserved-then-not-is_start : goal.loop-start-preserved-then-not-is_start
+loop-start-preserved-then-not-is_start c =
+    let alphabet = c.args.alphabet.now in
+    let tokens = c.args.text.now in
+    let grammar = net_grammar c.args.net.now in
+    record {
+      sound = c.loop-start.invariant.sound;
+      listed = listed_skip (IsSpan alphabet tokens grammar) c.loop-start.start
+          c.loop-start.hits.items c.loop-start.invariant.listed
+          (none_begins alphabet tokens grammar c.loop-start.start
+          (λ starts.
+          let yes = c.is_start.ensures.1 starts in
+          let no = c.if-not-is_start.true in
+          cc));
+    }
 
 pub loop-start-preserved : goal.loop-start-preserved
 loop-start-preserved c =
-    let Is = IsSpan c.args.alphabet.now c.args.text.now (place_graph c.args.places.now) in
-    let starts = c.may_begin.ensures.start c.if-not-may_begin.false in
-    let are : AreReached c.args.alphabet.now c.args.text.now c.args.places.now c.loop-start.start
-    c.reach.new.reached.keys =
-    subst (λ (ts : List Token). AreReached c.args.alphabet.now ts c.args.places.now
-    c.loop-start.start c.reach.new.reached.keys)
-    (take_all c.len.result c.args.text.now (omega (arith, c.len.ensures))) c.in_ok-reach.ensures in
+    let alphabet = c.args.alphabet.now in
+    let tokens = c.args.text.now in
+    let grammar = net_grammar c.args.net.now in
+    let start = c.loop-start.start in
+    let found = c.as_slice.result.now in
+    let starts = c.is_start.ensures.0 c.if-not-is_start.false in
+    let are : AreDerived alphabet tokens grammar start found =
+    subst (AreDerived alphabet tokens grammar start) (sym c.as_slice.ensures.value)
+    c.in_ok-found.ensures.exactly in
     let pushed = c.in_ok-push_hits.ensures in
     record {
-      sound = rw (← c.as_slice.ensures.value) c.may_begin.ensures.sound;
-      count = c.may_begin.ensures.count;
-      listed = listed_more Is c.loop-start.start c.loop-start.hits.items c.push_hits.new.hits.items
-          pushed.0 c.loop-start.invariant.listed
-          pushed.1 pushed.2
-          (λ e inside. span_of_end c.args.alphabet.now c.args.text.now c.args.places.now
-          c.loop-start.start e c.reach.new.reached.keys starts are ((pushed.3 e).0 inside))
+      sound = c.walk_with.ensures.sound;
+      listed = listed_more (IsSpan alphabet tokens grammar) start c.loop-start.hits.items
+          c.push_hits.new.hits.items pushed.0 c.loop-start.invariant.listed pushed.1 pushed.2
+          (λ e inside. span_of_end alphabet tokens grammar start e found starts are
+          ((pushed.3 e).0 inside))
           (λ span here is. (pushed.3 (span.last + 1)).1
-          (end_of_span c.args.alphabet.now c.args.text.now c.args.places.now c.loop-start.start
-          c.reach.new.reached.keys are span here is));
+          (end_of_span alphabet tokens grammar start found are span here is));
     }
 
 pub returns : goal.returns
 returns c =
-    listed_all (IsSpan c.args.alphabet.now c.args.text.now (place_graph c.args.places.now))
-    c.loop-start.start c.loop-start.hits.items
+    let alphabet = c.args.alphabet.now in
+    let tokens = c.args.text.now in
+    let grammar = net_grammar c.args.net.now in
+    listed_all (IsSpan alphabet tokens grammar) c.loop-start.start c.loop-start.hits.items
     c.loop-start.invariant.listed
-    (λ span is. let lt = span_within c.args.alphabet.now c.args.text.now c.args.places.now span is
-    in
+    (λ span is.
+    let lt = span_within alphabet tokens grammar span is in
     omega (arith, lt, c.loop-start-test.false, c.len-start-end.ensures))

@@ -1,14 +1,13 @@
-use Rattle.std.proofs.Common.{◌≡◌, map, length}
+use Rattle.ux_net.specs.Nets.{net_grammar}
 use Rattle.ux_tokens.specs.Numbers.{different_texts}
-use Rattle.unitex.specs.Places.{place_graph}
-use Rattle.unitex.specs.Searching.{AreSound, ListsUpTo}
+use Rattle.ux_walk.specs.LookUps.{AreSound}
+use Rattle.unitex.specs.Searching.{ListsUpTo}
 use Rattle.unitex.specs.Spans.{IsSpan}
 use Rattle.unitex.proofs.searching.hits.Given as goal
 
--- the spans that begin before the token are listed, and the marks are sound
+-- the spans that begin before the token are listed, and what was looked up is right
 abbrev pub invariant-loop-start : goal.invariant-loop-start
 invariant-loop-start l = record {
-  sound : AreSound l.alphabet (map (λ e. e.now) l.entries.items) l.text l.beginnings.items;
-  count : length l.beginnings.items ≡ length (different_texts l.text);
-  listed : ListsUpTo (IsSpan l.alphabet l.text (place_graph l.places)) l.start l.hits.items;
+  sound : AreSound l.alphabet l.net (different_texts l.text) l.look_ups;
+  listed : ListsUpTo (IsSpan l.alphabet l.text (net_grammar l.net)) l.start l.hits.items;
 }

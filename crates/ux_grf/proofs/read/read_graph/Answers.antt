@@ -1,8 +1,8 @@
-use Rattle.std.proofs.Common.{arith, sym, ◌∙◌, ap, ◌<◌, subst, length, List, Some, map, refl}
+use Rattle.std.proofs.Common.{arith, sym, ◌∙◌, ap, ◌<◌, ◌≤◌, subst, length, List, Some, map, refl}
 use Rattle.std.proofs.lemmas.Result.{MatchResult-weaker}
 use Rattle.ux_grf.specs.declared.box_line.BoxLine.{BoxLine}
 use Rattle.ux_grf.specs.BoxLine.{said_by}
-use Rattle.ux_grf.specs.Search.{IsInside}
+use Rattle.ux_digraph.specs.Paths.{IsInside}
 use Rattle.ux_grf.specs.Header.{behind_header}
 use Rattle.ux_grf.proofs.ReadLemmas.{boxes_len, boxes_inside, texts_refuse}
 use Rattle.ux_grf.proofs.read.read_graph.Goals as goal
@@ -13,6 +13,13 @@ make_graph-requires-clause-two c =
     in
     let two = c.in_ok-count.ensures.range.0 in
     subst (λ (bs : List BoxLine). 1 < length bs) (sym c.deref.ensures.value) (omega arith)
+
+pub make_graph-requires-clause-most : goal.make_graph-requires-clause-most
+make_graph-requires-clause-most c =
+    let len = boxes_len c.in_ok-count.count _ c.in_ok-boxes.boxes.items c.in_ok-boxes.ensures.texts
+    in
+    let most = c.in_ok-count.ensures.range.1 in
+    subst (λ (bs : List BoxLine). length bs ≤ 65535) (sym c.deref.ensures.value) (omega arith)
 
 pub make_graph-requires-clause-inside : goal.make_graph-requires-clause-inside
 make_graph-requires-clause-inside c =

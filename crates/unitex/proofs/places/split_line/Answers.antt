@@ -1,8 +1,0 @@
-use Rattle.unitex.proofs.SplittingLemmas.{split_line_more}
-use Rattle.unitex.proofs.places.split_line.Goals as goal
-
-pub loop-item-preserved : goal.loop-item-preserved
-loop-item-preserved c =
-    split_line_more c.args.alphabet.now c.args.line.now c.loop-item.item-index
-    c.item-item.result _ _ c.loop-item-test.true c.item-item.is c.loop-item.invariant
-    c.in_ok-split_item.ensures

@@ -1,0 +1,243 @@
+-- The parts of compiling fit together: what each gives is what the next one asks for.
+use Rattle.std.proofs.Common.{arith, ◌≡◌, ℕ, zero, suc, ◌+◌, ◌-◌, ◌<◌, ◌≤◌, List, [], ◌∷◌, ◌++◌, refl, sym, ◌∙◌, ap, subst, Bool, true, false, ◌||◌, inl, inr, length, length-append, get_or, map, take, Some}
+use Rattle.std.specs.Prelude.{All, Contains, slice_get, string_bytes, nat_lt}
+use Rattle.std.specs.List.{AllZip, list_any}
+use Rattle.std.specs.Option.{option_map}
+use Rattle.std.proofs.lemmas.List.{take_all, map-append, get_or_default}
+use Rattle.std.proofs.lemmas.List.Elements.{All-contains, Contains-get_or}
+use Rattle.std.proofs.lemmas.List.Folds.{list_any_at}
+use Rattle.std.proofs.lemmas.Option.{slice_get-map, slice_get_read, slice_get_within, get_or_from_slice_get}
+use Rattle.ux_tokens.proofs.CutLemmas.{slice_get-push_cases}
+use Rattle.ux_alphabet.specs.declared.line.Line.{Line}
+use Rattle.ux_grf.specs.declared.graph.GrfBox.{GrfBox}
+use Rattle.ux_grf.specs.declared.item.Item.{Item}
+use Rattle.ux_grf.specs.declared.item.Item.TheVariants as item
+use Rattle.ux_grf.proofs.CallsLemmas.{called_names-Contains}
+use Rattle.ux_net.specs.declared.net_graph.NetGraph.{NetGraph}
+use Rattle.ux_net.specs.declared.place.Place.{Place}
+use Rattle.ux_net.specs.Boxes.{Drawn, boxes_of, names_of}
+use Rattle.ux_net.specs.Compiling.{AreSplit}
+use Rattle.ux_net.specs.Nets.{graph_at}
+use Rattle.ux_net.specs.Places.{ArePlaces, places_of}
+use Rattle.ux_net.specs.Ranks.{ranks_of, frees_of, IsBuilt, AreBuilt}
+use Rattle.ux_net.specs.Refusing.{drawn_of, drawn, is_named, is_beyond, has_beyond_line, has_beyond, HasNoBeyond, AreCompiled, AreWhole, calls_in, calls_of}
+use Rattle.ux_net.specs.Splitting.{IsSplittable, IsSplittableBox}
+use Rattle.ux_net.proofs.NumbersLemmas.{places_at}
+use Rattle.ux_net.proofs.RefusingLemmas.{Given}
+use Rattle.ux_net.proofs.SplittingLemmas.{AllZip-grown, take-next}
+
+-- the graph of a number, counted from 1, has the name of the one there
+pub named_number : (graphs : List Given) (g : ℕ) (graph : Given) → 1 ≤ g → g ≤ length graphs →
+    graph ≡ get_or graphs (g - 1) graph → is_named (drawn graphs) g (string_bytes graph.0)
+named_number graphs zero graph from to is = absurd (omega (arith, from))
+named_number graphs (suc n) graph from to is =
+    let same : suc n - 1 ≡ n = omega arith in
+    slice_get-map (λ (d : Drawn). d.name) (drawn graphs) n
+    ∙ ap (option_map (λ (d : Drawn). d.name)) (slice_get-map drawn_of graphs n
+    ∙ ap (option_map drawn_of) (slice_get_read graphs (length graphs) n graph refl
+    (omega (arith, to)) (is ∙ ap (λ m. get_or graphs m graph) same)))
+
+-- the places of each graph are those of its boxes
+abbrev pub AreSplitTo : List Line → List (List ℕ) → List Given → List (List Place) → Type 0
+AreSplitTo alphabet names graphs places =
+    AllZip (λ (graph : Given) (p : List Place). ArePlaces alphabet names graph.1.boxes p) graphs places
+
+module _ (alphabet : List Line) (names : List (List ℕ)) where
+  abbrev Are : Given → List Place → Type 0
+  Are graph p = ArePlaces alphabet names graph.1.boxes p
+
+  -- those of one graph more
+  pub split_more : (graphs : List Given) (i : ℕ) (graph : Given) (places : List (List Place))
+      (one : List Place) → i < length graphs → graph ≡ get_or graphs i graph →
+      AreSplitTo alphabet names (take i graphs) places →
+      ArePlaces alphabet names graph.1.boxes one →
+      AreSplitTo alphabet names (take (i + 1) graphs) (places ++ one ∷ [])
+  split_more graphs i graph places one within is so_far here =
+      subst (λ (l : List Given). AreSplitTo alphabet names l (places ++ one ∷ []))
+      (take-next graphs i graph within is)
+      (AllZip-grown Are (take i graphs) places graph one so_far here)
+
+  split_len : (graphs : List Given) (places : List (List Place)) →
+      AreSplitTo alphabet names graphs places → length places ≡ length (drawn graphs)
+  split_len [] [] z = refl
+  split_len [] (p ∷ places) z = absurd z
+  split_len (graph ∷ graphs) [] z = absurd z
+  split_len (graph ∷ graphs) (p ∷ places) z = ap suc (split_len graphs places z.1)
+
+  split_each : (graphs : List Given) (places : List (List Place)) →
+      AreSplitTo alphabet names graphs places → (n : ℕ) → n < length (drawn graphs) →
+      ArePlaces alphabet names (boxes_of (drawn graphs) (suc n)) (places_of places (suc n))
+  split_each [] places z n h = absurd (omega (arith, h))
+  split_each (graph ∷ graphs) [] z n h = absurd z
+  split_each (graph ∷ graphs) (p ∷ places) z zero h = z.0
+  split_each (graph ∷ graphs) (p ∷ places) z (suc n) h =
+      split_each graphs places z.1 n (omega (arith, h))
+
+-- at the end those of all graphs
+pub split_all : (alphabet : List Line) (graphs : List Given) (names : List (List ℕ))
+    (places : List (List Place)) (i : ℕ) → length graphs ≤ i → names ≡ names_of (drawn graphs) →
+    AreSplitTo alphabet names (take i graphs) places → AreSplit alphabet (drawn graphs) places
+split_all alphabet graphs names places i past is so_far =
+    let whole : AreSplitTo alphabet (names_of (drawn graphs)) graphs places =
+    subst (λ (l : List (List ℕ)). AreSplitTo alphabet l graphs places) is
+    (subst (λ (l : List Given). AreSplitTo alphabet names l places)
+    (take_all i graphs past) so_far) in
+    record {
+      count = split_len alphabet (names_of (drawn graphs)) graphs places whole;
+      each = split_each alphabet (names_of (drawn graphs)) graphs places whole;
+    }
+
+-- so many graphs are built, and have their names
+pub record AreBuiltTo (graphs : List Given) (places : List (List Place)) (ranks : List (List ℕ))
+    (free : List (List Bool)) (net : List NetGraph) (i : ℕ) : Type 0 where
+  pub count : length net ≡ i
+  pub each : (n : ℕ) (graph : NetGraph) → slice_get net n ≡ Some graph →
+      IsBuilt (places_of places (suc n)) (get_or ranks n []) (get_or free n []) graph
+  pub names : map (λ (graph : NetGraph). graph.name) net ≡ names_of (drawn (take i graphs))
+
+module _ (graphs : List Given) (places : List (List Place)) (ranks : List (List ℕ))
+    (free : List (List Bool)) where
+  pub built_start : AreBuiltTo graphs places ranks free [] 0
+  built_start = record {
+    count = refl;
+    each = λ n graph found.
+        let w = slice_get_within [] n graph found in absurd (omega (arith, w));
+    names = refl;
+  }
+
+  -- one graph more
+  pub built_more : (net : List NetGraph) (i : ℕ) (graph : Given) (one : NetGraph) →
+      i < length graphs → graph ≡ get_or graphs i graph →
+      AreBuiltTo graphs places ranks free net i →
+      IsBuilt (places_of places (suc i)) (get_or ranks i []) (get_or free i []) one →
+      one.name ≡ string_bytes graph.0 →
+      AreBuiltTo graphs places ranks free (net ++ one ∷ []) (i + 1)
+  built_more net i graph one within is so_far here name = record {
+    count = let len = length-append net (one ∷ []) in let c = so_far.count in omega (arith, len, c);
+    each = λ n other found. elim (slice_get-push_cases net one n other found) [
+      | inl h ↦ so_far.each n other h.1
+      | inr h ↦
+          let at : i ≡ n = sym so_far.count ∙ sym h.0 in
+          subst (λ (k : ℕ). IsBuilt (places_of places (suc k)) (get_or ranks k [])
+          (get_or free k []) other) at
+          (subst (IsBuilt (places_of places (suc i)) (get_or ranks i []) (get_or free i []))
+          h.1 here)
+    ];
+    names =
+        map-append (λ (g : NetGraph). g.name) net (one ∷ [])
+        ∙ (ap (λ (l : List (List ℕ)). l ++ one.name ∷ []) so_far.names
+        ∙ (ap (λ (n : List ℕ). names_of (drawn (take i graphs)) ++ n ∷ []) name
+        ∙ sym (ap (λ (l : List Given). names_of (drawn l)) (sym (take-next graphs i graph within is))
+        ∙ (ap (λ (l : List Drawn). names_of l) (map-append drawn_of (take i graphs) (graph ∷ []))
+        ∙ map-append (λ (d : Drawn). d.name) (drawn (take i graphs)) (drawn_of graph ∷ [])))));
+  }
+
+  pub built_all : (net : List NetGraph) (i : ℕ) → i ≡ length graphs →
+      length places ≡ length graphs →
+      AreBuiltTo graphs places ranks free net i → AreBuilt places ranks free net
+  built_all net i is same so_far = record {
+    count = so_far.count ∙ (is ∙ sym same);
+    each = each;
+  }
+    where
+      each : (g : ℕ) (graph : NetGraph) → graph_at net g ≡ Some graph →
+          IsBuilt (places_of places g) (ranks_of ranks g) (frees_of free g) graph
+      each zero graph found = cc
+      each (suc n) graph found = so_far.each n graph found
+
+-- a graph that is built of what stands at a place of the three lists
+pub built_at : (places : List (List Place)) (ranks : List (List ℕ)) (free : List (List Bool))
+    (i : ℕ) (p : List Place) (r : List ℕ) (f : List Bool) (one : NetGraph)
+    (places_here : List Place) (ranks_here : List ℕ) (free_here : List Bool) →
+    i < length places → i < length ranks → i < length free →
+    places_here ≡ get_or places i places_here → ranks_here ≡ get_or ranks i ranks_here →
+    free_here ≡ get_or free i free_here → p ≡ places_here → r ≡ ranks_here → f ≡ free_here →
+    IsBuilt p r f one → IsBuilt (places_of places (suc i)) (get_or ranks i []) (get_or free i []) one
+built_at places ranks free i p r f one places_here ranks_here free_here in_p in_r in_f at_p at_r
+    at_f same_p same_r same_f built =
+    subst (λ (l : List Place). IsBuilt l (get_or ranks i []) (get_or free i []) one)
+    (same_p ∙ (at_p ∙ sym (places_at places i places_here in_p)))
+    (subst (λ (l : List ℕ). IsBuilt p l (get_or free i []) one)
+    (same_r ∙ (at_r ∙ get_or_default ranks i ranks_here [] in_r))
+    (subst (λ (l : List Bool). IsBuilt p r l one)
+    (same_f ∙ (at_f ∙ get_or_default free i free_here [] in_f)) built))
+
+-- an item that is compiled, and of which each call finds a graph, has labels
+splittable : (names : List (List ℕ)) (x : Item) → is_beyond x ≡ false →
+    ((name : List ℕ) → x ≡ item.Call name → Contains names name) → IsSplittable names x
+splittable names (item.Literal text) b there = tt
+splittable names (item.Quoted text) b there = tt
+splittable names item.Glue b there = tt
+splittable names item.Empty b there = tt
+splittable names (item.Call name) b there = there name refl
+splittable names (item.Mask text) b there = cc
+splittable names (item.Brace text) b there = cc
+splittable names (item.Begin name) b there = cc
+splittable names (item.End name) b there = cc
+splittable names item.Positive b there = cc
+splittable names item.Negative b there = cc
+splittable names item.ContextEnd b there = cc
+splittable names item.Cut b there = cc
+
+-- where no element passes a test, each fails it
+none_passes : {A : Type 0} (p : A → Bool) (xs : List A) (x : A) → list_any p xs ≡ false →
+    Contains xs x → p x ≡ false
+none_passes p xs x none (k, lt, is) = by (p x) refl
+  where
+    by : (b : Bool) → p x ≡ b → p x ≡ false
+    by false e = e
+    by true e =
+        let some : list_any p xs ≡ true =
+        list_any_at p xs k x lt (ap p is ∙ e) in
+        absurd cc
+
+-- of two tests neither of which passes, the first doesn't
+first_fails : (a b : Bool) → (a || b) ≡ false → a ≡ false
+first_fails false b h = refl
+first_fails true b h = cc
+
+all_in : {A : Type 0} (P : A → Type 0) (xs : List A) → ((x : A) → Contains xs x → P x) → All P xs
+all_in P xs each i d lt = each (get_or xs i d) (Contains-get_or xs i d lt)
+
+module _ (graphs : List Given) (whole : AreWhole (drawn graphs))
+    (compiled : AreCompiled (drawn graphs)) where
+  abbrev names : List (List ℕ)
+  names = names_of (drawn graphs)
+
+  -- each box of each graph can be split
+  pub all_splittable :
+      All (λ (graph : Given). All (IsSplittableBox names) graph.1.boxes) graphs
+  all_splittable = all_in (λ (graph : Given). All (IsSplittableBox names) graph.1.boxes) graphs
+      (λ graph there. all_in (IsSplittableBox names) graph.1.boxes
+      (λ box of_graph. all_in (All (IsSplittable names)) box.lines
+      (λ line of_box. all_in (IsSplittable names) line
+      (λ x of_line. one graph there box of_graph line of_box x of_line))))
+    where
+      one : (graph : Given) → Contains graphs graph → (box : GrfBox) →
+          Contains graph.1.boxes box → (line : List Item) → Contains box.lines line →
+          (x : Item) → Contains line x → IsSplittable names x
+      one graph (n, lt, is) box of_graph line of_box x of_line =
+          splittable names x
+          (none_passes is_beyond line x
+          (none_passes has_beyond_line box.lines line
+          (first_fails (list_any has_beyond_line box.lines) (nat_lt 0 (length box.output))
+          (All-contains (λ (b : GrfBox). has_beyond b ≡ false) graph.1.boxes box
+          here of_graph)) of_box) of_line)
+          (λ name call. whole n name
+          (subst (λ (l : List (List ℕ)). Contains l name) (sym calls_at)
+          ((called_names-Contains (record { boxes = graph.1.boxes }) name).1
+          (box, line, of_graph, of_box, subst (λ (y : Item). Contains line y) call of_line))))
+        where
+          at : slice_get (drawn graphs) n ≡ Some (drawn_of graph)
+          at =
+              slice_get-map drawn_of graphs n
+              ∙ ap (option_map drawn_of) (slice_get_read graphs (length graphs) n graph refl lt (sym is))
+
+          calls_at : calls_in (slice_get (drawn graphs) n) ≡ calls_of (drawn_of graph)
+          calls_at = ap calls_in at
+
+          here : HasNoBeyond graph.1.boxes
+          here =
+              subst (λ (d : Drawn). HasNoBeyond d.boxes)
+              (get_or_from_slice_get (drawn graphs) n (drawn_of graph) (drawn_of graph) at)
+              (compiled n (drawn_of graph) (slice_get_within (drawn graphs) n (drawn_of graph) at))

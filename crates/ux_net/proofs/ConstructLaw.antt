@@ -1,0 +1,429 @@
+-- The states that are made of places have the words of the places, and their edges stay inside.
+use Rattle.std.proofs.Common.{arith, ◌≡◌, ◌≢◌, ℕ, zero, suc, ◌+◌, ◌-◌, ◌<◌, ◌≤◌, List, [], ◌∷◌, ◌++◌, refl, sym, ◌∙◌, ap, subst, ◌⊎◌, inl, inr, length, append-nil, get_or, drop, drop-cons, Bool, true, false, cond, add-one, rules}
+use Rattle.std.specs.Prelude.{Some, slice_get, Contains, ltb, nat_eq, ◌||◌}
+use Rattle.std.specs.List.{range_with_len, list_any, flat_map}
+use Rattle.std.proofs.lemmas.Option.{same_Some, slice_get_within, slice_get-get_or}
+use Rattle.std.proofs.lemmas.Bool.{eqb-true}
+use Rattle.ux_net.specs.declared.label.Label.{Label}
+use Rattle.ux_net.specs.declared.label.Label.TheVariants.{Empty}
+use Rattle.ux_net.specs.declared.place.Place.{Place}
+use Rattle.ux_net.specs.declared.state.Edge.{Edge}
+use Rattle.ux_net.specs.declared.state.State.{State}
+use Rattle.ux_net.specs.Words.{Step, StepGraph, letter_of, letters, Run, stop, along, HaveSameWords}
+use Rattle.ux_net.specs.Places.{label_lines, place_targets, IsPlaceStep, IsEndPlace, place_graph}
+use Rattle.ux_net.specs.Nets.{IsNetStep, IsNetEnd, net_graph}
+use Rattle.ux_net.specs.Construct.{labels_in, has_state, number, labels_at, chain_len, first_chain, target_of, edge_of, edges_to, place_state, chain_state, at_place, along_lines, states_of, AreFit, AreTargetsInside}
+use Rattle.ux_net.proofs.JoinedLemmas.{less_or, nothing_in, first_or_later, contains_first, contains_later, contains_joined, contained_joined, contains_mapped, contained_mapped, contains_range, contained_range}
+use Rattle.ux_net.proofs.RefineLemmas.{Refines, same_words}
+use Rattle.ux_net.proofs.StatesLemmas.{total, total_few, line_there, line_some, place_inside, get_place, get_chain, length_by_state, Stands, of_a_place, of_a_line, stands}
+
+-- tests
+pub lt_then : {A : Type 0} (i n : ℕ) (x y : A) → i < n → cond (ltb i n) x y ≡ x
+lt_then i n x y h = let e : ltb i n ≡ true = search (rules, arith) in rw e refl
+
+pub lt_else : {A : Type 0} (i n : ℕ) (x y : A) → n ≤ i → cond (ltb i n) x y ≡ y
+lt_else i n x y h = let e : ltb i n ≡ false = search (rules, arith) in rw e refl
+
+has_one : (xs : List ℕ) → Contains xs 1 → list_any (λ x. nat_eq x 1) xs ≡ true
+has_one [] h = absurd (nothing_in h)
+has_one (x ∷ xs) h = elim (first_or_later x xs 1 h) [
+  | inl e ↦ rw e refl
+  | inr l ↦ let r = has_one xs l in rw r (go (nat_eq x 1))
+]
+  where
+    go : (b : Bool) → (b || true) ≡ true
+    go true = refl
+    go false = refl
+
+pub one_in : (xs : List ℕ) → list_any (λ x. nat_eq x 1) xs ≡ true → Contains xs 1
+one_in [] h = cc
+one_in (x ∷ xs) h = go (nat_eq x 1) refl h (λ later. one_in xs later)
+  where
+    go : (b : Bool) → nat_eq x 1 ≡ b → (b || list_any (λ y. nat_eq y 1) xs) ≡ true →
+        (list_any (λ y. nat_eq y 1) xs ≡ true → Contains xs 1) → Contains (x ∷ xs) 1
+    go true is h later =
+        subst (λ y. Contains (y ∷ xs) 1) (sym (eqb-true x 1 is)) (contains_first 1 xs)
+    go false is h later = contains_later x xs 1 (later h)
+
+-- letters of the rest of a line
+letters_more : (line : List Label) (k : ℕ) → k < length line →
+    letters (drop k line) ≡ letter_of (get_or line k Empty) ++ letters (drop (k + 1) line)
+letters_more line k h = let e = add-one k in rw e (ap letters (drop-cons line k Empty h))
+
+pub drop_whole : (line : List Label) (k : ℕ) → length line ≤ k → drop k line ≡ []
+drop_whole [] zero h = refl
+drop_whole [] (suc k) h = refl
+drop_whole (x ∷ xs) zero h = absurd (omega arith)
+drop_whole (x ∷ xs) (suc k) h = drop_whole xs k (omega arith)
+
+-- a line by its number
+line_number : (places : List Place) (b : ℕ) (line : List Label) →
+    Contains (label_lines places b) line →
+    (l : ℕ) × (l < length (label_lines places b)) × (labels_at places b l ≡ line)
+line_number places b line h =
+    let found = slice_get-get_or (label_lines places b) h.0 line h.1 in
+    (h.0, h.1, ap labels_in found ∙ h.2)
+
+module _ (places : List Place) (fit : AreFit places) where
+  abbrev new : StepGraph
+  new = net_graph (states_of places)
+
+  abbrev lines_of : ℕ → List (List Label)
+  lines_of b = label_lines places b
+
+  abbrev label : ℕ → ℕ → ℕ → Label
+  label b l k = get_or (labels_at places b l) k Empty
+
+  -- a place with a line has a state
+  pub has_line : (b l : ℕ) → l < length (lines_of b) → has_state places b ≡ true
+  has_line b l at = go (has_state places b) refl
+    where
+      go : (t : Bool) → has_state places b ≡ t → t ≡ true
+      go true is = refl
+      go false is =
+          absurd (let e = ap (length {A = List Label}) (fit.stateless b is) in omega arith)
+
+  pub not_end : (a : ℕ) → has_state places a ≡ true → a ≢ 1
+  not_end a has e = go a e has
+    where
+      go : (a : ℕ) → a ≡ 1 → has_state places a ≡ true → ⊥
+      go a e h =
+          let f : has_state places 1 ≡ true = subst (λ n. has_state places n ≡ true) e h in cc
+
+  -- place 0 has state 0
+  pub starts : has_state places 0 ≡ true
+  starts = fit.start
+
+  -- where a chain state stands, and the letters from there to its place
+  record InChain (n b : ℕ) (u : List Label) : Type 0 where
+    pub line : ℕ
+    pub inside : line < length (lines_of b)
+    pub k : ℕ
+    pub more : k < chain_len places b line
+    pub at : n ≡ first_chain places b line + k
+    pub rest : u ≡ letters (drop (k + 1) (labels_at places b line))
+
+  abbrev Ahead : ℕ → ℕ → List Label → Type 0
+  Ahead n b u = (has_state places b ≡ true) × (((n ≡ number places b) × (u ≡ [])) ⊎ InChain n b u)
+
+  -- behind a label of a line the letters of its later labels lie ahead
+  behind : (b l k : ℕ) → l < length (lines_of b) → k < length (labels_at places b l) →
+      Ahead (target_of places b l k) b (letters (drop (k + 1) (labels_at places b l)))
+  behind b l k at lt = elim (less_or (k + 1) (length (labels_at places b l))) [
+    | inl more ↦ (
+      has_line b l at,
+      inr (record {
+        line = l;
+        inside = at;
+        k = k;
+        more = omega arith;
+        at = lt_then (k + 1) (length (labels_at places b l)) (first_chain places b l + k)
+            (number places b) more;
+        rest = refl;
+      }),
+    )
+    | inr last ↦ (
+      has_line b l at,
+      inl (
+        lt_else (k + 1) (length (labels_at places b l)) (first_chain places b l + k)
+            (number places b) last,
+        ap letters (drop_whole (labels_at places b l) (k + 1) last),
+      ),
+    )
+  ]
+
+  -- a step along label k of a line
+  record AlongLabel (t : Step) (b l k : ℕ) : Type 0 where
+    to : t.to ≡ target_of places b l k
+    labels : t.labels ≡ label b l k ∷ []
+
+  step_letters : (t : Step) (b l k : ℕ) → AlongLabel t b l k → k < length (labels_at places b l) →
+      letters (drop k (labels_at places b l))
+      ≡ letters t.labels ++ letters (drop (k + 1) (labels_at places b l))
+  step_letters t b l k step lt =
+      letters_more (labels_at places b l) k lt
+      ∙ ap (λ x. x ++ letters (drop (k + 1) (labels_at places b l)))
+      (sym (ap letters step.labels ∙ append-nil (letter_of (label b l k))))
+
+  step_behind : (t : Step) (b l k : ℕ) → AlongLabel t b l k → l < length (lines_of b) →
+      k < length (labels_at places b l) →
+      Ahead t.to b (letters (drop (k + 1) (labels_at places b l)))
+  step_behind t b l k step at lt =
+      subst (λ n. Ahead n b (letters (drop (k + 1) (labels_at places b l)))) (sym step.to)
+      (behind b l k at lt)
+
+  along_edge : (t : Step) (b l k : ℕ) (edge : Edge) → edge_of places b l k ≡ edge →
+      t.to ≡ edge.target → t.labels ≡ edge.label ∷ [] → AlongLabel t b l k
+  along_edge t b l k edge is to labels = record {
+    to = to ∙ ap (λ (e : Edge). e.target) (sym is);
+    labels = labels ∙ ap (λ (e : Edge). e.label ∷ []) (sym is);
+  }
+
+  -- an edge of a place's state is that of the first label of a line of a target
+  pub of_target : (a : ℕ) (edge : Edge) → Contains (place_state places a).edges edge →
+      (b : ℕ) × Contains (place_targets places a) b × (l : ℕ) × (l < length (lines_of b))
+      × (edge_of places b l 0 ≡ edge)
+  of_target a edge h =
+      let c = contained_joined (edges_to places) (place_targets places a) edge h in
+      let m = contained_mapped (λ l. edge_of places c.0 l 0)
+      (range_with_len 0 (length (lines_of c.0))) edge c.2 in
+      (c.0, c.1, m.0, contained_range (length (lines_of c.0)) m.0 m.1, m.2)
+
+  pub to_target : (a b l : ℕ) → Contains (place_targets places a) b → l < length (lines_of b) →
+      Contains (place_state places a).edges (edge_of places b l 0)
+  to_target a b l leads at =
+      contains_joined (edges_to places) (place_targets places a) b (edge_of places b l 0) leads
+      (contains_mapped (λ l. edge_of places b l 0) (range_with_len 0 (length (lines_of b))) l
+      (contains_range (length (lines_of b)) l at))
+
+  pub only_edge : (edge other : Edge) → Contains (edge ∷ []) other → edge ≡ other
+  only_edge edge other h =
+      elim (first_or_later edge [] other h) [ inl e ↦ e | inr n ↦ absurd (nothing_in n) ]
+
+  pub place_is : (a n : ℕ) (state : State) → has_state places a ≡ true → n ≡ number places a →
+      slice_get (states_of places) n ≡ Some state → state ≡ place_state places a
+  place_is a n state has at found =
+      same_Some state (place_state places a) (sym found ∙ (ap (slice_get (states_of places)) at
+      ∙ get_place places (place_state places) (chain_state places) a has))
+
+  pub chain_is : (b l k n : ℕ) (state : State) → l < length (lines_of b) →
+      k < chain_len places b l → n ≡ first_chain places b l + k →
+      slice_get (states_of places) n ≡ Some state → state ≡ chain_state places b l k
+  chain_is b l k n state at lt is found =
+      same_Some state (chain_state places b l k) (sym found
+      ∙ (ap (slice_get (states_of places)) is
+      ∙ get_chain places (place_state places) (chain_state places) b l k
+      (place_inside places b (has_line b l at)) at lt))
+
+  -- from where the edge of label k begins, the letters from there lead to the place
+  edge_run : (m b l k n : ℕ) (state : State) → l < length (lines_of b) →
+      k + 1 + m ≡ length (labels_at places b l) → slice_get (states_of places) n ≡ Some state →
+      Contains state.edges (edge_of places b l k) →
+      Run new n (number places b) (letters (drop k (labels_at places b l)))
+  edge_run zero b l k n state at e found inside =
+      let t : Step = record { from = n; to = target_of places b l k; labels = label b l k ∷ [] } in
+      let along_label : AlongLabel t b l k = record { to = refl; labels = refl } in
+      let step : IsNetStep (states_of places) t = record {
+        state = state;
+        found = found;
+        edge = edge_of places b l k;
+        inside = inside;
+        to = refl;
+        label = refl;
+      } in
+      let to : target_of places b l k ≡ number places b =
+      lt_else (k + 1) (length (labels_at places b l)) (first_chain places b l + k)
+      (number places b) (omega arith) in
+      let none : letters (drop (k + 1) (labels_at places b l)) ≡ [] =
+      ap letters (drop_whole (labels_at places b l) (k + 1) (omega arith)) in
+      let word : letters t.labels ++ [] ≡ letters (drop k (labels_at places b l)) =
+      ap (λ x. letters t.labels ++ x) (sym none)
+      ∙ sym (step_letters t b l k along_label (omega arith)) in
+      subst (λ w. Run new n (number places b) w) word
+      (along t step (subst (λ m. Run new m (number places b) []) (sym to) stop))
+  edge_run (suc m) b l k n state at e found inside =
+      let t : Step = record { from = n; to = target_of places b l k; labels = label b l k ∷ [] } in
+      let along_label : AlongLabel t b l k = record { to = refl; labels = refl } in
+      let step : IsNetStep (states_of places) t = record {
+        state = state;
+        found = found;
+        edge = edge_of places b l k;
+        inside = inside;
+        to = refl;
+        label = refl;
+      } in
+      let to : target_of places b l k ≡ first_chain places b l + k =
+      lt_then (k + 1) (length (labels_at places b l)) (first_chain places b l + k)
+      (number places b) (omega arith) in
+      let there = get_chain places (place_state places) (chain_state places) b l k
+      (place_inside places b (has_line b l at)) at (omega arith) in
+      let later : Run new (first_chain places b l + k) (number places b)
+      (letters (drop (k + 1) (labels_at places b l))) =
+      edge_run m b l (k + 1) (first_chain places b l + k) (chain_state places b l k) at
+      (omega arith) there (contains_first (edge_of places b l (k + 1)) []) in
+      subst (λ w. Run new n (number places b) w)
+      (sym (step_letters t b l k along_label (omega arith)))
+      (along t step (subst (λ i. Run new i (number places b)
+      (letters (drop (k + 1) (labels_at places b l)))) (sym to) later))
+
+  forth : (s : Step) → has_state places s.from ≡ true → IsPlaceStep places s →
+      Run new (number places s.from) (number places s.to) (letters s.labels)
+  forth s has step =
+      let l = line_number places s.to s.labels step.line in
+      let some = line_some places fit s.to l.0 l.1 in
+      subst (λ (line : List Label).
+      Run new (number places s.from) (number places s.to) (letters line))
+      l.2
+      (edge_run (length (labels_at places s.to l.0) - 1) s.to l.0 0 (number places s.from)
+      (place_state places s.from) l.1 (omega arith)
+      (get_place places (place_state places) (chain_state places) s.from has)
+      (to_target s.from s.to l.0 step.leads l.1))
+
+  abbrev Back : Step → ℕ → List Label → Type 0
+  Back t b u = ((v : List Label) × Ahead t.to b v × (u ≡ letters t.labels ++ v))
+      ⊎ ((u ≡ []) × (s : Step) × IsPlaceStep places s × (s.from ≡ b)
+      × (v : List Label) × Ahead t.to s.to v × (letters s.labels ≡ letters t.labels ++ v))
+
+  back_place : (t : Step) (a : ℕ) (u : List Label) → has_state places a ≡ true →
+      IsNetStep (states_of places) t → t.from ≡ number places a → u ≡ [] → Back t a u
+  back_place t a u has step from none =
+      let same = place_is a t.from step.state has from step.found in
+      let e = of_target a step.edge
+      (subst (λ (x : State). Contains x.edges step.edge) same step.inside) in
+      let label = along_edge t e.0 e.2 0 step.edge e.4 step.to step.label in
+      let some = line_some places fit e.0 e.2 e.3 in
+      inr (
+        none,
+        record { from = a; to = e.0; labels = labels_at places e.0 e.2 },
+        record {
+          before_end = not_end a has;
+          leads = e.1;
+          line = line_there places e.0 e.2 e.3;
+        },
+        refl,
+        letters (drop (0 + 1) (labels_at places e.0 e.2)),
+        step_behind t e.0 e.2 0 label e.3 some,
+        step_letters t e.0 e.2 0 label some,
+      )
+
+  back_chain : (t : Step) (b : ℕ) (u : List Label) → IsNetStep (states_of places) t →
+      InChain t.from b u → Back t b u
+  back_chain t b u step c =
+      let same = chain_is b c.line c.k t.from step.state c.inside c.more c.at step.found in
+      let is = only_edge (edge_of places b c.line (c.k + 1)) step.edge
+      (subst (λ (x : State). Contains x.edges step.edge) same step.inside) in
+      let label = along_edge t b c.line (c.k + 1) step.edge is step.to step.label in
+      let lt : c.k + 1 < length (labels_at places b c.line) = let m = c.more in omega arith in
+      inl (
+        letters (drop ((c.k + 1) + 1) (labels_at places b c.line)),
+        step_behind t b c.line (c.k + 1) label c.inside lt,
+        c.rest ∙ step_letters t b c.line (c.k + 1) label lt,
+      )
+
+  ending : (n b : ℕ) (u : List Label) → Ahead n b u → IsNetEnd (states_of places) n →
+      (u ≡ []) × IsEndPlace places b
+  ending n b u ahead e = elim ahead.1 [
+    | inl here ↦
+        let same = place_is b n e.state ahead.0 here.0 e.found in
+        let final = subst (λ (x : State). x.is_final ≡ true) same e.final in
+        (here.1, (not_end b ahead.0, one_in (place_targets places b) final))
+    | inr c ↦
+        let same = chain_is b c.line c.k n e.state c.inside c.more c.at e.found in
+        absurd (let f : false ≡ true = subst (λ (x : State). x.is_final ≡ true) same e.final in cc)
+  ]
+
+  refines : Refines (number places) (λ a. has_state places a ≡ true) Ahead (place_graph places) new
+  refines = record {
+    start = starts;
+    keeps = λ s has step.
+        let l = line_number places s.to s.labels step.line in has_line s.to l.0 l.1;
+    here = λ a has. (has, inl (refl, refl));
+    starts = refl;
+    ends = λ a has e. record {
+      state = place_state places a;
+      found = get_place places (place_state places) (chain_state places) a has;
+      final = has_one (place_targets places a) e.1;
+    };
+    ends_back = λ n b u ahead e. ending n b u ahead e;
+    forth = forth;
+    back = λ t b u step ahead. elim ahead.1 [
+      | inl here ↦ back_place t b u ahead.0 step here.0 here.1
+      | inr c ↦ back_chain t b u step c
+    ];
+  }
+
+  -- the law: the states have the words of the places
+  pub construction_keeps_words : HaveSameWords (place_graph places) (net_graph (states_of places))
+  construction_keeps_words =
+      same_words (number places) (λ a. has_state places a ≡ true) Ahead (place_graph places) new
+      refines
+
+  -- the list that the code makes in two parts
+  pub built : (states front : List State) →
+      states ≡ front ++ flat_map (along_lines places (chain_state places))
+      (range_with_len 0 (length places)) →
+      front ≡ flat_map (at_place places (place_state places)) (range_with_len 0 (length places)) →
+      states ≡ states_of places
+  built states front is first =
+      is ∙ ap (λ (xs : List State). xs ++ flat_map (along_lines places (chain_state places))
+      (range_with_len 0 (length places))) first
+
+  pub states_length : length (states_of places) ≡ total places
+  states_length = length_by_state places (place_state places) (chain_state places)
+
+  pub states_some : 0 < length (states_of places)
+  states_some = slice_get_within (states_of places) 0 (place_state places 0)
+      (get_place places (place_state places) (chain_state places) 0 starts)
+
+  pub states_few : length (states_of places) < 4294967296
+  states_few = let t = total_few places fit in let e = states_length in omega arith
+
+  -- a label leads to a state that is there
+  target_inside : (b l k : ℕ) → l < length (lines_of b) → k < length (labels_at places b l) →
+      target_of places b l k < length (states_of places)
+  target_inside b l k at lt = elim (behind b l k at lt).1 [
+    | inl here ↦ slice_get_within (states_of places) (target_of places b l k) (place_state places b)
+        (ap (slice_get (states_of places)) here.0
+        ∙ get_place places (place_state places) (chain_state places) b (has_line b l at))
+    | inr c ↦ slice_get_within (states_of places) (target_of places b l k)
+        (chain_state places b c.line c.k)
+        (ap (slice_get (states_of places)) c.at
+        ∙ get_chain places (place_state places) (chain_state places) b c.line c.k
+        (place_inside places b (has_line b l at)) c.inside c.more)
+  ]
+
+  edge_inside : (b l k : ℕ) (edge : Edge) → l < length (lines_of b) →
+      k < length (labels_at places b l) → edge_of places b l k ≡ edge →
+      edge.target < length (states_of places)
+  edge_inside b l k edge at lt is =
+      subst (λ (e : Edge). e.target < length (states_of places)) is (target_inside b l k at lt)
+
+  -- an edge of a state is that of a label of a line, the first one where the state is of a place
+  pub record OfLabel (n : ℕ) (edge : Edge) : Type 0 where
+    pub place : ℕ
+    pub line : ℕ
+    pub inside : line < length (lines_of place)
+    pub k : ℕ
+    pub below : k < length (labels_at places place line)
+    pub is : edge_of places place line k ≡ edge
+    pub from : ((a : ℕ) × (has_state places a ≡ true) × (n ≡ number places a) × (k ≡ 0)
+        × Contains (place_targets places a) place)
+        ⊎ ((i : ℕ) × (i < chain_len places place line) × (k ≡ i + 1)
+        × (n ≡ first_chain places place line + i))
+
+  pub of_label : (n : ℕ) (state : State) (edge : Edge) →
+      slice_get (states_of places) n ≡ Some state → Contains state.edges edge → OfLabel n edge
+  of_label n state edge found inside =
+      go (stands places n (let w = slice_get_within (states_of places) n state found in
+      let e = states_length in omega arith))
+    where
+      go : Stands places n → OfLabel n edge
+      go (of_a_place a has at) =
+          let same = place_is a n state has at found in
+          let e = of_target a edge (subst (λ (x : State). Contains x.edges edge) same inside) in
+          record {
+            place = e.0;
+            line = e.2;
+            inside = e.3;
+            k = 0;
+            below = line_some places fit e.0 e.2 e.3;
+            is = e.4;
+            from = inl (a, has, at, refl, e.1);
+          }
+      go (of_a_line b l k inside' at lt is) =
+          let same = chain_is b l k n state at lt is found in
+          record {
+            place = b;
+            line = l;
+            inside = at;
+            k = k + 1;
+            below = omega arith;
+            is = only_edge (edge_of places b l (k + 1)) edge
+                (subst (λ (x : State). Contains x.edges edge) same inside);
+            from = inr (k, lt, refl, is);
+          }
+
+  pub targets_inside : AreTargetsInside (states_of places)
+  targets_inside n state edge found inside =
+      let o = of_label n state edge found inside in
+      edge_inside o.place o.line o.k edge o.inside o.below o.is

@@ -1,0 +1,524 @@
+-- The theorem that makes walks end: a net that is built of places which have ranks is measured.
+-- Every edge that may take nothing leads to a rank that is lower, first by the major number, and
+-- else by the minor one.
+use Rattle.std.proofs.Common.{arith, ◌≡◌, ℕ, zero, suc, ◌+◌, ◌*◌, ◌<◌, ◌≤◌, List, [], ◌∷◌, refl, sym, ◌∙◌, ap, subst, ◌⊎◌, inl, inr, length, get_or, drop, drop-cons, Bool, true, false, cond, add-one}
+use Rattle.std.specs.Prelude.{Option, Some, None, slice_get, Contains, sum_by, IsTrue, ◌&&◌}
+use Rattle.std.proofs.Math.Nat.{mul-le-mul_right}
+use Rattle.std.proofs.lemmas.Option.{same_Some, slice_get_within, get_or_from_slice_get, slice_get-get_or}
+use Rattle.std.proofs.lemmas.List.Elements.{All-contains, Contains-get_or}
+use Rattle.std.proofs.lemmas.List.Sums.{sum_by-cons}
+use Rattle.ux_net.specs.declared.label.Label.{Label}
+use Rattle.ux_net.specs.declared.label.Label.TheVariants.{Empty, Fold, Exact, Space, Glue, Call}
+use Rattle.ux_net.specs.declared.place.Place.{Place}
+use Rattle.ux_net.specs.declared.net_graph.NetGraph.{NetGraph}
+use Rattle.ux_net.specs.declared.net_graph.Rank.{Rank}
+use Rattle.ux_net.specs.declared.state.Edge.{Edge}
+use Rattle.ux_net.specs.declared.state.State.{State}
+use Rattle.ux_net.specs.Words.{Step}
+use Rattle.ux_net.specs.Places.{label_lines, place_targets, IsPlaceStep, places_of}
+use Rattle.ux_net.specs.Nets.{graph_at, states_in, IsCalled, AreInside}
+use Rattle.ux_net.specs.Nets.{states_of as net_states}
+use Rattle.ux_net.specs.Measured.{width_of, weigh, rank_in, rank_of, frees_in, must, IsLower, Falls, IsMeasured}
+use Rattle.ux_net.specs.Sound.{IsSound}
+use Rattle.ux_net.specs.Construct.{is_call, IsLine, has_state, number, labels_at, chain_len, first_chain, target_of, states_of, AreFit}
+use Rattle.ux_net.specs.Ranks.{is_silent, are_silent, silent_len, rest_rank, rest_free, above, rank_at, free_at, chain_rank_at, chain_free_at, state_ranks, state_frees, ranks_of, place_rank, frees_of, is_place_free, IsLowerPlace, ArePlaceRanks, AreCallsInside, AreAllFit, AreBuilt}
+use Rattle.ux_net.proofs.JoinedLemmas.{less_or, contains_first}
+use Rattle.ux_net.proofs.StatesLemmas.{line_there, place_inside, get_place, get_chain, Stands, of_a_place, of_a_line, stands}
+use Rattle.ux_net.proofs.ConstructLaw.{one_in, lt_then, lt_else, drop_whole, has_line, not_end, starts, place_is, chain_is, OfLabel, of_label, targets_inside, states_some, states_few, states_length}
+
+-- an element's number is at most the sum of all
+sum_has : {A : Type 0} (f : A → ℕ) (xs : List A) (i : ℕ) (x : A) → slice_get xs i ≡ Some x →
+    f x ≤ sum_by f xs
+sum_has f [] i x found = absurd (let w = slice_get_within [] i x found in omega arith)
+sum_has f (y ∷ ys) zero x found =
+    let e = same_Some y x found in
+    let s = sum_by-cons f y ys in
+    let same = ap f e in
+    omega arith
+sum_has f (y ∷ ys) (suc i) x found =
+    let r = sum_has f ys i x found in let s = sum_by-cons f y ys in omega arith
+
+-- lower by the major number, or else by the minor one
+abbrev IsLowerRank : Rank → Rank → Type 0
+IsLowerRank low high =
+    (low.major < high.major) ⊎ ((low.major ≡ high.major) × (low.minor < high.minor))
+
+-- such a fall is a fall of the weights
+lower_weighs : (width : ℕ) (low high : Rank) → low.minor ≤ width → IsLowerRank low high →
+    weigh width low < weigh width high
+lower_weighs width low high small h = elim h [
+  | inl major ↦
+      let m : (low.major + 1) * (width + 1) ≤ high.major * (width + 1) =
+      mul-le-mul_right (width + 1) (omega arith) in
+      let e : (low.major + 1) * (width + 1) ≡ low.major * (width + 1) + (width + 1) =
+      one_more low.major (width + 1) in
+      omega arith
+  | inr same ↦
+      let e = ap (λ m. m * (width + 1)) same.0 in
+      let lt = same.1 in
+      omega arith
+]
+  where
+    one_more : (a b : ℕ) → (a + 1) * b ≡ a * b + b
+    one_more a b = grind arith
+
+-- silent labels in front of one more
+silent_more : (label : Label) (rest : List Label) (rank : ℕ) → is_silent label ≡ true →
+    IsLowerRank (rest_rank rank rest) (rest_rank rank (label ∷ rest))
+silent_more label rest rank is =
+    let m : silent_len (label ∷ rest) ≡ 1 + silent_len rest =
+    ap (λ b. cond b (1 + silent_len rest) 0) is in
+    let s : are_silent (label ∷ rest) ≡ are_silent rest = ap (λ b. b && are_silent rest) is in
+    inr (ap (λ b. cond b (rank + 1) 0) (sym s), omega arith)
+
+still_free : (label : Label) (rest : List Label) (free : Bool) → is_silent label ≡ true →
+    rest_free free rest ≡ true → rest_free free (label ∷ rest) ≡ true
+still_free label rest free is h =
+    let s : are_silent (label ∷ rest) ≡ are_silent rest = ap (λ b. b && are_silent rest) is in
+    ap (λ b. cond b free false) s ∙ h
+
+-- a step into the rest of a line from a place above
+rest_lower : (rest : List Label) (to from : ℕ) → (are_silent rest ≡ true → to < from) →
+    IsLowerRank (rest_rank to rest) (above from)
+rest_lower rest to from lower = go (are_silent rest) refl
+  where
+    go : (b : Bool) → are_silent rest ≡ b → IsLowerRank (rest_rank to rest) (above from)
+    go true is =
+        let l = lower is in
+        let e : cond (are_silent rest) (to + 1) 0 ≡ to + 1 = ap (λ b. cond b (to + 1) 0) is in
+        inl (omega arith)
+    go false is =
+        let e : cond (are_silent rest) (to + 1) 0 ≡ 0 = ap (λ b. cond b (to + 1) 0) is in
+        inl (omega arith)
+
+rest_marked : (rest : List Label) (free : Bool) → rest_free free rest ≡ true →
+    (are_silent rest ≡ true) × (free ≡ true)
+rest_marked rest free h = go (are_silent rest) refl h
+  where
+    go : (b : Bool) → are_silent rest ≡ b → cond b free false ≡ true →
+        (are_silent rest ≡ true) × (free ≡ true)
+    go true is h = (is, h)
+    go false is h = cc
+
+-- a line from one of its labels on
+line_from : (line : List Label) (k : ℕ) → k < length line →
+    drop k line ≡ get_or line k Empty ∷ drop (k + 1) line
+line_from line k lt = let e = add-one k in rw e (drop-cons line k Empty lt)
+
+-- the ranks and marks where the edges of one graph lead
+module _ (places : List Place) (fit : AreFit places) where
+  rank_behind : (ranks : List ℕ) (b l k : ℕ) → l < length (label_lines places b) →
+      k < length (labels_at places b l) →
+      slice_get (state_ranks places ranks) (target_of places b l k)
+      ≡ Some (rest_rank (get_or ranks b 0) (drop (k + 1) (labels_at places b l)))
+  rank_behind ranks b l k at lt = elim (less_or (k + 1) (length (labels_at places b l))) [
+    | inl more ↦
+        ap (slice_get (state_ranks places ranks)) (lt_then (k + 1) (length (labels_at places b l))
+        (first_chain places b l + k) (number places b) more)
+        ∙ get_chain places (rank_at ranks) (chain_rank_at places ranks) b l k
+        (place_inside places b (has_line places fit b l at)) at (omega arith)
+    | inr last ↦
+        ap (slice_get (state_ranks places ranks)) (lt_else (k + 1) (length (labels_at places b l))
+        (first_chain places b l + k) (number places b) last)
+        ∙ (get_place places (rank_at ranks) (chain_rank_at places ranks) b
+        (has_line places fit b l at)
+        ∙ ap (λ (rest : List Label). Some (rest_rank (get_or ranks b 0) rest))
+        (sym (drop_whole (labels_at places b l) (k + 1) last)))
+  ]
+
+  free_behind : (free : List Bool) (b l k : ℕ) → l < length (label_lines places b) →
+      k < length (labels_at places b l) →
+      slice_get (state_frees places free) (target_of places b l k)
+      ≡ Some (rest_free (get_or free b false) (drop (k + 1) (labels_at places b l)))
+  free_behind free b l k at lt = elim (less_or (k + 1) (length (labels_at places b l))) [
+    | inl more ↦
+        ap (slice_get (state_frees places free)) (lt_then (k + 1) (length (labels_at places b l))
+        (first_chain places b l + k) (number places b) more)
+        ∙ get_chain places (free_at free) (chain_free_at places free) b l k
+        (place_inside places b (has_line places fit b l at)) at (omega arith)
+    | inr last ↦
+        ap (slice_get (state_frees places free)) (lt_else (k + 1) (length (labels_at places b l))
+        (first_chain places b l + k) (number places b) last)
+        ∙ (get_place places (free_at free) (chain_free_at places free) b
+        (has_line places fit b l at)
+        ∙ ap (λ (rest : List Label). Some (rest_free (get_or free b false) rest))
+        (sym (drop_whole (labels_at places b l) (k + 1) last)))
+  ]
+
+  -- a call is alone on its line
+  alone : (b l k h : ℕ) → l < length (label_lines places b) → k < length (labels_at places b l) →
+      get_or (labels_at places b l) k Empty ≡ Call h →
+      (k ≡ 0) × (labels_at places b l ≡ Call h ∷ [])
+  alone b l k h at lt is =
+      go (labels_at places b l) k
+      (fit.lines b (labels_at places b l) (line_there places b l at)) lt is
+    where
+      go : (line : List Label) (k : ℕ) → IsLine line → k < length line →
+          get_or line k Empty ≡ Call h → (k ≡ 0) × (line ≡ Call h ∷ [])
+      go [] k line lt is = absurd (omega arith)
+      go (x ∷ []) zero line lt is = (refl, ap (λ (y : Label). y ∷ []) is)
+      go (x ∷ []) (suc k) line lt is = absurd (omega arith)
+      go (x ∷ y ∷ ys) k line lt is =
+          let no = All-contains (λ (label : Label). is_call label ≡ false) (x ∷ y ∷ ys)
+          (get_or (x ∷ y ∷ ys) k Empty) (line.lone (omega arith))
+          (Contains-get_or (x ∷ y ∷ ys) k Empty lt) in
+          let yes : is_call (get_or (x ∷ y ∷ ys) k Empty) ≡ true = ap is_call is in
+          cc
+
+module _ (graphs : List (List Place)) (ranks : List (List ℕ)) (free : List (List Bool))
+    (built : List NetGraph) (fit : AreAllFit graphs) (inside : AreCallsInside graphs)
+    (ranked : ArePlaceRanks graphs ranks free) (made : AreBuilt graphs ranks free built) where
+  abbrev places : ℕ → List Place
+  places g = places_of graphs g
+
+  abbrev labels : ℕ → ℕ → ℕ → List Label
+  labels g b l = labels_at (places g) b l
+
+  graph_fit : (g : ℕ) (graph : NetGraph) → graph_at built g ≡ Some graph → AreFit (places g)
+  graph_fit zero graph is = cc
+  graph_fit (suc n) graph is =
+      let w = slice_get_within built n graph is in
+      let e = made.count in
+      fit (suc n) (omega arith) (omega arith)
+
+  graph_there : (g : ℕ) → 1 ≤ g → g ≤ length graphs →
+      (graph : NetGraph) × (graph_at built g ≡ Some graph)
+  graph_there zero from to = absurd (omega arith)
+  graph_there (suc n) from to =
+      let d : NetGraph = record { name = []; states = []; ranks = []; free = [] } in
+      let e = made.count in
+      (get_or built n d, slice_get-get_or built n d (omega arith))
+
+  -- the rank and the mark of a state, as the net has them
+  rank_is : (g n : ℕ) (graph : NetGraph) (rank : Rank) → graph_at built g ≡ Some graph →
+      slice_get (state_ranks (places g) (ranks_of ranks g)) n ≡ Some rank →
+      (rank_of built g n ≡ weigh (width_of built) rank) × (rank.minor ≤ width_of built)
+  rank_is g n graph rank there found =
+      let same = (made.each g graph there).ranked in
+      let at : slice_get graph.ranks n ≡ Some rank =
+      ap (λ (rs : List Rank). slice_get rs n) same ∙ found in (
+        ap (λ (o : Option NetGraph). rank_in (width_of built) o n) there
+            ∙ ap (weigh (width_of built)) (get_or_from_slice_get graph.ranks n rank
+            (record { major = 0; minor = 0 }) at),
+        (let one = sum_has (λ (r : Rank). r.minor) graph.ranks n rank at in
+            let all = graph_width g graph there in
+            omega arith),
+      )
+    where
+      graph_width : (g : ℕ) (graph : NetGraph) → graph_at built g ≡ Some graph →
+          sum_by (λ (r : Rank). r.minor) graph.ranks ≤ width_of built
+      graph_width zero graph there = cc
+      graph_width (suc m) graph there =
+          sum_has (λ (graph : NetGraph). sum_by (λ (rank : Rank). rank.minor) graph.ranks)
+          built m graph there
+
+  free_is : (g n : ℕ) (graph : NetGraph) (mark : Bool) → graph_at built g ≡ Some graph →
+      slice_get (state_frees (places g) (frees_of free g)) n ≡ Some mark →
+      must built g n ≡ cond mark 0 1
+  free_is g n graph mark there found =
+      let same = (made.each g graph there).marked in
+      let at : slice_get graph.free n ≡ Some mark =
+      ap (λ (ms : List Bool). slice_get ms n) same ∙ found in
+      ap (λ (o : Option NetGraph). cond (frees_in o n) 0 1) there
+      ∙ ap (λ (b : Bool). cond b 0 1) (get_or_from_slice_get graph.free n mark false at)
+
+  -- what stands for a state in its graph
+  record Marked (g n : ℕ) : Type 0 where
+    pub rank : Rank
+    pub ranked_so : slice_get (state_ranks (places g) (ranks_of ranks g)) n ≡ Some rank
+    pub mark : Bool
+    pub marked_so : slice_get (state_frees (places g) (frees_of free g)) n ≡ Some mark
+
+  lower : (g from to : ℕ) (graph : NetGraph) → graph_at built g ≡ Some graph →
+      (high : Marked g from) (low : Marked g to) → IsLowerRank low.rank high.rank →
+      (low.mark ≡ true → high.mark ≡ true) → IsLower built g from to
+  lower g from to graph there high low falls marks =
+      let h = rank_is g from graph high.rank there high.ranked_so in
+      let l = rank_is g to graph low.rank there low.ranked_so in
+      let w = lower_weighs (width_of built) low.rank high.rank l.1 falls in
+      let f = free_is g from graph high.mark there high.marked_so in
+      let t = free_is g to graph low.mark there low.marked_so in
+      let m = at_most high.mark low.mark marks in
+      ((let a = h.0 in let b = l.0 in omega arith), omega arith)
+    where
+      at_most : (from to : Bool) → (to ≡ true → from ≡ true) → cond from 0 1 ≤ cond to 0 1
+      at_most true to h = omega arith
+      at_most false true h = let e = h refl in cc
+      at_most false false h = omega arith
+
+  abbrev of_place : (g a : ℕ) → has_state (places g) a ≡ true → Marked g (number (places g) a)
+  of_place g a has = record {
+    rank = above (place_rank ranks g a);
+    ranked_so = get_place (places g) (rank_at (ranks_of ranks g))
+        (chain_rank_at (places g) (ranks_of ranks g)) a has;
+    mark = is_place_free free g a;
+    marked_so = get_place (places g) (free_at (frees_of free g))
+        (chain_free_at (places g) (frees_of free g)) a has;
+  }
+
+  abbrev of_chain : (g b l i : ℕ) → AreFit (places g) → l < length (label_lines (places g) b) →
+      i < chain_len (places g) b l → Marked g (first_chain (places g) b l + i)
+  of_chain g b l i ok at lt =
+      let within = place_inside (places g) b (has_line (places g) ok b l at) in
+      record {
+        rank = rest_rank (place_rank ranks g b) (drop (i + 1) (labels g b l));
+        ranked_so = get_chain (places g) (rank_at (ranks_of ranks g))
+            (chain_rank_at (places g) (ranks_of ranks g)) b l i within at lt;
+        mark = rest_free (is_place_free free g b) (drop (i + 1) (labels g b l));
+        marked_so = get_chain (places g) (free_at (frees_of free g))
+            (chain_free_at (places g) (frees_of free g)) b l i within at lt;
+      }
+
+  abbrev behind : (g b l k : ℕ) → AreFit (places g) → l < length (label_lines (places g) b) →
+      k < length (labels g b l) → Marked g (target_of (places g) b l k)
+  behind g b l k ok at lt = record {
+    rank = rest_rank (place_rank ranks g b) (drop (k + 1) (labels g b l));
+    ranked_so = rank_behind (places g) ok (ranks_of ranks g) b l k at lt;
+    mark = rest_free (is_place_free free g b) (drop (k + 1) (labels g b l));
+    marked_so = free_behind (places g) ok (frees_of free g) b l k at lt;
+  }
+
+  -- the step of the places along a line of a target
+  abbrev step_of : ℕ → ℕ → ℕ → ℕ → Step
+  step_of g a b l = record { from = a; to = b; labels = labels g b l }
+
+  is_step : (g a b l : ℕ) → AreFit (places g) → has_state (places g) a ≡ true →
+      Contains (place_targets (places g) a) b → l < length (label_lines (places g) b) →
+      IsPlaceStep (places g) (step_of g a b l)
+  is_step g a b l ok has leads at = record {
+    before_end = not_end (places g) ok a has;
+    leads = leads;
+    line = line_there (places g) b l at;
+  }
+
+  -- the first label of a line, from a place
+  first_lower : (g a b l : ℕ) (graph : NetGraph) → graph_at built g ≡ Some graph →
+      (ok : AreFit (places g)) → has_state (places g) a ≡ true →
+      l < length (label_lines (places g) b) → 0 < length (labels g b l) →
+      (are_silent (drop (0 + 1) (labels g b l)) ≡ true → IsLowerPlace ranks free g a b) →
+      IsLower built g (number (places g) a) (target_of (places g) b l 0)
+  first_lower g a b l graph there ok has at lt falls =
+      lower g (number (places g) a) (target_of (places g) b l 0) graph there
+      (of_place g a has) (behind g b l 0 ok at lt)
+      (rest_lower (drop (0 + 1) (labels g b l)) (place_rank ranks g b) (place_rank ranks g a)
+      (λ h. (falls h).0))
+      (λ h.
+      let m = rest_marked (drop (0 + 1) (labels g b l)) (is_place_free free g b) h in
+      (falls m.0).1 m.1)
+
+  first_silent : (g a b l : ℕ) (graph : NetGraph) → graph_at built g ≡ Some graph →
+      (ok : AreFit (places g)) → has_state (places g) a ≡ true →
+      Contains (place_targets (places g) a) b → l < length (label_lines (places g) b) →
+      0 < length (labels g b l) → is_silent (get_or (labels g b l) 0 Empty) ≡ true →
+      IsLower built g (number (places g) a) (target_of (places g) b l 0)
+  first_silent g a b l graph there ok has leads at lt silent =
+      let rest = drop (0 + 1) (labels g b l) in
+      first_lower g a b l graph there ok has at lt (λ h.
+      ranked.still g (step_of g a b l) has (is_step g a b l ok has leads at)
+      (ap are_silent (line_from (labels g b l) 0 lt)
+      ∙ (ap (λ b. b && are_silent rest) silent ∙ h)))
+
+  -- a later label of a line, from a chain state
+  later_silent : (g b l i : ℕ) (graph : NetGraph) → graph_at built g ≡ Some graph →
+      (ok : AreFit (places g)) → l < length (label_lines (places g) b) →
+      i < chain_len (places g) b l → i + 1 < length (labels g b l) →
+      is_silent (get_or (labels g b l) (i + 1) Empty) ≡ true →
+      IsLower built g (first_chain (places g) b l + i) (target_of (places g) b l (i + 1))
+  later_silent g b l i graph there ok at lt more silent =
+      let label = get_or (labels g b l) (i + 1) Empty in
+      let rest = drop ((i + 1) + 1) (labels g b l) in
+      let is : drop (i + 1) (labels g b l) ≡ label ∷ rest =
+      line_from (labels g b l) (i + 1) more in
+      lower g (first_chain (places g) b l + i) (target_of (places g) b l (i + 1)) graph there
+      (of_chain g b l i ok at lt) (behind g b l (i + 1) ok at more)
+      (subst (λ (line : List Label). IsLowerRank (rest_rank (place_rank ranks g b) rest)
+      (rest_rank (place_rank ranks g b) line)) (sym is)
+      (silent_more label rest (place_rank ranks g b) silent))
+      (λ h. ap (rest_free (is_place_free free g b)) is
+      ∙ still_free label rest (is_place_free free g b) silent h)
+
+  silent_falls : (g n : ℕ) (edge : Edge) (graph : NetGraph) → graph_at built g ≡ Some graph →
+      (ok : AreFit (places g)) → OfLabel (places g) ok n edge → is_silent edge.label ≡ true →
+      IsLower built g n edge.target
+  silent_falls g n edge graph there ok o silent =
+      let to : target_of (places g) o.place o.line o.k ≡ edge.target =
+      ap (λ (e : Edge). e.target) o.is in
+      let label : is_silent (get_or (labels g o.place o.line) o.k Empty) ≡ true =
+      ap (λ (e : Edge). is_silent e.label) o.is ∙ silent in
+      subst (λ m. IsLower built g n m) to (elim o.from [
+        | inl first ↦
+            subst (λ m. IsLower built g m (target_of (places g) o.place o.line o.k))
+            (sym first.2)
+            (subst (λ k. IsLower built g (number (places g) first.0)
+            (target_of (places g) o.place o.line k)) (sym first.3)
+            (first_silent g first.0 o.place o.line graph there ok first.1 first.4 o.inside
+            (let b = o.below in omega arith)
+            (subst (λ k. is_silent (get_or (labels g o.place o.line) k Empty) ≡ true) first.3
+            label)))
+        | inr later ↦
+            subst (λ m. IsLower built g m (target_of (places g) o.place o.line o.k))
+            (sym later.3)
+            (subst (λ k. IsLower built g (first_chain (places g) o.place o.line + later.0)
+            (target_of (places g) o.place o.line k)) (sym later.2)
+            (later_silent g o.place o.line later.0 graph there ok o.inside later.1
+            (let b = o.below in let e = later.2 in omega arith)
+            (subst (λ k. is_silent (get_or (labels g o.place o.line) k Empty) ≡ true) later.2
+            label)))
+      ])
+
+  -- the call of a graph that is there, from a place
+  first_call : (g h a b l : ℕ) (graph : NetGraph) → graph_at built g ≡ Some graph →
+      (ok : AreFit (places g)) → has_state (places g) a ≡ true →
+      Contains (place_targets (places g) a) b → l < length (label_lines (places g) b) →
+      0 < length (labels g b l) → labels g b l ≡ Call h ∷ [] →
+      (rank_of built h 0 < rank_of built g (number (places g) a))
+      × (must built h 0 ≡ 0 → IsLower built g (number (places g) a) (target_of (places g) b l 0))
+  first_call g h a b l graph there ok has leads at lt only =
+      let called : IsCalled (length graphs) (Call h) =
+      inside g b (labels g b l) (Call h) (line_there (places g) b l at)
+      (subst (λ (line : List Label). Contains line (Call h)) (sym only)
+      (contains_first (Call h) [])) in
+      let other = graph_there h called.0 called.1 in
+      let high = of_place g a has in
+      let low : Marked h 0 = of_place h 0 (starts (places h) (graph_fit h other.0 other.1)) in
+      let falls = ranked.calls g h (step_of g a b l) has (is_step g a b l ok has leads at) only in
+      let here = rank_is g (number (places g) a) graph high.rank there high.ranked_so in
+      let start = rank_is h 0 other.0 low.rank other.1 low.ranked_so in
+      let weighs = lower_weighs (width_of built) low.rank high.rank start.1
+      (inl (let f = falls.0 in omega arith)) in
+      let mark = free_is h 0 other.0 low.mark other.1 low.marked_so in (
+        (let x = here.0 in let y = start.0 in omega arith),
+        λ free_start. first_lower g a b l graph there ok has at lt
+            (λ s. falls.1 (is_marked low.mark (sym mark ∙ free_start))),
+      )
+    where
+      is_marked : (b : Bool) → ◌≡◌ {A = ℕ} (cond b 0 1) 0 → b ≡ true
+      is_marked true h = refl
+      is_marked false h = absurd (omega arith)
+
+  call_falls : (g n h : ℕ) (edge : Edge) (graph : NetGraph) → graph_at built g ≡ Some graph →
+      (ok : AreFit (places g)) → OfLabel (places g) ok n edge → edge.label ≡ Call h →
+      (rank_of built h 0 < rank_of built g n)
+      × (must built h 0 ≡ 0 → IsLower built g n edge.target)
+  call_falls g n h edge graph there ok o call =
+      let to : target_of (places g) o.place o.line o.k ≡ edge.target =
+      ap (λ (e : Edge). e.target) o.is in
+      let label : get_or (labels g o.place o.line) o.k Empty ≡ Call h =
+      ap (λ (e : Edge). e.label) o.is ∙ call in
+      let only = alone (places g) ok o.place o.line o.k h o.inside o.below label in
+      elim o.from [
+        | inl first ↦
+            let r = first_call g h first.0 o.place o.line graph there ok first.1 first.4 o.inside
+            (let b = o.below in omega arith) only.1 in
+            let from = first.2 in
+            let to_first : target_of (places g) o.place o.line 0 ≡ edge.target =
+            ap (target_of (places g) o.place o.line) (sym only.0) ∙ to in
+            subst (λ m. (rank_of built h 0 < rank_of built g m)
+            × (must built h 0 ≡ 0 → IsLower built g m edge.target)) (sym from)
+            (subst (λ t. (rank_of built h 0 < rank_of built g (number (places g) first.0))
+            × (must built h 0 ≡ 0 → IsLower built g (number (places g) first.0) t)) to_first r)
+        | inr later ↦ absurd (let a = only.0 in let e = later.2 in omega arith)
+      ]
+
+  label_falls : (g n : ℕ) (edge : Edge) (graph : NetGraph) → graph_at built g ≡ Some graph →
+      (ok : AreFit (places g)) → OfLabel (places g) ok n edge → (label : Label) →
+      edge.label ≡ label → Falls built g n edge.target label
+  label_falls g n edge graph there ok o (Fold text) is = tt
+  label_falls g n edge graph there ok o (Exact text) is = tt
+  label_falls g n edge graph there ok o Space is = tt
+  label_falls g n edge graph there ok o Empty is =
+      silent_falls g n edge graph there ok o (ap is_silent is)
+  label_falls g n edge graph there ok o Glue is =
+      silent_falls g n edge graph there ok o (ap is_silent is)
+  label_falls g n edge graph there ok o (Call h) is = call_falls g n h edge graph there ok o is
+
+  -- a state of the net is one of the states of its graph
+  record InGraph (g n : ℕ) (state : State) : Type 0 where
+    graph : NetGraph
+    there : graph_at built g ≡ Some graph
+    ok : AreFit (places g)
+    found : slice_get (states_of (places g)) n ≡ Some state
+    same : net_states built g ≡ states_of (places g)
+
+  in_graph : (g n : ℕ) (state : State) → slice_get (net_states built g) n ≡ Some state →
+      InGraph g n state
+  in_graph g n state found = go (graph_at built g) refl found
+    where
+      go : (o : Option NetGraph) → graph_at built g ≡ o →
+          slice_get (states_in o) n ≡ Some state → InGraph g n state
+      go None is found = absurd (let w = slice_get_within [] n state found in omega arith)
+      go (Some graph) is found =
+          let same = (made.each g graph is).states in
+          record {
+            graph = graph;
+            there = is;
+            ok = graph_fit g graph is;
+            found = ap (λ (s : List State). slice_get s n) (sym same) ∙ found;
+            same = ap states_in is ∙ same;
+          }
+
+  ending : (g n : ℕ) (state : State) → InGraph g n state → IsTrue state.is_final →
+      must built g n ≡ 0
+  ending g n state i final =
+      go (stands (places g) n (let w = slice_get_within (states_of (places g)) n state i.found in
+      let e = states_length (places g) i.ok in omega arith))
+    where
+      go : Stands (places g) n → must built g n ≡ 0
+      go (of_a_place a has at) =
+          let same = place_is (places g) i.ok a n state has at i.found in
+          let one = one_in (place_targets (places g) a)
+          (subst (λ (x : State). x.is_final ≡ true) same final) in
+          let marked = ranked.ends g a has (not_end (places g) i.ok a has, one) in
+          let p = of_place g a has in
+          ap (must built g) at
+          ∙ (free_is g (number (places g) a) i.graph p.mark i.there p.marked_so
+          ∙ ap (λ (b : Bool). cond b 0 1) marked)
+      go (of_a_line b l k within at lt is) =
+          let same = chain_is (places g) i.ok b l k n state at lt is i.found in
+          absurd (let f : false ≡ true = subst (λ (x : State). x.is_final ≡ true) same final in cc)
+
+  -- every edge leads lower where it may take nothing
+  pub built_is_measured : IsMeasured built
+  built_is_measured = record {
+    falls = λ g n state edge found within.
+        let i = in_graph g n state found in
+        label_falls g n edge i.graph i.there i.ok
+        (of_label (places g) i.ok n state edge i.found within) edge.label refl;
+    ends = λ g n state found final. ending g n state (in_graph g n state found) final;
+  }
+
+  -- every edge leads to a state that is there, and calls a graph that is there
+  pub built_is_inside : AreInside built
+  built_is_inside = record {
+    start = λ g graph there.
+        subst (λ (s : List State). 0 < length s) (sym (made.each g graph there).states)
+        (states_some (places g) (graph_fit g graph there));
+    edges = λ g n state edge found within.
+        let i = in_graph g n state found in
+        let o = of_label (places g) i.ok n state edge i.found within in
+        let call : IsCalled (length graphs) edge.label =
+        subst (IsCalled (length graphs)) (ap (λ (e : Edge). e.label) o.is)
+        (inside g o.place (labels g o.place o.line)
+        (get_or (labels g o.place o.line) o.k Empty)
+        (line_there (places g) o.place o.line o.inside)
+        (Contains-get_or (labels g o.place o.line) o.k Empty o.below)) in
+        record {
+          target = subst (λ (s : List State). edge.target < length s) (sym i.same)
+              (targets_inside (places g) i.ok n state edge i.found within);
+          called = subst (λ count. IsCalled count edge.label) (sym made.count) call;
+        };
+  }
+
+  -- all that holds of every net
+  pub built_is_sound : 1 ≤ length graphs → length graphs ≤ 65535 → IsSound built
+  built_is_sound some few =
+      let count = made.count in
+      record {
+        some = omega arith;
+        few = omega arith;
+        numbered = λ g graph there.
+            subst (λ (s : List State). length s < 4294967296) (sym (made.each g graph there).states)
+            (states_few (places g) (graph_fit g graph there));
+        inside = built_is_inside;
+        measured = built_is_measured;
+      }

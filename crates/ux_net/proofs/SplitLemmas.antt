@@ -1,0 +1,133 @@
+-- The grammar of the boxes and that of the places have the same steps.
+use Rattle.std.proofs.Common.{arith, ◌≡◌, ℕ, zero, suc, ◌<◌, List, [], refl, sym, ap, subst, inl, inr, length}
+use Rattle.std.specs.Prelude.{Contains}
+use Rattle.std.proofs.lemmas.Option.{slice_get_past}
+use Rattle.ux_alphabet.specs.declared.line.Line.{Line}
+use Rattle.ux_grf.specs.declared.graph.GrfBox.{GrfBox}
+use Rattle.ux_tokens.specs.Numbers.{StandOnce}
+use Rattle.ux_net.specs.declared.error.NetError.{NetError}
+use Rattle.ux_net.specs.declared.error.NetError.TheVariants.{MissingGraph, NotYet, EmptyLoop, LeftRecursion, NoMemory}
+use Rattle.ux_net.specs.declared.place.Place.{Place}
+use Rattle.ux_net.specs.Admissible.{IsOnEmptyLoop, IsLeftRecursive, IsAdmissible}
+use Rattle.ux_net.specs.Boxes.{Drawn, boxes_in, boxes_of, names_of, targets_in as box_targets_in, targets_at, box_graph, box_grammar}
+use Rattle.ux_net.specs.Places.{ArePlaces, places_in, places_of, place_graph, place_grammar}
+use Rattle.ux_net.specs.Compiling.{AreSplit, RefusesPlaces}
+use Rattle.ux_net.specs.Refusing.{AreWhole, AreCompiled, Refuses}
+use Rattle.ux_net.proofs.JoinedLemmas.{less_or, nothing_in}
+use Rattle.ux_net.proofs.StepsLemmas.{step_inside, target_from}
+use Rattle.ux_net.proofs.SameGraph.{place_step, box_step}
+use Rattle.ux_net.proofs.SameGrammar.{IsWithin, loop_within, recursion_within, first_so, admissible_within}
+
+-- without boxes nothing leads anywhere
+none_leads : (boxes : List GrfBox) (a b : ℕ) → boxes ≡ [] → Contains (targets_at boxes a) b → ⊥
+none_leads boxes a b none leads =
+    nothing_in (subst (λ (l : List ℕ). Contains l b)
+    (ap box_targets_in (slice_get_past boxes a (rw none (omega arith)))) leads)
+
+-- a list without places has none
+pub none_there : (places : List Place) (a : ℕ) → places ≡ [] → a < length places → ⊥
+none_there places a none h =
+    let e = ap (λ (l : List Place). length l) none in absurd (omega (arith, e, h))
+
+module _ (alphabet : List Line) (names : List (List ℕ)) (boxes : List GrfBox)
+    (places : List Place) where
+  none_to_places : boxes ≡ [] → IsWithin (box_graph alphabet names boxes) (place_graph places)
+  none_to_places none = record {
+    start = refl;
+    ends = λ n e. absurd (none_leads boxes n 1 none e.1);
+    steps = λ s i. absurd (none_leads boxes s.from s.to none i.leads);
+  }
+
+  none_to_boxes : places ≡ [] → IsWithin (place_graph places) (box_graph alphabet names boxes)
+  none_to_boxes none = record {
+    start = refl;
+    ends = λ n e. absurd (none_there places n none (target_from places n 1 e.1));
+    steps = λ s i. absurd (none_there places s.from none (step_inside places s i).0);
+  }
+
+  some_to_places : StandOnce names → ArePlaces alphabet names boxes places →
+      IsWithin (box_graph alphabet names boxes) (place_graph places)
+  some_to_places once are = record {
+    start = refl;
+    ends = λ n e. (e.0, subst (λ (l : List ℕ). Contains l 1) (sym (are.targets n)) e.1);
+    steps = place_step alphabet names boxes places once are;
+  }
+
+  some_to_boxes : StandOnce names → ArePlaces alphabet names boxes places →
+      IsWithin (place_graph places) (box_graph alphabet names boxes)
+  some_to_boxes once are = record {
+    start = refl;
+    ends = λ n e. (e.0, subst (λ (l : List ℕ). Contains l 1) (are.targets n) e.1);
+    steps = box_step alphabet names boxes places once are;
+  }
+
+module _ (alphabet : List Line) (graphs : List Drawn) (places : List (List Place))
+    (once : StandOnce (names_of graphs)) (are : AreSplit alphabet graphs places) where
+  pub to_places : (g : ℕ) → IsWithin
+      (box_graph alphabet (names_of graphs) (boxes_of graphs g)) (place_graph (places_of places g))
+  to_places zero = none_to_places alphabet (names_of graphs) [] [] refl
+  to_places (suc n) = elim (less_or n (length graphs)) [
+    | inl lt ↦
+        some_to_places alphabet (names_of graphs) (boxes_of graphs (suc n))
+        (places_of places (suc n)) once (are.each n lt)
+    | inr past ↦
+        none_to_places alphabet (names_of graphs) (boxes_of graphs (suc n))
+        (places_of places (suc n)) (ap boxes_in (slice_get_past graphs n past))
+  ]
+
+  pub to_boxes : (g : ℕ) → IsWithin (place_graph (places_of places g))
+      (box_graph alphabet (names_of graphs) (boxes_of graphs g))
+  to_boxes zero = none_to_boxes alphabet (names_of graphs) [] [] refl
+  to_boxes (suc n) = elim (less_or n (length graphs)) [
+    | inl lt ↦
+        some_to_boxes alphabet (names_of graphs) (boxes_of graphs (suc n))
+        (places_of places (suc n)) once (are.each n lt)
+    | inr past ↦
+        none_to_boxes alphabet (names_of graphs) (boxes_of graphs (suc n))
+        (places_of places (suc n))
+        (ap places_in (slice_get_past places n (let e = are.count in omega (arith, past, e))))
+  ]
+
+  -- the grammar of the boxes is admissible where that of the places is
+  pub boxes_admissible : IsAdmissible (place_grammar places) →
+      IsAdmissible (box_grammar alphabet graphs)
+  boxes_admissible = admissible_within (place_grammar places) (box_grammar alphabet graphs) to_places
+
+  loop_boxes : (g n : ℕ) → IsOnEmptyLoop (place_grammar places) g n →
+      IsOnEmptyLoop (box_grammar alphabet graphs) g n
+  loop_boxes = loop_within (place_grammar places) (box_grammar alphabet graphs) to_boxes
+
+  loop_places : (g n : ℕ) → IsOnEmptyLoop (box_grammar alphabet graphs) g n →
+      IsOnEmptyLoop (place_grammar places) g n
+  loop_places = loop_within (box_grammar alphabet graphs) (place_grammar places) to_places
+
+  -- what the places show, the boxes do
+  pub refused : (error : NetError) → AreWhole graphs → AreCompiled graphs →
+      RefusesPlaces graphs places error → Refuses alphabet graphs error
+  refused (MissingGraph name) whole compiled r = absurd r
+  refused (NotYet name node) whole compiled r = absurd r
+  refused (EmptyLoop name node) whole compiled (g, named, first) = (
+    whole,
+    compiled,
+    (
+      g,
+      named,
+      first_so (IsOnEmptyLoop (place_grammar places)) (IsOnEmptyLoop (box_grammar alphabet graphs))
+          loop_boxes loop_places g node first,
+    ),
+  )
+  refused (LeftRecursion name node) whole compiled (no_loop, (g, named, first)) = (
+    whole,
+    compiled,
+    λ h m so. no_loop h m (loop_places h m so),
+    (
+      g,
+      named,
+      first_so (IsLeftRecursive (place_grammar places))
+          (IsLeftRecursive (box_grammar alphabet graphs))
+          (recursion_within (place_grammar places) (box_grammar alphabet graphs) to_boxes)
+          (recursion_within (box_grammar alphabet graphs) (place_grammar places) to_places)
+          g node first,
+    ),
+  )
+  refused NoMemory whole compiled r = tt

@@ -1,0 +1,176 @@
+-- What fit places give: steps stay inside, lines are calls or have none, reached places have runs.
+use Rattle.std.proofs.Common.{arith, ◌≡◌, ◌≢◌, ℕ, zero, suc, ◌<◌, ◌≤◌, List, [], ◌∷◌, ◌++◌, length, refl, subst, sym, ◌∙◌, ◌⊎◌, inl, inr, Bool, true, false, get_or, map, set}
+use Rattle.std.specs.Prelude.{Contains, All}
+use Rattle.std.proofs.lemmas.Option.{slice_get_past}
+use Rattle.std.proofs.lemmas.List.{length-map, get_or-set_same, get_or-set_other}
+use Rattle.std.proofs.lemmas.List.Elements.{All-head, All-tail, All-contains, All-contains_itself, All-weaker, Contains-get_or}
+use Rattle.ux_digraph.proofs.Lists.{nothing_in, less_or, same_or}
+use Rattle.ux_grf.specs.Reached.{row_of, Reached, start, step}
+use Rattle.ux_net.specs.declared.label.Label.{Label}
+use Rattle.ux_net.specs.declared.label.Label.TheVariants.{Call}
+use Rattle.ux_net.specs.declared.place.Place.{Place}
+use Rattle.ux_net.specs.Words.{Step, Run, stop, along, letters}
+use Rattle.ux_net.specs.Places.{places_of, place_graph, place_targets, targets_in, label_lines, is_reached, lines_in, IsPlaceStep}
+use Rattle.ux_net.specs.Fit.{IsFit, IsFitLine, is_call, place_ways}
+use Rattle.ux_net.proofs.NumbersLemmas.{graph_so, graph_so_at}
+use Rattle.ux_net.proofs.FreeLemmas.{run_joined, one_step}
+
+pub target_from : (places : List Place) (a b : ℕ) → Contains (place_targets places a) b →
+    a < length places
+target_from places a b h = elim (less_or a (length places)) [
+  | inl l ↦ l
+  | inr p ↦ absurd (nothing_in {x = b}
+      (subst (λ o. Contains (targets_in o) b) (slice_get_past places a p) h))
+]
+
+pub line_from : (places : List Place) (a : ℕ) (line : List Label) →
+    Contains (label_lines places a) line → a < length places
+line_from places a line h = elim (less_or a (length places)) [
+  | inl l ↦ l
+  | inr p ↦ absurd (nothing_in {x = line}
+      (subst (λ o. Contains (lines_in o) line) (slice_get_past places a p) h))
+]
+
+pub step_inside : (places : List Place) (s : Step) → IsPlaceStep places s →
+    (s.from < length places) × (s.to < length places)
+step_inside places s i =
+    (target_from places s.from s.to i.leads, line_from places s.to s.labels i.line)
+
+no_call_in : (front back : List Label) (h : ℕ) →
+    All (λ (x : Label). is_call x ≡ false) (front ++ Call h ∷ back) → ⊥
+no_call_in [] back h all =
+    let no = All-head (λ (x : Label). is_call x ≡ false) (Call h) back all in cc
+no_call_in (x ∷ front) back h all = no_call_in front back h
+    (All-tail (λ (x : Label). is_call x ≡ false) x (front ++ Call h ∷ back) all)
+
+one_call : (front back : List Label) (h k : ℕ) → Call k ∷ [] ≡ front ++ Call h ∷ back →
+    Call k ∷ [] ≡ Call h ∷ []
+one_call [] back h k e = cc
+one_call (x ∷ []) back h k e = absurd (cc)
+one_call (x ∷ y ∷ front) back h k e = absurd (cc)
+
+-- a fit line in which a call stands is that call
+pub call_alone : (count : ℕ) (line front back : List Label) (h : ℕ) → IsFitLine count line →
+    line ≡ front ++ Call h ∷ back → line ≡ Call h ∷ []
+call_alone count line front back h fit e = elim fit [
+  | inl c ↦ c.1 ∙ one_call front back h c.0 (sym c.1 ∙ e)
+  | inr n ↦ absurd (no_call_in front back h
+      (subst (λ l. All (λ (x : Label). is_call x ≡ false) l) e n.1))
+]
+
+same_call : (h k : ℕ) → Call h ∷ [] ≡ Call k ∷ [] → h ≡ k
+same_call h k e = cc
+
+-- the graph of a fit call is there
+pub call_inside : (count : ℕ) (line : List Label) (h : ℕ) → IsFitLine count line →
+    line ≡ Call h ∷ [] → (1 ≤ h) × (h ≤ count)
+call_inside count line h fit e = elim fit [
+  | inl c ↦
+      let same = same_call h c.0 (sym e ∙ c.1) in
+      let from = c.2 in
+      let to = c.3 in
+      (omega arith, omega arith)
+  | inr n ↦ absurd (no_call_in [] [] h
+      (subst (λ l. All (λ (x : Label). is_call x ≡ false) l) e n.1))
+]
+
+targets_at : (places : List Place) (u : ℕ) →
+    get_or (map (λ (place : Place). place.targets) places) u [] ≡ place_targets places u
+targets_at [] u = refl
+targets_at (place ∷ places) zero = refl
+targets_at (place ∷ places) (suc u) = targets_at places u
+
+module _ (count : ℕ) (places : List Place) (fit : IsFit count places) where
+  -- a way leads from a place other than the end to a target
+  way_leads : (u v : ℕ) → Contains (row_of (place_ways places) u) v →
+      (u ≢ 1) × Contains (place_targets places u) v
+  way_leads u v h =
+      let targets : List (List ℕ) = map (λ (place : Place). place.targets) places in
+      let two = fit.two in
+      let l = length-map places (λ (place : Place). place.targets) in
+      elim (same_or u 1) [
+        | inl e ↦ absurd (nothing_in {x = v}
+            (subst (λ (row : List ℕ). Contains row v)
+            (get_or-set_same targets 1 [] [] (omega arith))
+            (subst (λ n. Contains (get_or (set targets 1 []) n []) v) e h)))
+        | inr n ↦ (
+          n,
+          subst (λ (row : List ℕ). Contains row v)
+              (get_or-set_other targets 1 u [] [] n ∙ targets_at places u) h,
+        )
+      ]
+
+  -- a run from the start leads to each place that is reached, other than the end
+  pub reached_run : {n : ℕ} → Reached (place_ways places) n → n ≢ 1 →
+      (word : List Label) × Run (place_graph places) 0 n word
+  reached_run start apart = ([], stop)
+  reached_run (step {u = u} {v = v} r e) apart =
+      let way = way_leads u v e in
+      let before = reached_run r way.0 in
+      let inside = fit.inside u v way.1 in
+      let lined = fit.lined v ((fit.reached v inside).1 (step r e)) apart in
+      let line = get_or (label_lines places v) 0 [] in
+      let s : Step = record { from = u; to = v; labels = line } in
+      let i : IsPlaceStep places s = record {
+        before_end = way.0;
+        leads = way.1;
+        line = Contains-get_or (label_lines places v) 0 [] lined;
+      } in (
+        before.0 ++ letters line,
+        run_joined (place_graph places) before.1 (one_step (place_graph places) s i),
+      )
+
+  -- where a line leads to the beginning of a run, one leads to its end
+  run_lined : {a b : ℕ} {word line : List Label} → Contains (label_lines places a) line →
+      Run (place_graph places) a b word →
+      (last : List Label) × Contains (label_lines places b) last
+  run_lined {line = line} h stop = (line, h)
+  run_lined h (along s i r) = run_lined i.line r
+
+  -- a run from the start leads to a place other than the end that has a line
+  pub lined_run : (n : ℕ) (line : List Label) → Contains (label_lines places n) line → n ≢ 1 →
+      (word : List Label) × Run (place_graph places) 0 n word
+  lined_run n line h apart = elim (either (is_reached places n)) [
+    | inl e ↦ reached_run ((fit.reached n (line_from places n line h)).0 e) apart
+    | inr e ↦ absurd (nothing_in {x = line}
+        (subst (λ (lines : List (List Label)). Contains lines line) (fit.bare n (inr e)) h))
+  ]
+    where
+      either : (b : Bool) → (b ≡ true) ⊎ (b ≡ false)
+      either true = inl refl
+      either false = inr refl
+
+  -- where a run leads on from a step to where it began, one leads there from the start
+  pub back_run : (s : Step) (word : List Label) → IsPlaceStep places s →
+      Run (place_graph places) s.to s.from word →
+      (word : List Label) × Run (place_graph places) 0 s.from word
+  back_run s word i r =
+      let last = run_lined i.line r in
+      lined_run s.from last.0 last.1 i.before_end
+
+module _ (graphs : List (List Place)) (fit : All (IsFit (length graphs)) graphs) where
+  -- each step is along a fit line
+  pub step_line : (g : ℕ) (s : Step) → IsPlaceStep (places_of graphs g) s →
+      IsFitLine (length graphs) s.labels
+  step_line g s i =
+      let f = graph_so (IsFit (length graphs)) graphs fit g s.from
+      (step_inside (places_of graphs g) s i).0 in
+      All-contains (IsFitLine (length graphs)) (label_lines (places_of graphs g) s.to) s.labels
+      (f.lines s.to) i.line
+
+  -- a graph that is called has a start
+  pub start_inside : (g h : ℕ) (s : Step) → IsPlaceStep (places_of graphs g) s →
+      s.labels ≡ Call h ∷ [] → 0 < length (places_of graphs h)
+  start_inside g h s i e =
+      let c = call_inside (length graphs) s.labels h (step_line g s i) e in
+      let f = graph_so_at (IsFit (length graphs)) graphs fit h c.0 c.1 in
+      let two = f.two in
+      omega arith
+
+-- the targets of a place are places
+pub targets_inside : (count : ℕ) (places : List Place) → IsFit count places → (n : ℕ) →
+    All (λ target. target < length places) (place_targets places n)
+targets_inside count places fit n =
+    All-weaker (Contains (place_targets places n)) (λ target. target < length places)
+    (λ target h. fit.inside n target h) (place_targets places n)
+    (All-contains_itself (place_targets places n))

@@ -1,0 +1,12 @@
+use Rattle.std.proofs.Common.{ℕ, List, get_or, subst}
+use Rattle.std.specs.Prelude.{Contains}
+use Rattle.std.proofs.lemmas.List.Elements.{Contains-get_or}
+use Rattle.ux_net.proofs.construct.place_state.Goals as goal
+
+pub push_edges-requires-clause-place : goal.push_edges-requires-clause-place
+push_edges-requires-clause-place c =
+    let to = get_or c.targets-targets.result.now c.loop-target.target-index 0 in
+    c.requires.fit.targets c.args.place to
+    (subst (λ (ts : List ℕ). Contains ts to) c.targets-targets.ensures
+    (Contains-get_or c.targets-targets.result.now c.loop-target.target-index 0
+    c.loop-target-test.true))

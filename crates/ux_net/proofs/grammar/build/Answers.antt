@@ -1,0 +1,29 @@
+use Rattle.std.proofs.Common.{arith, ◌+◌, List, sym, subst, ◌∙◌}
+use Rattle.ux_net.specs.declared.net_graph.NetGraph.{NetGraph}
+use Rattle.ux_net.proofs.CompileLemmas.{AreBuiltTo, built_more, built_at}
+use Rattle.ux_net.proofs.grammar.build.Goals as goal
+
+pub loop-number-preserved : goal.loop-number-preserved
+loop-number-preserved c =
+    let graphs = c.args.graphs.now in
+    let places = c.args.places.now in
+    let ranks = c.args.ranks.now in
+    let free = c.args.free.now in
+    let i = c.loop-number.number in
+    subst (λ (net : List NetGraph). AreBuiltTo graphs places ranks free net (i + 1))
+    (sym c.in_ok-push.ensures.items)
+    (built_more graphs places ranks free c.loop-number.net.items i c.index-graphs-number.result
+    c.in_ok-build_graph.field-0 c.loop-number-test.true c.index-graphs-number.is
+    c.loop-number.invariant
+    (built_at places ranks free i c.as_slice.result.now c.as_slice-in-loop-number.result.now
+    c.as_slice-in-loop-number-2.result.now c.in_ok-build_graph.field-0
+    c.index-places-number.result c.index-ranks-number.result c.index-free-number.result
+    (let i_in = c.loop-number-test.true in let n = c.requires.count in omega (arith, i_in, n))
+    (let i_in = c.loop-number-test.true in let n = c.requires.count in
+    let m = c.requires.ranked.len in omega (arith, i_in, n, m))
+    (let i_in = c.loop-number-test.true in let n = c.requires.count in
+    let m = c.requires.marked.len in omega (arith, i_in, n, m))
+    c.index-places-number.is c.index-ranks-number.is c.index-free-number.is
+    c.as_slice.ensures c.as_slice-in-loop-number.ensures c.as_slice-in-loop-number-2.ensures
+    c.in_ok-build_graph.ensures.built)
+    (c.in_ok-build_graph.ensures.name ∙ c.as_str.ensures.value))

@@ -1,0 +1,14 @@
+use Rattle.std.proofs.Common.{◌≡◌, ◌++◌}
+use Rattle.std.specs.List.{range_with_len, flat_map}
+use Rattle.ux_net.specs.Construct.{along_lines}
+use Rattle.ux_net.specs.Ranks.{chain_rank_at, chain_free_at}
+use Rattle.ux_net.proofs.ranks.push_chains.Given as goal
+
+abbrev pub invariant-loop-place : goal.invariant-loop-place
+invariant-loop-place l = record {
+  ranked : l.state_ranks.items ≡ l.fn.state_ranks.items
+      ++ flat_map (along_lines l.places (chain_rank_at l.places l.ranks))
+      (range_with_len 0 l.place);
+  marked : l.state_frees.items ≡ l.fn.state_frees.items
+      ++ flat_map (along_lines l.places (chain_free_at l.places l.free)) (range_with_len 0 l.place);
+}

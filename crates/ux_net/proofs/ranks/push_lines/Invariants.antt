@@ -1,0 +1,15 @@
+use Rattle.std.proofs.Common.{◌≡◌, ◌++◌}
+use Rattle.std.specs.List.{range_with_len, flat_map}
+use Rattle.ux_net.specs.Construct.{along_line}
+use Rattle.ux_net.specs.Ranks.{chain_rank_at, chain_free_at}
+use Rattle.ux_net.proofs.ranks.push_lines.Given as goal
+
+abbrev pub invariant-loop-line : goal.invariant-loop-line
+invariant-loop-line l = record {
+  ranked : l.state_ranks.items ≡ l.fn.state_ranks.items
+      ++ flat_map (along_line l.places (chain_rank_at l.places l.ranks) l.place)
+      (range_with_len 0 l.line);
+  marked : l.state_frees.items ≡ l.fn.state_frees.items
+      ++ flat_map (along_line l.places (chain_free_at l.places l.fn.free) l.place)
+      (range_with_len 0 l.line);
+}

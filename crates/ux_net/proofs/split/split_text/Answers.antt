@@ -1,0 +1,42 @@
+use Rattle.std.proofs.Common.{arith, ◌≡◌, ◌-◌, ◌++◌, ℕ, List, [], ◌∷◌, ap, sym, subst, take, ◌∙◌}
+use Rattle.ux_tokens.specs.Tokens.{with_single_spaces}
+use Rattle.ux_net.specs.declared.label.Label.{Label}
+use Rattle.ux_net.specs.Splitting.{label_by}
+use Rattle.ux_net.proofs.SplittingLemmas.{IsCutInto, cut_into_start, cut_into_more}
+use Rattle.ux_net.proofs.split.split_text.Goals as goal
+
+pub loop-rest-init : goal.loop-rest-init
+loop-rest-init c =
+    let alphabet = c.args.alphabet.now in
+    let text = with_single_spaces c.args.text.now in
+    let before = c.args.labels.now.items in (
+      c.as_str-rest.utf8,
+      subst (λ (rest : List ℕ). IsCutInto alphabet c.args.comparison text before rest before)
+          (sym (c.as_str-rest.ensures.value ∙ c.in_ok-text.ensures))
+          (cut_into_start alphabet c.args.comparison text before),
+    )
+
+pub loop-rest-preserved : goal.loop-rest-preserved
+loop-rest-preserved c =
+    let alphabet = c.args.alphabet.now in
+    let text = with_single_spaces c.args.text.now in
+    let before = c.args.labels.now.items in
+    let rest = c.loop-rest.rest.now in
+    let after = c.range_from-rest.result.now in
+    let labels = c.loop-rest.labels.items in
+    let kind = c.first_token-kind.result.0 in
+    let len = c.first_token-kind.result.1 in
+    let whole_len : len - 0 ≡ len = omega arith in
+    let token : c.range.result.now ≡ take len rest =
+    c.range.ensures.value ∙ ap (λ (n : ℕ). take n rest) whole_len in
+    let label : c.in_ok-label_by.field-0 ≡ label_by c.args.comparison kind (take len rest) =
+    c.in_ok-label_by.ensures ∙ ap (label_by c.args.comparison kind) token in
+    let grown : c.push.new.self.items ≡ labels ++ label_by c.args.comparison kind (take len rest)
+    ∷ [] =
+    c.in_ok-push.ensures.items ∙ ap (λ (s : Label). labels ++ s ∷ []) label in (
+      c.range_from-rest.utf8,
+      subst (IsCutInto alphabet c.args.comparison text before after) (sym grown)
+          (cut_into_more alphabet c.args.comparison text before rest after labels kind len
+          c.loop-rest.invariant.0 c.first_token-kind.ensures.cut c.first_token-kind.ensures.is
+          c.range_from-rest.ensures.value c.loop-rest.invariant.1),
+    )

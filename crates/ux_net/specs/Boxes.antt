@@ -1,0 +1,122 @@
+-- The boxes of graphs, seen as places and steps. The manual, on graphs.
+use Rattle.std.specs.Prelude.{◌≡◌, ◌≢◌, ℕ, zero, suc, ◌+◌, List, [], ◌∷◌, ◌++◌, Option, Some, None, slice_get, Contains, map, length}
+use Rattle.ux_alphabet.specs.declared.line.Line.{Line}
+use Rattle.ux_tokens.specs.declared.kind.Kind.{Kind}
+use Rattle.ux_tokens.specs.declared.kind.Kind.TheVariants as kind
+use Rattle.ux_tokens.specs.Tokens.{Token, AreTokens}
+use Rattle.ux_grf.specs.declared.graph.GrfBox.{GrfBox}
+use Rattle.ux_grf.specs.declared.item.Item.{Item}
+use Rattle.ux_grf.specs.declared.item.Item.TheVariants as item
+use Rattle.ux_net.specs.declared.label.Label.{Label}
+use Rattle.ux_net.specs.declared.label.Label.TheVariants.{Empty, Fold, Exact, Space, Glue, Call}
+use Rattle.ux_net.specs.Words.{Step, StepGraph, Grammar}
+
+-- a graph of the list: its name, by which others call it, and its boxes
+pub record Drawn : Type 0 where
+  pub name : List ℕ
+  pub boxes : List GrfBox
+
+-- a piece of a literal: a space, or a token that the piece's characters fit
+abbrev pub fold_label : Kind → List ℕ → Label
+fold_label kind.Space text = Space
+fold_label kind.Word text = Fold text
+fold_label kind.Other text = Fold text
+fold_label kind.Sentence text = Fold text
+fold_label kind.Stop text = Fold text
+fold_label kind.Tag text = Fold text
+
+-- a piece of a quoted text: a space, or a token of exactly this text
+abbrev pub exact_label : Kind → List ℕ → Label
+exact_label kind.Space text = Space
+exact_label kind.Word text = Exact text
+exact_label kind.Other text = Exact text
+exact_label kind.Sentence text = Exact text
+exact_label kind.Stop text = Exact text
+exact_label kind.Tag text = Exact text
+
+-- a text is cut as a corpus is cut into tokens, each of which is a label
+abbrev pub IsCut : List Line → (Kind → List ℕ → Label) → List ℕ → List Label → Type 0
+IsCut alphabet label_of text labels =
+    (tokens : List Token) × AreTokens alphabet text tokens
+    × (labels ≡ map (λ token. label_of token.kind token.text) tokens)
+
+-- an item as labels; a call by the number of its graph; no labels are there yet for other items
+abbrev pub IsSplit : List Line → List (List ℕ) → Item → List Label → Type 0
+IsSplit alphabet names (item.Literal text) labels = IsCut alphabet fold_label text labels
+IsSplit alphabet names (item.Quoted text) labels = IsCut alphabet exact_label text labels
+IsSplit alphabet names item.Glue labels = labels ≡ Glue ∷ []
+IsSplit alphabet names item.Empty labels = labels ≡ Empty ∷ []
+IsSplit alphabet names (item.Call name) labels =
+    (k : ℕ) × (slice_get names k ≡ Some name) × (labels ≡ Call (k + 1) ∷ [])
+IsSplit alphabet names (item.Mask text) labels = ⊥
+IsSplit alphabet names (item.Brace text) labels = ⊥
+IsSplit alphabet names (item.Begin name) labels = ⊥
+IsSplit alphabet names (item.End name) labels = ⊥
+IsSplit alphabet names item.Positive labels = ⊥
+IsSplit alphabet names item.Negative labels = ⊥
+IsSplit alphabet names item.ContextEnd labels = ⊥
+IsSplit alphabet names item.Cut labels = ⊥
+
+-- a line of items as labels
+abbrev pub IsSplitLine : List Line → List (List ℕ) → List Item → List Label → Type 0
+IsSplitLine alphabet names [] labels = labels ≡ []
+IsSplitLine alphabet names (item ∷ items) labels =
+    (front back : List Label) × IsSplit alphabet names item front
+    × IsSplitLine alphabet names items back × (labels ≡ front ++ back)
+
+-- the lines of a box, where there is one
+abbrev pub lines_in : Option GrfBox → List (List Item)
+lines_in None = []
+lines_in (Some box) = box.lines
+
+-- the targets of a box, where there is one
+abbrev pub targets_in : Option GrfBox → List ℕ
+targets_in None = []
+targets_in (Some box) = box.targets
+
+-- the lines of a box: box 0 counts as one empty line, box 1 has none
+abbrev pub lines_at : List GrfBox → ℕ → List (List Item)
+lines_at boxes zero = (item.Empty ∷ []) ∷ []
+lines_at boxes (suc zero) = []
+lines_at boxes (suc (suc n)) = lines_in (slice_get boxes (suc (suc n)))
+
+-- the targets of the box of this number
+abbrev pub targets_at : List GrfBox → ℕ → List ℕ
+targets_at boxes n = targets_in (slice_get boxes n)
+
+-- a step into a target, along one of its lines; nothing leads on from box 1, the end
+pub record IsBoxStep (alphabet : List Line) (names : List (List ℕ)) (boxes : List GrfBox)
+    (step : Step) : Type 0 where
+  pub before_end : step.from ≢ 1
+  pub leads : Contains (targets_at boxes step.from) step.to
+  pub line : List Item
+  pub of_box : Contains (lines_at boxes step.to) line
+  pub splits : IsSplitLine alphabet names line step.labels
+
+-- the boxes as places: box 0 is the start, and a run ends where box 1 is a target
+abbrev pub box_graph : List Line → List (List ℕ) → List GrfBox → StepGraph
+box_graph alphabet names boxes = record {
+  start = 0;
+  IsEnd = λ place. (place ≢ 1) × Contains (targets_at boxes place) 1;
+  IsStep = IsBoxStep alphabet names boxes;
+}
+
+abbrev pub names_of : List Drawn → List (List ℕ)
+names_of graphs = map (λ (graph : Drawn). graph.name) graphs
+
+-- the boxes of a graph, where there is one
+abbrev pub boxes_in : Option Drawn → List GrfBox
+boxes_in None = []
+boxes_in (Some graph) = graph.boxes
+
+-- the boxes of the graph of this number, counted from 1
+abbrev pub boxes_of : List Drawn → ℕ → List GrfBox
+boxes_of graphs zero = []
+boxes_of graphs (suc n) = boxes_in (slice_get graphs n)
+
+-- the graphs as they are drawn, in order, of which the first is the main graph
+abbrev pub box_grammar : List Line → List Drawn → Grammar
+box_grammar alphabet graphs = record {
+  count = length graphs;
+  graph = λ g. box_graph alphabet (names_of graphs) (boxes_of graphs g);
+}

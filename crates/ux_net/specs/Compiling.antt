@@ -1,0 +1,66 @@
+-- What the parts of compiling give: names that are there, places, refusals and a net.
+use Rattle.std.specs.Prelude.{◌≡◌, ℕ, suc, ◌<◌, List, Some, slice_get, length, Contains}
+use Rattle.ux_alphabet.specs.declared.line.Line.{Line}
+use Rattle.ux_net.specs.declared.error.NetError.{NetError}
+use Rattle.ux_net.specs.declared.error.NetError.TheVariants.{MissingGraph, NotYet, EmptyLoop, LeftRecursion, NoMemory}
+use Rattle.ux_net.specs.declared.net_graph.NetGraph.{NetGraph}
+use Rattle.ux_net.specs.declared.place.Place.{Place}
+use Rattle.ux_net.specs.Admissible.{IsOnEmptyLoop, IsLeftRecursive}
+use Rattle.ux_net.specs.Boxes.{Drawn, boxes_of, names_of}
+use Rattle.ux_net.specs.Construct.{states_of}
+use Rattle.ux_net.specs.Nets.{graph_at}
+use Rattle.ux_net.specs.Places.{ArePlaces, places_of, place_grammar}
+use Rattle.ux_net.specs.Refusing.{IsFirstMissing, IsFirstNamed, is_named}
+
+-- every name of the first list is on the second
+abbrev pub AreThere : (calls names : List (List ℕ)) → Type 0
+AreThere calls names = (name : List ℕ) → Contains calls name → Contains names name
+
+-- the first name of the first list that isn't on the second
+pub record IsFirstLacking (calls names : List (List ℕ)) (name : List ℕ) : Type 0 where
+  pub k : ℕ
+  pub called : slice_get calls k ≡ Some name
+  pub missing : Contains names name → ⊥
+  pub before : (j : ℕ) (other : List ℕ) → j < k → slice_get calls j ≡ Some other →
+      Contains names other
+
+-- a list of graphs is refused for the first name that is missing, or for want of memory
+abbrev pub RefusesCalls : List Drawn → NetError → Type 0
+RefusesCalls graphs (MissingGraph name) = IsFirstMissing graphs name
+RefusesCalls graphs (NotYet name node) = ⊥
+RefusesCalls graphs (EmptyLoop name node) = ⊥
+RefusesCalls graphs (LeftRecursion name node) = ⊥
+RefusesCalls graphs NoMemory = Unit {0}
+
+-- the places of all graphs, each made of its boxes
+pub record AreSplit (alphabet : List Line) (graphs : List Drawn) (places : List (List Place)) :
+    Type 0 where
+  pub count : length places ≡ length graphs
+  pub each : (n : ℕ) → n < length graphs →
+      ArePlaces alphabet (names_of graphs) (boxes_of graphs (suc n)) (places_of places (suc n))
+
+-- a list of graphs is refused for what its places show, or for want of memory
+abbrev pub RefusesPlaces : List Drawn → List (List Place) → NetError → Type 0
+RefusesPlaces graphs places (MissingGraph name) = ⊥
+RefusesPlaces graphs places (NotYet name node) = ⊥
+RefusesPlaces graphs places (EmptyLoop name node) =
+    IsFirstNamed graphs (IsOnEmptyLoop (place_grammar places)) name node
+RefusesPlaces graphs places (LeftRecursion name node) =
+    ((g m : ℕ) → IsOnEmptyLoop (place_grammar places) g m → ⊥)
+    × IsFirstNamed graphs (IsLeftRecursive (place_grammar places)) name node
+RefusesPlaces graphs places NoMemory = Unit {0}
+
+-- a compiled graph has the name of the drawn graph of this number, and the states of its places
+pub record IsConstructedOf (alphabet : List Line) (graphs : List Drawn) (g : ℕ)
+    (graph : NetGraph) : Type 0 where
+  pub name : is_named graphs g graph.name
+  pub places : List Place
+  pub of_boxes : ArePlaces alphabet (names_of graphs) (boxes_of graphs g) places
+  pub states : graph.states ≡ states_of places
+
+-- a net has one compiled graph for each drawn one, in order
+pub record IsConstructed (alphabet : List Line) (graphs : List Drawn) (net : List NetGraph) :
+    Type 0 where
+  pub count : length net ≡ length graphs
+  pub each : (g : ℕ) (graph : NetGraph) → graph_at net g ≡ Some graph →
+      IsConstructedOf alphabet graphs g graph

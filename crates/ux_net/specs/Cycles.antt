@@ -1,0 +1,47 @@
+-- Steps whose two ends lead to each other.
+use Rattle.std.specs.Prelude.{◌≡◌, ℕ, ◌⊎◌, ◌↔◌, List, [], ◌∷◌, length, get_or, Contains}
+use Rattle.ux_digraph.specs.Paths.{row_of}
+use Rattle.ux_digraph.specs.Components.{AreComponents}
+use Rattle.ux_net.specs.declared.label.Label.TheVariants.{Call}
+use Rattle.ux_net.specs.declared.place.Place.{Place}
+use Rattle.ux_net.specs.Words.{Step, letters}
+use Rattle.ux_net.specs.Places.{places_of, place_grammar, IsPlaceStep}
+use Rattle.ux_net.specs.Admissible.{IsFree}
+use Rattle.ux_net.specs.Numbers.{number_of, all_places}
+use Rattle.ux_net.specs.Ways.{IsFreeEdge, IsEntryEdge}
+
+-- the edges are the steps that may take nothing
+pub record AreFreeEdges (graphs : List (List Place)) (edges : List (List ℕ)) : Type 0 where
+  pub len : length edges ≡ all_places graphs
+  pub edge : (u v : ℕ) → Contains (row_of edges u) v ↔ IsFreeEdge graphs u v
+
+-- the edges are these, and those that enter a graph
+pub record AreAllEdges (graphs : List (List Place)) (edges : List (List ℕ)) : Type 0 where
+  pub len : length edges ≡ all_places graphs
+  pub edge : (u v : ℕ) →
+      Contains (row_of edges u) v ↔ (IsFreeEdge graphs u v ⊎ IsEntryEdge graphs u v)
+
+-- a step from the node that may take nothing has one number at both ends
+pub record IsLoopStep (graphs : List (List Place)) (numbers : List ℕ) (g node : ℕ) : Type 0 where
+  pub step : Step
+  pub of_graph : IsPlaceStep (places_of graphs g) step
+  pub begins : step.from ≡ node
+  pub free : IsFree (place_grammar graphs) (letters step.labels)
+  pub same : get_or numbers (number_of graphs g step.from) 0 ≡
+      get_or numbers (number_of graphs g step.to) 0
+
+-- at a step to the node a graph is entered whose start has the number of the step's beginning
+pub record IsEntryStep (graphs : List (List Place)) (numbers : List ℕ) (g node : ℕ) : Type 0 where
+  pub step : Step
+  pub of_graph : IsPlaceStep (places_of graphs g) step
+  pub to_node : step.to ≡ node
+  pub called : ℕ
+  pub calls : step.labels ≡ Call called ∷ []
+  pub same : get_or numbers (number_of graphs g step.from) 0 ≡
+      get_or numbers (number_of graphs called 0) 0
+
+-- the numbers are those of the components of all edges
+pub record AreNumbered (graphs : List (List Place)) (numbers : List ℕ) : Type 0 where
+  pub edges : List (List ℕ)
+  pub all : AreAllEdges graphs edges
+  pub components : AreComponents edges numbers

@@ -1,0 +1,74 @@
+-- Compiled graphs, seen as places and steps: a state is a place, an edge a step of one label.
+use Rattle.std.specs.Prelude.{◌≡◌, ℕ, zero, suc, ◌<◌, ◌≤◌, List, [], ◌∷◌, Option, Some, None, slice_get, Contains, length, IsTrue}
+use Rattle.ux_net.specs.declared.label.Label.{Label}
+use Rattle.ux_net.specs.declared.label.Label.TheVariants.{Empty, Fold, Exact, Space, Glue, Call}
+use Rattle.ux_net.specs.declared.state.Edge.{Edge}
+use Rattle.ux_net.specs.declared.state.State.{State}
+use Rattle.ux_net.specs.declared.net_graph.NetGraph.{NetGraph}
+use Rattle.ux_net.specs.Words.{Step, StepGraph, Grammar}
+
+module _ (states : List State) where
+  -- a step along an edge
+  pub record IsNetStep (step : Step) : Type 0 where
+    pub state : State
+    pub found : slice_get states step.from ≡ Some state
+    pub edge : Edge
+    pub inside : Contains state.edges edge
+    pub to : step.to ≡ edge.target
+    pub label : step.labels ≡ edge.label ∷ []
+
+  -- the state is final
+  pub record IsNetEnd (n : ℕ) : Type 0 where
+    pub state : State
+    pub found : slice_get states n ≡ Some state
+    pub final : IsTrue state.is_final
+
+  -- the states as a graph that starts at state 0
+  abbrev pub net_graph : StepGraph
+  net_graph = record {
+    start = 0;
+    IsEnd = IsNetEnd;
+    IsStep = IsNetStep;
+  }
+
+-- the graph of this number, counted from 1
+abbrev pub graph_at : List NetGraph → ℕ → Option NetGraph
+graph_at graphs zero = None
+graph_at graphs (suc n) = slice_get graphs n
+
+-- the states of a graph, where there is one
+abbrev pub states_in : Option NetGraph → List State
+states_in None = []
+states_in (Some graph) = graph.states
+
+-- the states of the graph of this number
+abbrev pub states_of : List NetGraph → ℕ → List State
+states_of graphs g = states_in (graph_at graphs g)
+
+-- the graphs of a net, of which the first is the main graph
+abbrev pub net_grammar : List NetGraph → Grammar
+net_grammar graphs = record {
+  count = length graphs;
+  graph = λ g. net_graph (states_of graphs g);
+}
+
+-- a call is of a graph that is there
+abbrev pub IsCalled : ℕ → Label → Type 0
+IsCalled count (Call graph) = (1 ≤ graph) × (graph ≤ count)
+IsCalled count Empty = Unit {0}
+IsCalled count (Fold text) = Unit {0}
+IsCalled count (Exact text) = Unit {0}
+IsCalled count Space = Unit {0}
+IsCalled count Glue = Unit {0}
+
+-- an edge leads to a state that is there, and calls a graph that is there
+pub record IsEdgeInside (count states : ℕ) (edge : Edge) : Type 0 where
+  pub target : edge.target < states
+  pub called : IsCalled count edge.label
+
+-- every graph has a state, and every edge stays inside
+pub record AreInside (graphs : List NetGraph) : Type 0 where
+  pub start : (g : ℕ) (graph : NetGraph) → graph_at graphs g ≡ Some graph → 0 < length graph.states
+  pub edges : (g n : ℕ) (state : State) (edge : Edge) →
+      slice_get (states_of graphs g) n ≡ Some state → Contains state.edges edge →
+      IsEdgeInside (length graphs) (length (states_of graphs g)) edge

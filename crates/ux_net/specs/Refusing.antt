@@ -1,0 +1,129 @@
+-- Why a list of graphs isn't compiled.
+use Rattle.std.specs.Prelude.{◌≡◌, ℕ, zero, suc, ◌<◌, Bool, true, false, ◌||◌, nat_lt, List, [], length, map, Option, Some, None, slice_get, string_bytes, String, Contains, All}
+use Rattle.std.specs.declared.alloc.Global.{Global}
+use Rattle.std.specs.List.{list_any}
+use Rattle.ux_alphabet.specs.declared.line.Line.{Line}
+use Rattle.ux_grf.specs.declared.graph.Graph.{Graph}
+use Rattle.ux_grf.specs.declared.graph.GrfBox.{GrfBox}
+use Rattle.ux_grf.specs.declared.item.Item.{Item}
+use Rattle.ux_grf.specs.declared.item.Item.TheVariants as item
+use Rattle.ux_net.specs.declared.error.NetError.{NetError}
+use Rattle.ux_net.specs.declared.error.NetError.TheVariants.{MissingGraph, NotYet, EmptyLoop, LeftRecursion, NoMemory}
+use Rattle.ux_grf.specs.Needs.{called_names}
+use Rattle.ux_net.specs.Boxes.{Drawn, boxes_of, names_of, box_grammar}
+use Rattle.ux_net.specs.Admissible.{IsOnEmptyLoop, IsLeftRecursive, IsFirst, IsAdmissible}
+
+-- a graph that is given with its name
+abbrev pub drawn_of : String Global × Graph → Drawn
+drawn_of graph = record { name = string_bytes graph.0; boxes = graph.1.boxes }
+
+abbrev pub drawn : List (String Global × Graph) → List Drawn
+drawn graphs = map drawn_of graphs
+
+-- the item isn't compiled yet
+abbrev pub is_beyond : Item → Bool
+is_beyond (item.Literal text) = false
+is_beyond (item.Quoted text) = false
+is_beyond item.Glue = false
+is_beyond item.Empty = false
+is_beyond (item.Call name) = false
+is_beyond (item.Mask text) = true
+is_beyond (item.Brace text) = true
+is_beyond (item.Begin name) = true
+is_beyond (item.End name) = true
+is_beyond item.Positive = true
+is_beyond item.Negative = true
+is_beyond item.ContextEnd = true
+is_beyond item.Cut = true
+
+abbrev pub has_beyond_line : List Item → Bool
+has_beyond_line line = list_any is_beyond line
+
+-- the box has such an item, or an output
+abbrev pub has_beyond : GrfBox → Bool
+has_beyond box = list_any has_beyond_line box.lines || nat_lt 0 (length box.output)
+
+abbrev pub HasNoBeyond : List GrfBox → Type 0
+HasNoBeyond boxes = All (λ (b : GrfBox). has_beyond b ≡ false) boxes
+
+-- whether it is so of the box, where there is one
+abbrev pub beyond_in : Option GrfBox → Bool
+beyond_in None = false
+beyond_in (Some box) = has_beyond box
+
+-- the first box that is so
+pub record IsFirstBeyond (boxes : List GrfBox) (node : ℕ) : Type 0 where
+  pub here : beyond_in (slice_get boxes node) ≡ true
+  pub least : (m : ℕ) → m < node → beyond_in (slice_get boxes m) ≡ false
+
+abbrev pub IsBeyondAt : List Drawn → (g node : ℕ) → Type 0
+IsBeyondAt graphs g node = beyond_in (slice_get (boxes_of graphs g) node) ≡ true
+
+-- every box is compiled
+abbrev pub AreCompiled : List Drawn → Type 0
+AreCompiled graphs = All (λ (graph : Drawn). HasNoBeyond graph.boxes) graphs
+
+-- the name of the graph of this number, counted from 1
+abbrev pub is_named : List Drawn → ℕ → List ℕ → Type 0
+is_named graphs zero name = ⊥
+is_named graphs (suc n) name = slice_get (names_of graphs) n ≡ Some name
+
+-- the graph of this name, and a node of it, come first
+abbrev pub IsFirstNamed : List Drawn → (IsSo : (g node : ℕ) → Type 0) → List ℕ → ℕ → Type 0
+IsFirstNamed graphs IsSo name node = (g : ℕ) × is_named graphs g name × IsFirst IsSo g node
+
+-- the first box that isn't compiled yet is refused
+abbrev pub HasFirstBeyond : List Drawn → NetError → Type 0
+HasFirstBeyond graphs (NotYet name node) = IsFirstNamed graphs (IsBeyondAt graphs) name node
+HasFirstBeyond graphs (MissingGraph name) = ⊥
+HasFirstBeyond graphs (EmptyLoop name node) = ⊥
+HasFirstBeyond graphs (LeftRecursion name node) = ⊥
+HasFirstBeyond graphs NoMemory = ⊥
+
+-- the names by which a graph calls others, in order
+abbrev pub calls_of : Drawn → List (List ℕ)
+calls_of graph = called_names (record { boxes = graph.boxes })
+
+abbrev pub calls_in : Option Drawn → List (List ℕ)
+calls_in None = []
+calls_in (Some graph) = calls_of graph
+
+-- every call of the graph of this number is of a graph that is there
+abbrev pub AreCalled : List Drawn → ℕ → Type 0
+AreCalled graphs n =
+    (name : List ℕ) → Contains (calls_in (slice_get graphs n)) name →
+    Contains (names_of graphs) name
+
+-- every call is
+abbrev pub AreWhole : List Drawn → Type 0
+AreWhole graphs = (n : ℕ) → AreCalled graphs n
+
+-- the first name that is called and that no graph has
+pub record IsFirstMissing (graphs : List Drawn) (name : List ℕ) : Type 0 where
+  pub n : ℕ
+  pub k : ℕ
+  pub called : slice_get (calls_in (slice_get graphs n)) k ≡ Some name
+  pub missing : Contains (names_of graphs) name → ⊥
+  pub earlier : (m : ℕ) → m < n → AreCalled graphs m
+  pub before : (j : ℕ) (other : List ℕ) → j < k →
+      slice_get (calls_in (slice_get graphs n)) j ≡ Some other → Contains (names_of graphs) other
+
+-- why a list of graphs isn't compiled: the tests in their order, each with its place
+abbrev pub Refuses : List Line → List Drawn → NetError → Type 0
+Refuses alphabet graphs (MissingGraph name) = IsFirstMissing graphs name
+Refuses alphabet graphs (NotYet name node) =
+    AreWhole graphs × IsFirstNamed graphs (IsBeyondAt graphs) name node
+Refuses alphabet graphs (EmptyLoop name node) =
+    AreWhole graphs × AreCompiled graphs
+    × IsFirstNamed graphs (IsOnEmptyLoop (box_grammar alphabet graphs)) name node
+Refuses alphabet graphs (LeftRecursion name node) =
+    AreWhole graphs × AreCompiled graphs
+    × ((g m : ℕ) → IsOnEmptyLoop (box_grammar alphabet graphs) g m → ⊥)
+    × IsFirstNamed graphs (IsLeftRecursive (box_grammar alphabet graphs)) name node
+Refuses alphabet graphs NoMemory = Unit {0}
+
+-- every call is of a graph that is there, every box is compiled, and the grammar is admissible
+pub record IsCompilable (alphabet : List Line) (graphs : List Drawn) : Type 0 where
+  pub whole : AreWhole graphs
+  pub compiled : AreCompiled graphs
+  pub admissible : IsAdmissible (box_grammar alphabet graphs)

@@ -1,0 +1,84 @@
+-- How a box's lines become those of a place, one item after another.
+use Rattle.std.specs.Prelude.{◌≡◌, ℕ, zero, suc, ◌+◌, List, [], ◌∷◌, ◌++◌, All, Contains, Some, slice_get}
+use Rattle.std.specs.List.{AllZip}
+use Rattle.ux_alphabet.specs.declared.line.Line.{Line}
+use Rattle.ux_tokens.specs.declared.kind.Kind.{Kind}
+use Rattle.ux_grf.specs.declared.graph.GrfBox.{GrfBox}
+use Rattle.ux_grf.specs.declared.item.Item.{Item}
+use Rattle.ux_grf.specs.declared.item.Item.TheVariants as item
+use Rattle.ux_net.specs.declared.label.Label.{Label}
+use Rattle.ux_net.specs.declared.label.Label.TheVariants as label
+use Rattle.ux_net.specs.declared.place.Place.{Place}
+use Rattle.ux_net.specs.declared.split.Comparison.{Comparison}
+use Rattle.ux_net.specs.declared.split.Comparison.TheVariants.{Folded, Exact}
+use Rattle.ux_net.specs.Boxes.{fold_label, exact_label, IsCut, IsSplit, IsSplitLine}
+
+-- the label of a piece of a text, by how it is compared
+abbrev pub label_by : Comparison → Kind → List ℕ → Label
+label_by Folded kind text = fold_label kind text
+label_by Exact kind text = exact_label kind text
+
+abbrev pub text_label : Comparison → List ℕ → Label
+text_label Folded text = label.Fold text
+text_label Exact text = label.Exact text
+
+-- the item has labels already: it is a text, a call of a graph that is there, `#` or empty
+abbrev pub IsSplittable : List (List ℕ) → Item → Type 0
+IsSplittable names (item.Literal text) = Unit {0}
+IsSplittable names (item.Quoted text) = Unit {0}
+IsSplittable names item.Glue = Unit {0}
+IsSplittable names item.Empty = Unit {0}
+IsSplittable names (item.Call name) = Contains names name
+IsSplittable names (item.Mask text) = ⊥
+IsSplittable names (item.Brace text) = ⊥
+IsSplittable names (item.Begin name) = ⊥
+IsSplittable names (item.End name) = ⊥
+IsSplittable names item.Positive = ⊥
+IsSplittable names item.Negative = ⊥
+IsSplittable names item.ContextEnd = ⊥
+IsSplittable names item.Cut = ⊥
+
+abbrev pub IsSplittableBox : List (List ℕ) → GrfBox → Type 0
+IsSplittableBox names box = All (All (IsSplittable names)) box.lines
+
+-- the number, counted from 1, of the graph of this name
+abbrev pub IsNumberOf : List (List ℕ) → List ℕ → ℕ → Type 0
+IsNumberOf names name number = (k : ℕ) × (slice_get names k ≡ Some name) × (number ≡ k + 1)
+
+-- the call of this number stands behind what was there
+abbrev pub IsNumbered : List (List ℕ) → List ℕ → (before after : List Label) → Type 0
+IsNumbered names name before after =
+    (number : ℕ) × IsNumberOf names name number × (after ≡ before ++ label.Call number ∷ [])
+
+-- the labels of one item stand behind what was there
+abbrev pub IsBehind : List Line → List (List ℕ) → Item → (before after : List Label) → Type 0
+IsBehind alphabet names item before after =
+    (added : List Label) × IsSplit alphabet names item added × (after ≡ before ++ added)
+
+-- the labels of a text do
+abbrev pub IsCutBehind : List Line → Comparison → List ℕ → (before after : List Label) → Type 0
+IsCutBehind alphabet comparison text before after =
+    (added : List Label) × IsCut alphabet (label_by comparison) text added
+    × (after ≡ before ++ added)
+
+-- each line as labels
+abbrev pub AreSplitLines : List Line → List (List ℕ) → List (List Item) → List (List Label) →
+    Type 0
+AreSplitLines alphabet names lines split = AllZip (IsSplitLine alphabet names) lines split
+
+-- the line of box 0: the empty word
+abbrev pub start_line : List Item
+start_line = item.Empty ∷ []
+
+-- the lines of a box of this number
+abbrev pub numbered_lines : ℕ → GrfBox → List (List Item)
+numbered_lines zero grf_box = start_line ∷ []
+numbered_lines (suc zero) grf_box = []
+numbered_lines (suc (suc n)) grf_box = grf_box.lines
+
+module _ (alphabet : List Line) (names : List (List ℕ)) where
+  -- the place of a box of this number
+  pub record IsPlaceOf (number : ℕ) (grf_box : GrfBox) (place : Place) : Type 0 where
+    pub reached : place.reached ≡ grf_box.reached
+    pub targets : place.targets ≡ grf_box.targets
+    pub lines : AreSplitLines alphabet names (numbered_lines number grf_box) place.lines

@@ -1,0 +1,46 @@
+-- The first place of the first graph of which something is so.
+use Rattle.std.specs.Prelude.{◌≡◌, ℕ, ◌<◌, ◌≤◌, ◌⊎◌, List, Option, Some, None, Contains, get_or, Bool}
+use Rattle.ux_net.specs.declared.spot.Spot.{Spot}
+use Rattle.ux_net.specs.declared.way.Way.{Way}
+use Rattle.ux_net.specs.Admissible.{IsFirst}
+use Rattle.ux_net.specs.Ways.{IsOpen}
+
+-- no spot behind the other, by graph and then by node
+abbrev pub IsNotBehind : Spot → Spot → Type 0
+IsNotBehind spot other =
+    (spot.graph < other.graph) ⊎ ((spot.graph ≡ other.graph) × (spot.node ≤ other.node))
+
+-- one of the spots is behind none of them, or there is none
+abbrev pub IsLeast : List Spot → Option Spot → Type 0
+IsLeast spots None = (spot : Spot) → Contains spots spot → ⊥
+IsLeast spots (Some spot) =
+    Contains spots spot × ((other : Spot) → Contains spots other → IsNotBehind spot other)
+
+-- the first place of which it is so, or there is none
+abbrev pub FindsFirst : ((g node : ℕ) → Type 0) → Option Spot → Type 0
+FindsFirst IsSo None = (g node : ℕ) → IsSo g node → ⊥
+FindsFirst IsSo (Some spot) = IsFirst IsSo spot.graph spot.node
+
+-- the edge of a way that may take nothing
+abbrev pub IsFreePair : List Bool → Way → ℕ × ℕ → Type 0
+IsFreePair marks way pair =
+    IsOpen marks way.called × (◌≡◌ {A = ℕ × ℕ} (way.from, way.to) pair)
+
+-- the edge of a way that enters a graph
+abbrev pub IsEntryPair : Way → ℕ × ℕ → Type 0
+IsEntryPair way pair =
+    (start : ℕ) × (way.called ≡ Some start) × (◌≡◌ {A = ℕ × ℕ} (way.from, start) pair)
+
+-- the source of a way that may take nothing, and whose ends have one number
+abbrev pub IsLoopSpot : List Bool → List ℕ → Way → Spot → Type 0
+IsLoopSpot marks numbers way spot =
+    IsOpen marks way.called
+    × (get_or numbers way.from 0 ≡ get_or numbers way.to 0)
+    × (record { graph = way.graph; node = way.source } ≡ spot)
+
+-- the target of a way that enters a graph whose start has the number of its source
+abbrev pub IsEntrySpot : List ℕ → Way → Spot → Type 0
+IsEntrySpot numbers way spot =
+    (start : ℕ) × (way.called ≡ Some start)
+    × (get_or numbers way.from 0 ≡ get_or numbers start 0)
+    × (record { graph = way.graph; node = way.target } ≡ spot)

@@ -1,0 +1,85 @@
+//! Whether a grammar has a finite meaning.
+//!
+//! A grammar is refused where a loop takes nothing, or where a graph begins with itself. The places
+//! of all graphs are nodes. Where a step may take nothing, an edge leads along it; where it calls a
+//! graph, an edge leads from it to the start of that graph. A loop that takes nothing is then an
+//! edge of the first kind inside a strongly connected component of these edges; a graph begins with
+//! itself at an edge of the second kind inside a component of all. In a grammar that is neither,
+//! the numbers of the components fall along each edge: they are the ranks by which every walk ends.
+
+ghost use Rattle.std.specs.Prelude.{◌≡◌, length, All, IfOk, IfErr, OnOk};
+ghost use Rattle.ux_net.specs.Fit.{IsFit};
+ghost use Rattle.ux_net.specs.Places.{place_grammar};
+ghost use Rattle.ux_net.specs.Admissible.{IsAdmissible};
+ghost use Rattle.ux_net.specs.Admission.{ArePlaceRanks};
+ghost use Rattle.ux_net.specs.Refusals.{IsRefusal};
+
+use crate::cycles::{first_loop, first_recursion, numbers_of};
+use crate::freeness::free_places;
+use crate::offsets::offsets_of;
+use crate::place::Place;
+use crate::rows::rows_by_graph;
+use crate::ways::ways_of;
+use std::alloc::{AllocError, Global};
+use ux_base::{Lst, NoMemory};
+
+/// What an admissible grammar has: in a row for each graph, with an entry for each place.
+#[derive(Debug, Drop)]
+pub struct Admission {
+    /// A rank, which falls along each step that may take nothing, and to each start that is called.
+    pub ranks: Vec<Lst<usize>>,
+    /// Whether a run that may take nothing leads to an end.
+    pub free: Vec<Lst<bool>>,
+}
+
+/// Why a grammar is refused. Graphs are counted from 1.
+#[derive(Clone, Copy, Debug, PartialEq, Eq)]
+pub enum AdmissionError {
+    /// A loop through this node takes nothing.
+    EmptyLoop { graph: usize, node: usize },
+    /// At this node the graph begins with itself.
+    LeftRecursion { graph: usize, node: usize },
+    /// Memory ran out.
+    NoMemory,
+}
+
+impl From<NoMemory> for AdmissionError {
+    ghost use Rattle.std.specs.Prelude.{◌≡◌};
+    ghost use Rattle.ux_net.specs.declared.admissible.AdmissionError.TheVariants.{NoMemory};
+
+    ghost from_gives = { λ _ e. e ≡ NoMemory };
+
+    fn from(_error: NoMemory) -> AdmissionError {
+        AdmissionError::NoMemory
+    }
+}
+
+/// The ranks of an admissible grammar; of another, the first graph with an empty loop and the least
+/// node on one, and else the first that begins with itself and the least node at which it does.
+pub fn admit(alloc: Global, graphs: &[Lst<Place>]) -> Result<Admission, AdmissionError>
+    requires fit { All (IsFit (length graphs.now)) graphs.now }
+    ensures ranks { IfOk result (λ admission.
+        ArePlaceRanks graphs.now admission.ranks.items admission.free.items) }
+    ensures admissible { OnOk result (IsAdmissible (place_grammar graphs.now)) }
+    ensures cause { IfErr result (IsRefusal graphs.now) }
+{
+    let offsets = offsets_of(alloc, graphs)?;
+    let ways = ways_of(alloc, graphs, &offsets)?;
+    let marks = free_places(alloc, graphs, &offsets, &ways)?;
+    if let Some(spot) = first_loop(alloc, graphs, &offsets, &ways, &marks)? {
+        return Err(AdmissionError::EmptyLoop {
+            graph: spot.graph,
+            node: spot.node,
+        });
+    }
+    let numbers = numbers_of(alloc, graphs, &offsets, &ways, &marks)?;
+    if let Some(spot) = first_recursion(alloc, graphs, &ways, &numbers)? {
+        return Err(AdmissionError::LeftRecursion {
+            graph: spot.graph,
+            node: spot.node,
+        });
+    }
+    let ranks = rows_by_graph(alloc, graphs, &numbers)?;
+    let free = rows_by_graph(alloc, graphs, &marks)?;
+    Ok(Admission { ranks, free })
+}

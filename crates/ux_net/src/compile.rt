@@ -1,0 +1,41 @@
+//! Compiles a list of graphs.
+
+ghost use Rattle.std.specs.Prelude.{◌≡◌, ◌≢◌, ◌≤◌, ◌<◌, ℕ, All, AllPairs, IfErr, IfOk, OnOk, length, string_bytes};
+ghost use Rattle.ux_grf.specs.Size.{size_of};
+ghost use Rattle.ux_grf.specs.WellFormed.{IsWellFormed};
+ghost use Rattle.ux_net.specs.Boxes.{box_grammar};
+ghost use Rattle.ux_net.specs.Compiling.{IsConstructed};
+ghost use Rattle.ux_net.specs.Nets.{net_graph, states_of};
+ghost use Rattle.ux_net.specs.Refusing.{drawn, IsCompilable, Refuses};
+ghost use Rattle.ux_net.specs.Words.{HaveSameWords};
+
+use crate::error::NetError;
+use crate::grammar::compiled;
+use crate::net::Net;
+use std::alloc::Global;
+use ux_alphabet::Alphabet;
+use ux_grf::Graph;
+
+impl Net {
+    /// The graphs as states. The first is the main graph.
+    pub fn compile(
+        alloc: Global,
+        graphs: Vec<(String, Graph)>,
+        alphabet: &Alphabet,
+    ) -> Result<Net, NetError>
+        requires some { 0 < length graphs.items }
+        requires few { length graphs.items ≤ 65535 }
+        requires well_formed { All (λ graph. IsWellFormed graph.1) graphs.items }
+        requires small { All (λ graph. size_of graph.1 < 4294967296) graphs.items }
+        requires distinct { AllPairs (λ a b. string_bytes a.0 ≢ string_bytes b.0) graphs.items }
+        ensures compilable { OnOk result (IsCompilable alphabet.now (drawn graphs.items)) }
+        ensures words { IfOk result (λ net. (g : ℕ) → HaveSameWords
+            ((box_grammar alphabet.now (drawn graphs.items)).graph g)
+            (net_graph (states_of net g))) }
+        ensures built { IfOk result (λ net.
+            IsConstructed alphabet.now (drawn graphs.items) net) }
+        ensures err { IfErr result (Refuses alphabet.now (drawn graphs.items)) }
+    {
+        Ok(Net::of(compiled(alloc, &graphs, alphabet)?))
+    }
+}

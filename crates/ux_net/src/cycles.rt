@@ -1,0 +1,159 @@
+//! Where a grammar has an empty loop, or a graph that begins with itself.
+
+ghost use Rattle.std.specs.Prelude.{◌≡◌, ℕ, ◌↔◌, List, length, get_or, All, Contains, IfOk, OnOk, IsTrue};
+ghost use Rattle.ux_net.specs.Places.{place_grammar};
+ghost use Rattle.ux_net.specs.Fit.{IsFit};
+ghost use Rattle.ux_net.specs.Admissible.{IsOnEmptyLoop, IsLeftRecursive};
+ghost use Rattle.ux_net.specs.Numbers.{AreOffsets};
+ghost use Rattle.ux_net.specs.Ways.{AreWays, AreFreeMarks};
+ghost use Rattle.ux_net.specs.Gains.{Gains, SoOfOne};
+ghost use Rattle.ux_net.specs.Cycles.{AreNumbered};
+ghost use Rattle.ux_net.specs.Spots.{IsLoopSpot, IsEntrySpot, FindsFirst};
+
+use crate::edges::{all_rows, free_rows, is_open};
+use crate::place::Place;
+use crate::spot::{Spot, least};
+use crate::way::Way;
+use std::alloc::{AllocError, Global};
+use ux_base::{Lst, Mem};
+use ux_digraph::components;
+
+/// The first graph with an empty loop, and the least node on one.
+pub fn first_loop(
+    alloc: Global,
+    graphs: &[Lst<Place>],
+    offsets: &[usize],
+    ways: &[Way],
+    marks: &[bool],
+) -> Mem<Option<Spot>>
+    requires fit { All (IsFit (length graphs.now)) graphs.now }
+    requires offsets { AreOffsets graphs.now offsets.now }
+    requires ways { AreWays graphs.now ways.now }
+    requires marks { AreFreeMarks graphs.now marks.now }
+    ensures { IfOk result (FindsFirst (IsOnEmptyLoop (place_grammar graphs.now))) }
+{
+    let rows = free_rows(alloc, graphs, offsets, ways, marks)?;
+    let numbers = components(alloc, &rows)?;
+    let mut spots = Vec::new(alloc);
+    push_loop_spots(&mut spots, ways, marks, &numbers)?;
+    Ok(least(&spots))
+}
+
+/// Numbers of all places, which never rise along the edges of steps that may take nothing, or enter
+/// a graph, and which are equal where each of two places leads to the other.
+pub fn numbers_of(
+    alloc: Global,
+    graphs: &[Lst<Place>],
+    offsets: &[usize],
+    ways: &[Way],
+    marks: &[bool],
+) -> Mem<Vec<usize>>
+    requires fit { All (IsFit (length graphs.now)) graphs.now }
+    requires offsets { AreOffsets graphs.now offsets.now }
+    requires ways { AreWays graphs.now ways.now }
+    requires marks { AreFreeMarks graphs.now marks.now }
+    ensures { IfOk result (λ numbers. AreNumbered graphs.now numbers.items) }
+{
+    let rows = all_rows(alloc, graphs, offsets, ways, marks)?;
+    let numbers = components(alloc, &rows)?;
+    Ok(numbers)
+}
+
+/// The first graph that begins with itself, and the least node at which it does.
+pub fn first_recursion(
+    alloc: Global,
+    graphs: &[Lst<Place>],
+    ways: &[Way],
+    numbers: &[usize],
+) -> Mem<Option<Spot>>
+    requires fit { All (IsFit (length graphs.now)) graphs.now }
+    requires ways { AreWays graphs.now ways.now }
+    requires numbers { AreNumbered graphs.now numbers.now }
+    ensures { IfOk result (FindsFirst (IsLeftRecursive (place_grammar graphs.now))) }
+{
+    let mut spots = Vec::new(alloc);
+    push_entry_spots(&mut spots, ways, numbers)?;
+    Ok(least(&spots))
+}
+
+/// Adds the sources of the ways that may take nothing, and whose ends have one number.
+fn push_loop_spots(
+    spots: &mut Vec<Spot>,
+    ways: &[Way],
+    marks: &[bool],
+    numbers: &[usize],
+) -> Result<(), AllocError>
+    ensures { OnOk result (Gains spots.old.items spots.new.items
+        (SoOfOne ways.now (IsLoopSpot marks.now numbers.now))) }
+{
+    for way in ways {
+        push_loop_spot(spots, *way, marks, numbers)?;
+    }
+    Ok(())
+}
+
+/// Adds the source of the way, if it may take nothing and its ends have one number.
+fn push_loop_spot(
+    spots: &mut Vec<Spot>,
+    way: Way,
+    marks: &[bool],
+    numbers: &[usize],
+) -> Result<(), AllocError>
+    ensures { OnOk result
+        (Gains spots.old.items spots.new.items (IsLoopSpot marks.now numbers.now way)) }
+{
+    if !is_open(marks, way.called) {
+        return Ok(());
+    }
+    if number_at(numbers, way.from) != number_at(numbers, way.to) {
+        return Ok(());
+    }
+    spots.push(Spot {
+        graph: way.graph,
+        node: way.source,
+    })?;
+    Ok(())
+}
+
+/// Adds the targets of the ways that enter a graph whose start has the number of their source.
+fn push_entry_spots(
+    spots: &mut Vec<Spot>,
+    ways: &[Way],
+    numbers: &[usize],
+) -> Result<(), AllocError>
+    ensures { OnOk result (Gains spots.old.items spots.new.items
+        (SoOfOne ways.now (IsEntrySpot numbers.now))) }
+{
+    for way in ways {
+        push_entry_spot(spots, *way, numbers)?;
+    }
+    Ok(())
+}
+
+/// Adds the target of the way, if it enters a graph whose start has the number of its source.
+fn push_entry_spot(spots: &mut Vec<Spot>, way: Way, numbers: &[usize]) -> Result<(), AllocError>
+    ensures { OnOk result
+        (Gains spots.old.items spots.new.items (IsEntrySpot numbers.now way)) }
+{
+    let Some(start) = way.called else {
+        return Ok(());
+    };
+    if number_at(numbers, way.from) != number_at(numbers, start) {
+        return Ok(());
+    }
+    spots.push(Spot {
+        graph: way.graph,
+        node: way.target,
+    })?;
+    Ok(())
+}
+
+/// The number of the place.
+fn number_at(numbers: &[usize], place: usize) -> usize
+    ensures { result ≡ get_or numbers.now place 0 }
+{
+    match numbers.get(place) {
+        Some(number) => *number,
+        None => 0,
+    }
+}

@@ -1,0 +1,56 @@
+//! Why a list of graphs isn't compiled.
+
+ghost use Rattle.std.specs.Prelude.{◌≡◌};
+ghost use Rattle.ux_net.specs.declared.error.NetError.TheVariants.{NoMemory};
+
+use std::alloc::{AllocError, AllocFailed};
+use thiserror::Error;
+use ux_base::{NoMemory, Txt};
+
+/// Why a list of graphs isn't compiled. The first graph of the list is named, and in it the least
+/// node; nodes count boxes from 0.
+#[derive(Debug, Drop, Error)]
+pub enum NetError {
+    /// No graph of the list has this name, by which one is called.
+    #[error("no graph {name:?}")]
+    MissingGraph { name: Txt },
+    /// The box has an item or an output that isn't compiled yet.
+    #[error("not yet: box {node} of graph {graph:?}")]
+    NotYet { graph: Txt, node: u32 },
+    /// The box lies on a loop that takes no token.
+    #[error("empty loop at box {node} of graph {graph:?}")]
+    EmptyLoop { graph: Txt, node: u32 },
+    /// At the box the graph calls itself, or one that does in turn, before it took a token.
+    #[error("left recursion at box {node} of graph {graph:?}")]
+    LeftRecursion { graph: Txt, node: u32 },
+    /// Memory ran out.
+    #[error("no memory")]
+    NoMemory,
+}
+
+impl From<AllocError> for NetError {
+    ghost from_gives = { λ _ e. e ≡ NoMemory };
+
+    fn from(_error: AllocError) -> NetError {
+        NetError::NoMemory
+    }
+}
+
+impl<T: Drop> From<AllocFailed<T>> for NetError {
+    ghost from_gives = { λ _ e. e ≡ NoMemory };
+
+    fn from(_error: AllocFailed<T>) -> NetError {
+        NetError::NoMemory
+    }
+}
+
+impl From<NoMemory> for NetError {
+    ghost use Rattle.std.specs.Prelude.{◌≡◌};
+    ghost use Rattle.ux_net.specs.declared.error.NetError.TheVariants.{NoMemory};
+
+    ghost from_gives = { λ _ e. e ≡ NoMemory };
+
+    fn from(_error: NoMemory) -> NetError {
+        NetError::NoMemory
+    }
+}

@@ -1,0 +1,180 @@
+//! The parts of compiling a list of graphs, in their order: places, their ranks, and states.
+
+ghost use Rattle.std.specs.Prelude.{◌≡◌, ◌≢◌, ℕ, ◌≤◌, ◌<◌, List, All, AllPairs, IfErr, IfOk, OnOk, length, string_bytes, map};
+ghost use Rattle.ux_grf.specs.Size.{size_of};
+ghost use Rattle.ux_grf.specs.WellFormed.{IsWellFormed};
+ghost use Rattle.ux_tokens.specs.Numbers.{texts_in};
+ghost use Rattle.ux_net.specs.declared.net_graph.NetGraph.{NetGraph};
+ghost use Rattle.ux_net.specs.declared.place.Place.{Place};
+ghost use Rattle.ux_net.specs.Admissible.{IsAdmissible};
+ghost use Rattle.ux_net.specs.Admission.{ArePlaceRanks, AreRows};
+ghost use Rattle.ux_net.specs.Boxes.{box_grammar, names_of as names_of_graphs};
+ghost use Rattle.ux_net.specs.Compiling.{AreSplit, IsConstructed, RefusesPlaces};
+ghost use Rattle.ux_net.specs.Construct.{AreFit};
+ghost use Rattle.ux_net.specs.Fit.{IsFit};
+ghost use Rattle.ux_net.specs.Nets.{net_graph, states_of};
+ghost use Rattle.ux_net.specs.Places.{place_grammar};
+ghost use Rattle.ux_net.specs.Ranks.{AreBuilt, IsBuilt};
+ghost use Rattle.ux_net.specs.Refusing.{drawn, is_named, IsCompilable, Refuses};
+ghost use Rattle.ux_net.specs.Sound.{IsSound};
+ghost use Rattle.ux_net.specs.Splitting.{IsSplittableBox};
+ghost use Rattle.ux_net.specs.Words.{HaveSameWords};
+
+use crate::admissible::{Admission, AdmissionError, admit};
+use crate::checking::refuse_beyond;
+use crate::construct::states;
+use crate::error::NetError;
+use crate::missing::{names_of, refuse_missing};
+use crate::net_graph::NetGraph;
+use crate::place::Place;
+use crate::ranks::ranks;
+use crate::split::split_graph;
+use indexmap::IndexSet;
+use std::alloc::Global;
+use ux_alphabet::Alphabet;
+use ux_base::{Lst, Mem, Txt};
+use ux_grf::Graph;
+
+/// The graphs as states. Each test comes when those before it have passed.
+pub fn compiled(
+    alloc: Global,
+    graphs: &[(String, Graph)],
+    alphabet: &Alphabet,
+) -> Result<Vec<NetGraph>, NetError>
+    requires some { 0 < length graphs.now }
+    requires few { length graphs.now ≤ 65535 }
+    requires well_formed { All (λ graph. IsWellFormed graph.1) graphs.now }
+    requires small { All (λ graph. size_of graph.1 < 4294967296) graphs.now }
+    requires distinct { AllPairs (λ a b. string_bytes a.0 ≢ string_bytes b.0) graphs.now }
+    ensures compilable { OnOk result (IsCompilable alphabet.now (drawn graphs.now)) }
+    ensures built { IfOk result (λ net. IsConstructed alphabet.now (drawn graphs.now) net.items) }
+    ensures words { IfOk result (λ net. (g : ℕ) → HaveSameWords
+        ((box_grammar alphabet.now (drawn graphs.now)).graph g)
+        (net_graph (states_of net.items g))) }
+    ensures sound { IfOk result (λ net. IsSound net.items) }
+    ensures err { IfErr result (Refuses alphabet.now (drawn graphs.now)) }
+{
+    let names = names_of(alloc, graphs)?;
+    refuse_missing(alloc, graphs, &names)?;
+    refuse_beyond(alloc, graphs)?;
+    let places = split_graphs(alloc, alphabet, &names, graphs)?;
+    let admission = match admitted(alloc, graphs, &places) {
+        Ok(admission) => admission,
+        Err(error) => return Err(error),
+    };
+    Ok(build(alloc, graphs, &places, &admission.ranks, &admission.free)?)
+}
+
+/// The places of the graphs.
+fn split_graphs(
+    alloc: Global,
+    alphabet: &Alphabet,
+    names: &IndexSet<&str>,
+    graphs: &[(String, Graph)],
+) -> Mem<Vec<Lst<Place>>>
+    requires names { texts_in names.now ≡ names_of_graphs (drawn graphs.now) }
+    requires few { length (texts_in names.now) ≤ 65535 }
+    requires some { All (λ graph. 0 < length graph.1.boxes) graphs.now }
+    requires splittable { All (λ graph.
+        All (IsSplittableBox (texts_in names.now)) graph.1.boxes) graphs.now }
+    ensures { IfOk result (λ places. AreSplit alphabet.now (drawn graphs.now) places.items) }
+{
+    let mut places = Vec::new(alloc);
+    for (_, graph) in graphs {
+        places.push(Lst::new(split_graph(alloc, alphabet, names, graph)?))?;
+    }
+    Ok(places)
+}
+
+/// The ranks of an admissible grammar. The refusal of another names its graph.
+fn admitted(
+    alloc: Global,
+    graphs: &[(String, Graph)],
+    places: &[Lst<Place>],
+) -> Result<Admission, NetError>
+    requires count { length places.now ≡ length graphs.now }
+    requires fit { All (IsFit (length places.now)) places.now }
+    requires few { All (λ (graph : List Place). length graph ≤ 65535) places.now }
+    ensures ranks { IfOk result (λ admission.
+        ArePlaceRanks places.now admission.ranks.items admission.free.items) }
+    ensures admissible { OnOk result (IsAdmissible (place_grammar places.now)) }
+    ensures err { IfErr result (RefusesPlaces (drawn graphs.now) places.now) }
+{
+    match admit(alloc, places) {
+        Ok(admission) => Ok(admission),
+        Err(AdmissionError::EmptyLoop { graph, node }) => Err(NetError::EmptyLoop {
+            graph: name_of(alloc, graphs, graph)?,
+            node: node as u32,
+        }),
+        Err(AdmissionError::LeftRecursion { graph, node }) => Err(NetError::LeftRecursion {
+            graph: name_of(alloc, graphs, graph)?,
+            node: node as u32,
+        }),
+        Err(AdmissionError::NoMemory) => Err(NetError::NoMemory),
+    }
+}
+
+/// The name of the graph of this number, counted from 1.
+fn name_of(alloc: Global, graphs: &[(String, Graph)], graph: usize) -> Mem<Txt>
+    requires from { 1 ≤ graph }
+    requires to { graph ≤ length graphs.now }
+    ensures { IfOk result (is_named (drawn graphs.now) graph) }
+{
+    let (name, _) = &graphs[graph - 1];
+    Ok(Txt::from_str(alloc, name.as_str())?)
+}
+
+/// The states of the graphs, with their ranks.
+fn build(
+    alloc: Global,
+    graphs: &[(String, Graph)],
+    places: &[Lst<Place>],
+    ranks: &[Lst<usize>],
+    free: &[Lst<bool>],
+) -> Mem<Vec<NetGraph>>
+    requires count { length places.now ≡ length graphs.now }
+    requires ranked { AreRows places.now ranks.now }
+    requires marked { AreRows places.now free.now }
+    requires fit { All AreFit places.now }
+    requires small { All (All (λ rank. rank < 4294967296)) ranks.now }
+    ensures built { IfOk result (λ net. AreBuilt places.now ranks.now free.now net.items) }
+    ensures names { IfOk result (λ net. map (λ (graph : NetGraph). graph.name) net.items
+        ≡ names_of_graphs (drawn graphs.now)) }
+{
+    let mut net = Vec::new(alloc);
+    for (number, (name, _)) in graphs.iter().enumerate() {
+        net.push(build_graph(
+            alloc,
+            name.as_str(),
+            places[number].as_slice(),
+            ranks[number].as_slice(),
+            free[number].as_slice(),
+        )?)?;
+    }
+    Ok(net)
+}
+
+/// The states of a graph, with their ranks.
+fn build_graph(
+    alloc: Global,
+    name: &str,
+    places: &[Place],
+    place_ranks: &[usize],
+    place_free: &[bool],
+) -> Mem<NetGraph>
+    requires fit { AreFit places.now }
+    requires ranked { length place_ranks.now ≡ length places.now }
+    requires marked { length place_free.now ≡ length places.now }
+    requires small { All (λ rank. rank < 4294967296) place_ranks.now }
+    ensures built { IfOk result (IsBuilt places.now place_ranks.now place_free.now) }
+    ensures name { IfOk result (λ (graph : NetGraph). graph.name ≡ name.now) }
+{
+    let states = states(alloc, places)?;
+    let (ranks, free) = ranks(alloc, places, place_ranks, place_free)?;
+    Ok(NetGraph {
+        name: Txt::from_str(alloc, name)?,
+        states: Lst::new(states),
+        ranks: Lst::new(ranks),
+        free: Lst::new(free),
+    })
+}

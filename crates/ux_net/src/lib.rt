@@ -1,0 +1,52 @@
+//! Compiled grammars: graphs that call each other, as states and edges.
+//!
+//! `Net::compile` takes the graphs of a grammar and answers its net, or the first cause of
+//! refusal. Graphs are counted from 1, the main graph first; nodes count boxes, and boxes, states
+//! and edges are counted from 0.
+//!
+//! ```text
+//! graphs --checking--> --split--> places --admissible--> ranks --construct, ranks--> Net
+//! ```
+//!
+//! `checking` tests the calls and the items, `split` cuts each line into labels, `admissible`
+//! refuses loops that take nothing and graphs that begin with themselves, and `construct` makes the
+//! states. Begin with `specs/Words.antt`: the words of a graph of boxes, of places and of states
+//! are one definition. `specs/Refusing.antt` says when each refusal comes.
+#![tactic(auto)]
+
+pub mod admissible;
+#[cfg(test)]
+mod admissible_tests;
+pub mod checking;
+pub mod compile;
+#[cfg(test)]
+mod compile_tests;
+pub mod construct;
+#[cfg(test)]
+mod construct_tests;
+pub mod cycles;
+pub mod edges;
+pub mod error;
+pub mod freeness;
+pub mod grammar;
+pub mod label;
+pub mod line;
+pub mod missing;
+pub mod net;
+pub mod net_graph;
+pub mod numbering;
+pub mod offsets;
+pub mod place;
+pub mod ranks;
+pub mod rows;
+pub mod split;
+pub mod spot;
+pub mod state;
+pub mod way;
+pub mod ways;
+
+pub use error::NetError;
+pub use label::Label;
+pub use net::Net;
+pub use net_graph::{NetGraph, Rank};
+pub use state::{Edge, State};

@@ -1,0 +1,131 @@
+//! A grammar as states: the graphs of a compiled list, of which the first is the main graph.
+
+ghost use Rattle.std.specs.Prelude.{◌≡◌, ℕ, ◌≤◌, ◌<◌, Some, IsSomeAnd, length, slice_get, option_copied};
+ghost use Rattle.ux_net.specs.Measured.{IsMeasured};
+ghost use Rattle.ux_net.specs.Nets.{graph_at, states_of};
+ghost use Rattle.ux_net.specs.Sound.{IsSound};
+
+use crate::net_graph::NetGraph;
+use crate::state::{Edge, State};
+use std::marker::Model;
+
+/// A compiled grammar. Contracts see it as the list of its graphs.
+#[derive(Debug, Drop)]
+pub struct Net {
+    graphs: Vec<NetGraph>,
+}
+
+impl Model for Net {
+    ghost use Rattle.std.specs.Prelude.{List};
+    ghost use Rattle.ux_net.specs.declared.net_graph.NetGraph.{NetGraph};
+    ghost use Rattle.ux_net.specs.Sound.{IsSound};
+
+    ghost Value = { List NetGraph };
+
+    ghost view = { λ net. net.graphs.items };
+
+    ghost invariant = { λ net. IsSound net.graphs.items };
+}
+
+impl Net {
+    /// The net of these graphs. Takes no memory.
+    pub(crate) fn of(graphs: Vec<NetGraph>) -> Net
+        requires sound { IsSound graphs.items }
+        ensures { result ≡ graphs.items }
+    {
+        Net { graphs }
+    }
+
+    /// How many graphs there are. They are counted from 1, and the first is the main graph.
+    pub fn graphs(&self) -> u32
+        ensures count { result ≡ length self.now }
+        ensures some { 1 ≤ result }
+    {
+        self.graphs.len() as u32
+    }
+
+    /// Every walk through a net ends: its ranks fall along each edge that may take nothing.
+    pub fn is_measured(&self)
+        ensures { IsMeasured self.now }
+    {
+        let _ = &self.graphs;
+    }
+
+    /// The name of a graph.
+    pub fn name(&self, graph: u32) -> &str
+        requires from { 1 ≤ graph }
+        requires to { graph ≤ length self.now }
+        ensures { IsSomeAnd (graph_at self.now graph) (λ g. result.now ≡ g.name) }
+    {
+        self.graphs[graph as usize - 1].name.as_str()
+    }
+
+    /// How many states a graph has.
+    pub fn states(&self, graph: u32) -> u32
+        requires from { 1 ≤ graph }
+        requires to { graph ≤ length self.now }
+        ensures count { result ≡ length (states_of self.now graph) }
+        ensures some { 1 ≤ result }
+    {
+        self.states_in(graph).len() as u32
+    }
+
+    /// Whether a word of the graph may end at the state.
+    pub fn is_final(&self, graph: u32, state: u32) -> bool
+        requires from { 1 ≤ graph }
+        requires to { graph ≤ length self.now }
+        requires inside { state < length (states_of self.now graph) }
+        ensures { IsSomeAnd (slice_get (states_of self.now graph) state)
+            (λ s. result ≡ s.is_final) }
+    {
+        self.states_in(graph)[state as usize].is_final
+    }
+
+    /// The edges of a state, in order.
+    pub fn edges(&self, graph: u32, state: u32) -> &[Edge]
+        requires from { 1 ≤ graph }
+        requires to { graph ≤ length self.now }
+        requires inside { state < length (states_of self.now graph) }
+        ensures { IsSomeAnd (slice_get (states_of self.now graph) state)
+            (λ s. result.now ≡ s.edges) }
+    {
+        self.states_in(graph)[state as usize].edges.as_slice()
+    }
+
+    /// An edge of a state, counted from 0.
+    pub fn edge(&self, graph: u32, state: u32, k: u32) -> Option<&Edge>
+        requires from { 1 ≤ graph }
+        requires to { graph ≤ length self.now }
+        requires inside { state < length (states_of self.now graph) }
+        ensures { IsSomeAnd (slice_get (states_of self.now graph) state)
+            (λ s. option_copied result ≡ slice_get s.edges k) }
+    {
+        self.edges(graph, state).get(k as usize)
+    }
+
+    /// The state of this number in the graph of this number, where there is one.
+    pub fn state(&self, graph: u32, state: u32) -> Option<&State>
+        ensures { option_copied result ≡ slice_get (states_of self.now graph) state }
+    {
+        let graph = self.graphs.get((graph as usize).checked_sub(1)?)?;
+        graph.states.as_slice().get(state as usize)
+    }
+
+    /// How many different masks stand on edges: none does yet.
+    pub fn masks(&self) -> usize
+        ensures { result ≡ 0 }
+    {
+        0
+    }
+
+    /// The states of a graph.
+    fn states_in(&self, graph: u32) -> &[State]
+        requires from { 1 ≤ graph }
+        requires to { graph ≤ length self.now }
+        ensures states { result.now ≡ states_of self.now graph }
+        ensures some { 1 ≤ length result.now }
+        ensures few { length result.now < 4294967296 }
+    {
+        self.graphs[graph as usize - 1].states.as_slice()
+    }
+}

@@ -1,0 +1,27 @@
+//! A compiled graph.
+
+use crate::state::State;
+use ux_base::{Lst, Txt};
+
+/// A graph as states. State 0 is its start.
+#[derive(Debug, Drop)]
+pub struct NetGraph {
+    /// The name by which others call it.
+    pub name: Txt,
+    /// The states, by number.
+    pub states: Lst<State>,
+    /// A rank for each state, which falls along each edge that may take nothing.
+    pub ranks: Lst<Rank>,
+    /// For each state, whether an end may be reached from it with no token.
+    pub free: Lst<bool>,
+}
+
+/// The rank of a state: a lower major number is lower, and among equal ones a lower minor number.
+/// Nothing reads the ranks of a net as it runs: they are why every walk through it ends.
+#[derive(Clone, Copy, Debug, PartialEq, Eq)]
+pub struct Rank {
+    /// How far the state is from a token, by boxes.
+    pub major: usize,
+    /// The same, along the line of one box.
+    pub minor: usize,
+}

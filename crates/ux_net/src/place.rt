@@ -1,0 +1,15 @@
+//! A box whose lines are split into labels.
+
+use crate::label::Label;
+use ux_base::Lst;
+
+/// A box: the labels of its lines, and where it leads.
+#[derive(Debug, Drop)]
+pub struct Place {
+    /// Whether a path from box 0 leads here without passing box 1.
+    pub reached: bool,
+    /// The lines, each a list of labels.
+    pub lines: Lst<Lst<Label>>,
+    /// The numbers of the boxes to which it leads, box 1 among them where a run may end here.
+    pub targets: Lst<u32>,
+}

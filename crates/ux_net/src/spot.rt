@@ -1,0 +1,41 @@
+//! A node of a graph, as a refusal names it.
+
+ghost use Rattle.std.specs.Prelude.{◌≡◌, ◌⊎◌, Some, IfSome};
+ghost use Rattle.ux_net.specs.Spots.{IsLeast, IsNotBehind};
+
+/// A place of a graph.
+#[derive(Clone, Copy, Debug, PartialEq, Eq)]
+pub struct Spot {
+    /// The graph, counted from 1.
+    pub graph: usize,
+    /// The place of the graph.
+    pub node: usize,
+}
+
+/// The first of the spots, by graph and then by node.
+pub fn least(spots: &[Spot]) -> Option<Spot>
+    ensures { IsLeast spots.now result }
+{
+    let mut best = None;
+    for spot in spots {
+        best = Some(lesser(best, *spot));
+    }
+    best
+}
+
+/// The one of both that is not behind the other.
+fn lesser(best: Option<Spot>, spot: Spot) -> Spot
+    ensures one { (result ≡ spot) ⊎ (best ≡ Some result) }
+    ensures spot { IsNotBehind result spot }
+    ensures best { IfSome best (λ best. IsNotBehind result best) }
+{
+    match best {
+        Some(best) => {
+            if best.graph < spot.graph || (best.graph == spot.graph && best.node <= spot.node) {
+                return best;
+            }
+            spot
+        }
+        None => spot,
+    }
+}

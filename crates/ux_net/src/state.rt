@@ -1,0 +1,22 @@
+//! States and their edges.
+
+use crate::label::Label;
+use ux_base::Lst;
+
+/// An edge from a state to a state of the same graph.
+#[derive(Clone, Debug, Drop, PartialEq, Eq)]
+pub struct Edge {
+    /// What it finds in the text.
+    pub label: Label,
+    /// The number of the state to which it leads.
+    pub target: u32,
+}
+
+/// A state of a compiled graph.
+#[derive(Debug, Drop)]
+pub struct State {
+    /// Whether a word of the graph may end here.
+    pub is_final: bool,
+    /// The edges that leave it, in order.
+    pub edges: Lst<Edge>,
+}

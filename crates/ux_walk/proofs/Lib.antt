@@ -1,0 +1,14 @@
+pub mod LinksLemmas
+pub mod SetsLemmas
+pub mod MatchingLemmas
+pub mod Results
+pub mod Adding
+pub mod Stepping
+pub mod OneStep
+pub mod Weights
+pub mod Lighter
+pub mod Rounds
+pub mod Derived
+pub mod FollowingLemmas
+pub mod SameDerivations
+pub mod LookUpsLemmas

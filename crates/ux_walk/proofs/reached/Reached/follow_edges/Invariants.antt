@@ -1,0 +1,9 @@
+use Rattle.std.proofs.Common.{take}
+use Rattle.ux_walk.specs.Configurations.{AddsFrom, IsOverSome}
+use Rattle.ux_walk.proofs.reached.Reached.follow_edges.Given as goal
+
+-- what is behind the edges so far was added
+abbrev pub invariant-loop-edge : goal.invariant-loop-edge
+invariant-loop-edge l = AddsFrom l.fn.self l.self l.config (λ back before.
+    IsOverSome l.alphabet l.text l.config.here back l.config.at before
+    (take l.edge-index l.edges))

@@ -1,0 +1,29 @@
+use Rattle.std.proofs.Common.{get_or}
+use Rattle.ux_walk.specs.Configurations.{IsOverAt}
+use Rattle.ux_walk.proofs.Adding.{keeps, spells_kept}
+use Rattle.ux_walk.proofs.Stepping.{adds_first, adds_next, adds_all, item_at}
+use Rattle.ux_walk.proofs.reached.Reached.follow_places.Goals as goal
+
+pub loop-place-init : goal.loop-place-init
+loop-place-init c = λ back before sound spells.
+    adds_first (IsOverAt c.args.alphabet.now c.args.text.now c.args.config.here back
+    c.args.config.at before c.args.edges.now) c.args.self.now c.args.places.now sound
+
+pub loop-place-preserved : goal.loop-place-preserved
+loop-place-preserved c = λ back before sound spells.
+    let now = c.loop-place.invariant back before sound spells in
+    adds_next (IsOverAt c.args.alphabet.now c.args.text.now c.args.config.here back
+    c.args.config.at before c.args.edges.now) c.args.self.now c.loop-place.self
+    c.follow_place.new.self c.args.places.now
+    c.loop-place.place-index (get_or c.args.places.now c.loop-place.place-index 0)
+    c.loop-place-test.true
+    (item_at c.args.places.now c.loop-place.place-index 0 c.loop-place-test.true) now
+    (c.in_ok-follow_place.ensures back before now.sound
+    (spells_kept c.args.self.now c.loop-place.self (keeps now) c.args.config back before spells))
+
+pub returns : goal.returns
+returns c = λ back before sound spells.
+    adds_all (IsOverAt c.args.alphabet.now c.args.text.now c.args.config.here back
+    c.args.config.at before c.args.edges.now) c.args.self.now c.loop-place.self c.args.places.now
+    c.loop-place.place-index c.loop-place-test.false
+    (c.loop-place.invariant back before sound spells)

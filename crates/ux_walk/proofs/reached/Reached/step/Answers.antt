@@ -1,0 +1,19 @@
+use Rattle.std.proofs.Common.{◌≡◌, ◌∙◌, true, false, refl, sym}
+use Rattle.ux_walk.proofs.Stepping.{steps_final, steps_on}
+use Rattle.ux_walk.proofs.reached.Reached.step.Goals as goal
+
+pub returns-in_ok-leave-clause-adds : goal.returns-in_ok-leave-clause-adds
+returns-in_ok-leave-clause-adds c =
+    steps_final c.args.alphabet.now c.args.text.now c.args.net.now c.args.config
+    c.in-Some.state.now (sym c.in-Some.ensures) c.args.self.now c.follow_state.new.self
+    c.leave.new.self c.in-Some.state.now.edges refl c.if-state.true
+    (c.in_ok-follow_state.ensures.adds c.args.net.now (sym c.in-Some.ensures) c.requires)
+    c.in_ok-leave.ensures
+
+pub returns-else-state-clause-adds : goal.returns-else-state-clause-adds
+returns-else-state-clause-adds c =
+    steps_on c.args.alphabet.now c.args.text.now c.args.net.now c.args.config
+    c.in-Some.state.now (sym c.in-Some.ensures) c.args.self.now c.follow_state.new.self
+    c.in-Some.state.now.edges refl
+    (λ yes. let no : false ≡ true = sym c.if-state.false ∙ yes in cc)
+    (c.in_ok-follow_state.ensures.adds c.args.net.now (sym c.in-Some.ensures) c.requires)

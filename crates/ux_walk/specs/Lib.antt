@@ -1,0 +1,5 @@
+pub mod Derivations
+pub mod Following
+pub mod Links
+pub mod Configurations
+pub mod LookUps

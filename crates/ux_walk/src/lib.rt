@@ -1,0 +1,26 @@
+//! Walks through compiled grammars: what the main graph of a net derives over a text's tokens.
+//!
+//! A walk goes in rounds over configurations. Each pending configuration goes one step on: over
+//! each edge of the state in which it is, and back to the frame that called where the state is
+//! final. A call pushes a frame, so nothing here calls itself. Frames and events are lists that
+//! share their tails, named by numbers (`lists`), so a configuration is a few numbers, no step
+//! copies a list, and equal configurations of a round fall together. A net has ranks that fall
+//! along each edge that may take nothing, so the rounds come to an end.
+//!
+//! Begin with `walking`; `reached` goes one step on, and `matching` alone looks at a label. Masks,
+//! outputs and contexts are further cases of its `Passage`. Where a state has many edges, `look_ups`
+//! lists those that may apply at a token, once, and no others are tried there.
+#![tactic(auto)]
+
+mod config;
+mod lists;
+mod look_ups;
+mod matching;
+mod reached;
+mod sets;
+#[cfg(test)]
+mod tests;
+mod walking;
+
+pub use look_ups::LookUps;
+pub use walking::{walk, walk_with};

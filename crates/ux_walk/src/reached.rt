@@ -1,0 +1,355 @@
+//! What a walk has reached, and how it goes one step on.
+
+ghost use Rattle.std.specs.Prelude.{◌≡◌, ◌<◌, ◌↔◌, ℕ, List, [], ◌∷◌, Contains, IfOk, IsTrue, OnOk, Some, length, option_copied, slice_get};
+ghost use Rattle.ux_net.specs.declared.net_graph.NetGraph.{NetGraph};
+ghost use Rattle.ux_net.specs.Nets.{states_of};
+ghost use Rattle.ux_outputs.specs.declared.event.Event.{Event};
+ghost use Rattle.ux_tokens.specs.Numbers.{different_texts};
+ghost use Rattle.ux_walk.specs.Links.{AreOnce, Names};
+ghost use Rattle.ux_walk.specs.LookUps.{AreSound};
+ghost use Rattle.ux_walk.specs.declared.config.Config.{Config};
+ghost use Rattle.ux_walk.specs.Configurations.{Adds, AddsFrom, Course, GoesOn, IsAfterSome, IsFoundAs, IsNamed, IsOver, IsOverAt, IsOverSome, IsOverSomeAt, IsRound, IsSound, events_of};
+
+use crate::config::{Config, Found, Frame};
+use crate::lists::Lists;
+use crate::look_ups::{LookUp, LookUps, places_for};
+use crate::matching::{Passage, passage_at, skip};
+use crate::sets::{put, stand_once};
+use indexmap::IndexSet;
+use std::alloc::Global;
+use std::mem;
+use ux_alphabet::Alphabet;
+use ux_base::{Lst, Mem};
+use ux_net::{Edge, Net, State};
+use ux_outputs::Event;
+use ux_tokens::Text;
+
+/// As many edges are tried one by one: no list of them is kept.
+const FEW: usize = 8;
+
+/// The pending configurations and what was found, with the lists that they name.
+#[derive(Drop)]
+pub struct Reached {
+    frames: Lists<Frame>,
+    events: Lists<Event>,
+    pending: IndexSet<Config>,
+    found: IndexSet<Found>,
+}
+
+impl Reached {
+    /// Nothing yet. Takes no memory.
+    pub fn new(alloc: Global) -> Reached
+        ensures frames { result.frames.links.keys ≡ [] }
+        ensures events { result.events.links.keys ≡ [] }
+        ensures pending { result.pending.keys ≡ [] }
+        ensures found { result.found.keys ≡ [] }
+    {
+        Reached {
+            frames: Lists::new(alloc),
+            events: Lists::new(alloc),
+            pending: IndexSet::new(alloc),
+            found: IndexSet::new(alloc),
+        }
+    }
+
+    /// Whether a configuration is pending.
+    pub fn is_pending(&self) -> bool
+        ensures { IsTrue result ↔ (0 < length self.now.pending.keys) }
+    {
+        !self.pending.as_slice().is_empty()
+    }
+
+    /// Goes one step on from each pending configuration.
+    pub fn round(
+        &mut self,
+        alloc: Global,
+        net: &Net,
+        text: &Text,
+        alphabet: &Alphabet,
+        look_ups: &mut LookUps,
+    ) -> Mem<()>
+        requires { AreSound alphabet.now net.now (different_texts text.now) look_ups.now }
+        ensures sound { AreSound alphabet.now net.now (different_texts text.now) look_ups.new }
+        ensures round { OnOk result (IsSound self.old →
+            IsRound alphabet.now text.now net.now self.old self.new) }
+    {
+        let configs = mem::replace(&mut self.pending, IndexSet::new(alloc));
+        self.step_each(alloc, net, text, alphabet, look_ups, configs.as_slice())?;
+        Ok(())
+    }
+
+    /// The derivations that were found, each with its end and its events.
+    pub fn derivations(&self, alloc: Global) -> Mem<Vec<(usize, Lst<Event>)>>
+        requires { IsSound self.now }
+        ensures exactly { IfOk result (λ found. (end : ℕ) (events : List Event) →
+            Contains found.items (end, events) ↔ IsFoundAs self.now end events) }
+        ensures once { IfOk result (λ found. AreOnce found.items) }
+    {
+        let mut derivations = Vec::new(alloc);
+        for found in self.found.as_slice() {
+            let events = self.events.spell(alloc, found.events)?;
+            derivations.push((found.end, Lst::new(events)))?;
+        }
+        stand_once(&self.found);
+        self.events.links_stand_once();
+        Ok(derivations)
+    }
+
+    /// Goes one step on from each of the configurations.
+    fn step_each(
+        &mut self,
+        alloc: Global,
+        net: &Net,
+        text: &Text,
+        alphabet: &Alphabet,
+        look_ups: &mut LookUps,
+        configs: &[Config],
+    ) -> Mem<()>
+        requires { AreSound alphabet.now net.now (different_texts text.now) look_ups.now }
+        ensures sound { AreSound alphabet.now net.now (different_texts text.now) look_ups.new }
+        ensures adds { OnOk result (IsSound self.old →
+            ((c : Config) → Contains configs.now c → (w : Course) × IsNamed self.old c w) →
+            Adds (IsAfterSome alphabet.now text.now net.now self.old configs.now)
+            self.old self.new) }
+    {
+        for config in configs {
+            self.step(alloc, net, text, alphabet, look_ups, *config)?;
+        }
+        Ok(())
+    }
+
+    /// Goes one step on from a configuration: over each edge of its state, and back where that is
+    /// final.
+    pub fn step(
+        &mut self,
+        alloc: Global,
+        net: &Net,
+        text: &Text,
+        alphabet: &Alphabet,
+        look_ups: &mut LookUps,
+        config: Config,
+    ) -> Mem<()>
+        requires { AreSound alphabet.now net.now (different_texts text.now) look_ups.now }
+        ensures sound { AreSound alphabet.now net.now (different_texts text.now) look_ups.new }
+        ensures adds { OnOk result (AddsFrom self.old self.new config (λ back before.
+            GoesOn alphabet.now text.now net.now config.here back config.at before)) }
+    {
+        let Some(state) = net.state(config.here.graph, config.here.state) else {
+            return Ok(());
+        };
+        self.follow_state(alloc, text, alphabet, look_ups, config, state)?;
+        if state.is_final {
+            self.leave(config)?;
+        }
+        Ok(())
+    }
+
+    /// Goes over each edge of the state that applies: of many those that may apply at the token.
+    fn follow_state(
+        &mut self,
+        alloc: Global,
+        text: &Text,
+        alphabet: &Alphabet,
+        look_ups: &mut LookUps,
+        config: Config,
+        state: &State,
+    ) -> Mem<()>
+        ensures sound { (net : List NetGraph) →
+            slice_get (states_of net config.here.graph) config.here.state ≡ Some state.now →
+            AreSound alphabet.now net (different_texts text.now) look_ups.old →
+            AreSound alphabet.now net (different_texts text.now) look_ups.new }
+        ensures adds { OnOk result ((net : List NetGraph) →
+            slice_get (states_of net config.here.graph) config.here.state ≡ Some state.now →
+            AreSound alphabet.now net (different_texts text.now) look_ups.old →
+            AddsFrom self.old self.new config (λ back before.
+            IsOverSome alphabet.now text.now config.here back config.at before state.now.edges)) }
+    {
+        let edges = state.edges.as_slice();
+        let position = skip(text, config.at);
+        if !has_lists(edges.len()) || text.len() <= position {
+            return self.follow_edges(text, alphabet, config, edges);
+        }
+        let key = LookUp {
+            graph: config.here.graph,
+            state: config.here.state,
+            number: text.number(position),
+        };
+        if let Some(places) = look_ups.places(key) {
+            return self.follow_places(text, alphabet, config, edges, places);
+        }
+        let places = places_for(alloc, alphabet, text.token(position), edges)?;
+        self.follow_places(text, alphabet, config, edges, places.as_slice())?;
+        look_ups.add(key, places)
+    }
+
+    /// Goes over the edges at the places that apply.
+    fn follow_places(
+        &mut self,
+        text: &Text,
+        alphabet: &Alphabet,
+        config: Config,
+        edges: &[Edge],
+        places: &[u32],
+    ) -> Mem<()>
+        ensures { OnOk result (AddsFrom self.old self.new config (λ back before.
+            IsOverSomeAt alphabet.now text.now config.here back config.at before edges.now
+            places.now)) }
+    {
+        for place in places {
+            self.follow_place(text, alphabet, config, edges, *place)?;
+        }
+        Ok(())
+    }
+
+    /// Goes over the edge at a place, if it applies.
+    fn follow_place(
+        &mut self,
+        text: &Text,
+        alphabet: &Alphabet,
+        config: Config,
+        edges: &[Edge],
+        place: u32,
+    ) -> Mem<()>
+        ensures { OnOk result (AddsFrom self.old self.new config (λ back before.
+            IsOverAt alphabet.now text.now config.here back config.at before edges.now place)) }
+    {
+        match edge_at(edges, place) {
+            Some(edge) => self.follow(text, alphabet, config, edge),
+            None => Ok(()),
+        }
+    }
+
+    /// Goes over each of the edges that applies.
+    fn follow_edges(
+        &mut self,
+        text: &Text,
+        alphabet: &Alphabet,
+        config: Config,
+        edges: &[Edge],
+    ) -> Mem<()>
+        ensures { OnOk result (AddsFrom self.old self.new config (λ back before.
+            IsOverSome alphabet.now text.now config.here back config.at before edges.now)) }
+    {
+        for edge in edges {
+            self.follow(text, alphabet, config, edge)?;
+        }
+        Ok(())
+    }
+
+    /// Goes over the edge, if it applies.
+    fn follow(&mut self, text: &Text, alphabet: &Alphabet, config: Config, edge: &Edge) -> Mem<()>
+        ensures { OnOk result (AddsFrom self.old self.new config (λ back before.
+            IsOver alphabet.now text.now config.here back config.at before edge.now)) }
+    {
+        let here = Frame {
+            graph: config.here.graph,
+            state: edge.target,
+        };
+        match passage_at(text, alphabet, &edge.label, config.at) {
+            Passage::Takes(end) => self.take(config, here, end),
+            Passage::Stays => self.pend(Config { here, ..config }),
+            Passage::Calls(graph) => self.call(config, here, graph),
+            Passage::Closed => Ok(()),
+        }
+    }
+
+    /// Goes on in a frame behind the tokens that were taken.
+    fn take(&mut self, config: Config, here: Frame, end: usize) -> Mem<()>
+        ensures { OnOk result (AddsFrom self.old self.new config (λ back before w. w ≡ record {
+          frames = here ∷ back;
+          at = end;
+          before = Event.Take config.at end ∷ before;
+        })) }
+    {
+        let taken = Event::Take {
+            from: config.at,
+            to: end,
+        };
+        let events = self.events.cons(taken, config.events)?;
+        self.pend(Config {
+            here,
+            back: config.back,
+            at: end,
+            events,
+        })
+    }
+
+    /// Goes on at the start of a graph, to return to the frame.
+    fn call(&mut self, config: Config, here: Frame, graph: u32) -> Mem<()>
+        ensures { OnOk result (AddsFrom self.old self.new config (λ back before w. w ≡ record {
+          frames = record { graph = graph; state = 0 } ∷ here ∷ back;
+          at = config.at;
+          before = before;
+        })) }
+    {
+        let back = self.frames.cons(here, config.back)?;
+        let start = Frame { graph, state: 0 };
+        self.pend(Config {
+            here: start,
+            back,
+            at: config.at,
+            events: config.events,
+        })
+    }
+
+    /// Returns to the frame that called, or ends where there is none.
+    fn leave(&mut self, config: Config) -> Mem<()>
+        ensures { OnOk result (AddsFrom self.old self.new config (λ back before w. w ≡ record {
+          frames = back;
+          at = config.at;
+          before = before;
+        })) }
+    {
+        match self.frames.link(config.back) {
+            Some(link) => {
+                let here = link.head;
+                let back = link.tail;
+                self.pend(Config {
+                    here,
+                    back,
+                    at: config.at,
+                    events: config.events,
+                })
+            },
+            None => self.end(Found {
+                end: config.at,
+                events: config.events,
+            }),
+        }
+    }
+
+    /// Adds a pending configuration, where it is new.
+    fn pend(&mut self, config: Config) -> Mem<()>
+        ensures { OnOk result (AddsFrom self.old self.new config (λ back before w. w ≡ record {
+          frames = config.here ∷ back;
+          at = config.at;
+          before = before;
+        })) }
+    {
+        put(&mut self.pending, config)
+    }
+
+    /// Adds a derivation, where it is new.
+    fn end(&mut self, found: Found) -> Mem<()>
+        ensures { OnOk result ((before : List Event) → IsSound self.old →
+            Names (events_of self.old) found.events before →
+            Adds (λ w. w ≡ record { frames = []; at = found.end; before = before })
+            self.old self.new) }
+    {
+        put(&mut self.found, found)
+    }
+}
+
+/// Whether the edges of a state of so many are listed: they are many, and 32 bits tell each place.
+fn has_lists(edges: usize) -> bool
+    ensures { IsTrue result → edges < 4294967296 }
+{
+    FEW < edges && edges < 4_294_967_296
+}
+
+/// The edge at a place.
+fn edge_at(edges: &[Edge], place: u32) -> Option<&Edge>
+    ensures { option_copied result ≡ slice_get edges.now place }
+{
+    edges.get(place as usize)
+}

@@ -1,0 +1,83 @@
+//! The walk of the main graph over a text.
+
+ghost use Rattle.std.specs.Prelude.{◌≡◌, ◌≤◌, ◌↔◌, ℕ, List, Contains, IfOk, length};
+ghost use Rattle.ux_net.specs.Measured.{IsMeasured};
+ghost use Rattle.ux_net.specs.Nets.{net_grammar};
+ghost use Rattle.ux_outputs.specs.declared.event.Event.{Event};
+ghost use Rattle.ux_walk.specs.Derivations.{Der};
+ghost use Rattle.ux_walk.specs.Following.{Follows};
+ghost use Rattle.ux_tokens.specs.Numbers.{different_texts};
+ghost use Rattle.ux_walk.specs.Links.{AreOnce};
+ghost use Rattle.ux_walk.specs.LookUps.{AreSound};
+
+use crate::config::{Config, Frame};
+use crate::look_ups::LookUps;
+use crate::reached::Reached;
+use std::alloc::Global;
+use ux_alphabet::Alphabet;
+use ux_base::{Lst, Mem};
+use ux_net::Net;
+use ux_outputs::Event;
+use ux_tokens::Text;
+
+/// Each end and event list that the main graph derives from `start`, once.
+///
+/// Until a first edge applies, or a state of many edges is met, it takes no memory.
+pub fn walk(
+    alloc: Global,
+    net: &Net,
+    text: &Text,
+    alphabet: &Alphabet,
+    start: usize,
+) -> Mem<Vec<(usize, Lst<Event>)>>
+    requires measured { IsMeasured net.now }
+    requires inside { start ≤ length text.now }
+    ensures exactly { IfOk result (λ found. (end : ℕ) (events : List Event) →
+        Contains found.items (end, events)
+        ↔ Der alphabet.now text.now (net_grammar net.now) 1 start end events) }
+    ensures follows { IfOk result (λ found. (end : ℕ) (events : List Event) →
+        Contains found.items (end, events) →
+        Follows start end events × (end ≤ length text.now)) }
+    ensures once { IfOk result (λ found. AreOnce found.items) }
+{
+    walk_with(alloc, net, text, alphabet, &mut LookUps::new(alloc), start)
+}
+
+/// Each end and event list that the main graph derives from `start`, once.
+///
+/// As `walk`, with look-ups that are kept from walk to walk: at a state of many edges and a token
+/// that were met before, the edges that may apply are looked up.
+pub fn walk_with(
+    alloc: Global,
+    net: &Net,
+    text: &Text,
+    alphabet: &Alphabet,
+    look_ups: &mut LookUps,
+    start: usize,
+) -> Mem<Vec<(usize, Lst<Event>)>>
+    requires measured { IsMeasured net.now }
+    requires sound { AreSound alphabet.now net.now (different_texts text.now) look_ups.now }
+    requires inside { start ≤ length text.now }
+    ensures sound { AreSound alphabet.now net.now (different_texts text.now) look_ups.new }
+    ensures exactly { IfOk result (λ found. (end : ℕ) (events : List Event) →
+        Contains found.items (end, events)
+        ↔ Der alphabet.now text.now (net_grammar net.now) 1 start end events) }
+    ensures follows { IfOk result (λ found. (end : ℕ) (events : List Event) →
+        Contains found.items (end, events) →
+        Follows start end events × (end ≤ length text.now)) }
+    ensures once { IfOk result (λ found. AreOnce found.items) }
+{
+    let mut reached = Reached::new(alloc);
+    let main = Frame { graph: 1, state: 0 };
+    let first = Config {
+        here: main,
+        back: 0,
+        at: start,
+        events: 0,
+    };
+    reached.step(alloc, net, text, alphabet, look_ups, first)?;
+    while reached.is_pending() {
+        reached.round(alloc, net, text, alphabet, look_ups)?;
+    }
+    reached.derivations(alloc)
+}
