@@ -1,5 +1,5 @@
-# `make example` proves and builds the program, and searches the text of examples/ by its graph.
-# `make bench` times a search beside GNU grep.
+# `make example` proves and builds the program, and searches the text of examples/ by its graphs.
+# `make bench` times searches beside GNU grep.
 
 .PHONY: example bench gate
 
@@ -8,6 +8,7 @@ example:
 
 bench:
 	@bench/locate_word.sh
+	@bench/grammars.py
 
 gate:
 	@rt ci
