@@ -1,8 +1,9 @@
 -- A table of the spans of the lines is one of the letters.
-use Rattle.std.proofs.Common.{arith, ◌≡◌, ◌↔◌, ℕ, ◌≤◌, List, map, Bool, false, get_or, subst}
+use Rattle.std.proofs.Common.{arith, ◌≡◌, ◌↔◌, ℕ, ◌≤◌, List, map, Bool, false, get_or, subst, inl, inr}
 use Rattle.std.specs.Prelude.{IsTrue}
-use Rattle.ux_alphabet.specs.Letters.{IsUpper, IsLower, NamesUpper, NamesLower}
+use Rattle.ux_alphabet.specs.Letters.{IsUpper, IsLower, IsLetter, NamesUpper, NamesLower}
 use Rattle.ux_alphabet.specs.Spans.{upper_span, lower_span, Holds, IsTableOf}
+use Rattle.ux_alphabet.specs.Tables.{IsEither}
 use Rattle.ux_alphabet.specs.declared.line.Line.{Line}
 use Rattle.ux_alphabet.specs.declared.line.Line.TheVariants.{Single, Pair, Range}
 use Rattle.ux_alphabet.specs.declared.spans.Span.{Span}
@@ -38,3 +39,18 @@ IsLower-table lines spans table are is c =
     let names = Any-map lower_span (Holds c) (λ line. NamesLower line c)
     (lower_span-names c) lines in
     (λ t. let m = mark.0 t in (m.0, names.0 m.1), λ l. mark.1 (l.0, names.1 l.1))
+
+pub IsLetter-table : (lines : List Line) (upper lower letter : List Bool) →
+    ((c : ℕ) → IsTrue (get_or upper c false) ↔ IsUpper lines c) →
+    ((c : ℕ) → IsTrue (get_or lower c false) ↔ IsLower lines c) →
+    IsEither upper lower letter → (c : ℕ) → IsTrue (get_or letter c false) ↔ IsLetter lines c
+IsLetter-table lines upper lower letter uppers lowers either c = (
+  λ t. elim ((either c).0 t) [
+    | inl u ↦ inl ((uppers c).0 u)
+    | inr l ↦ inr ((lowers c).0 l)
+  ],
+  λ letter. (either c).1 (elim letter [
+    | inl u ↦ inl ((uppers c).1 u)
+    | inr l ↦ inr ((lowers c).1 l)
+  ]),
+)

@@ -51,7 +51,10 @@ impl Alphabet {
     pub fn is_letter(&self, c: char) -> bool
         ensures { IsTrue result ↔ IsLetter self.now c }
     {
-        self.is_upper(c) || self.is_lower(c)
+        match &self.tables {
+            Some(tables) => tables.is_letter(c),
+            None => false,
+        }
     }
 
     /// Whether the character is an upper-case letter.

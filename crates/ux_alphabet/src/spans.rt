@@ -43,11 +43,11 @@ pub(crate) fn table_of(alloc: Global, spans: &[Span]) -> Result<Vec<bool>, Alloc
     swept(alloc, &reaches)
 }
 
-/// Whether the table has the character.
-pub(crate) fn is_marked(table: &[bool], c: char) -> bool
-    ensures { result ≡ slice_index_or table.now c false }
+/// Whether the table has the character with this code.
+pub(crate) fn is_marked(table: &[bool], code: usize) -> bool
+    ensures { result ≡ slice_index_or table.now code false }
 {
-    table.get(c as usize).copied().unwrap_or(false)
+    table.get(code).copied().unwrap_or(false)
 }
 
 fn upper_span_of(line: &Line) -> Span
@@ -128,7 +128,7 @@ fn is_mark(place: usize, end: usize) -> bool
 }
 
 /// Whether the character with this code is white space or a brace.
-fn is_never_letter(code: usize) -> bool
+pub(crate) fn is_never_letter(code: usize) -> bool
     ensures { result ≡ never_letter code }
 {
     matches!(code, 0x20 | 0x09 | 0x0d | 0x0a | 0x7b | 0x7d)

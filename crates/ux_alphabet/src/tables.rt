@@ -1,12 +1,13 @@
 //! The tables of an alphabet, by which a question about a character is a look-up.
 
-ghost use Rattle.std.specs.Prelude.{◌≡◌, ◌↔◌, ℕ, false, IsTrue, IfOk, Contains, slice_index_or};
-ghost use Rattle.ux_alphabet.specs.Letters.{IsUpper, IsLower};
+ghost use Rattle.std.specs.Prelude.{◌≡◌, ◌↔◌, ◌⊎◌, ℕ, false, Any, IsTrue, IfOk, Contains, slice_index_or};
+ghost use Rattle.ux_alphabet.specs.Letters.{NamesUpper, NamesLower, IsUpper, IsLower, IsLetter};
+ghost use Rattle.ux_alphabet.specs.Tables.{IsEither};
 ghost use Rattle.ux_alphabet.specs.declared.line.Line.TheVariants.{Pair};
 
 use crate::line::Line;
 use crate::pairs::{Pairs, has_pair, pairs_of};
-use crate::spans::{is_marked, lower_spans, table_of, upper_spans};
+use crate::spans::{is_marked, is_never_letter, lower_spans, table_of, upper_spans};
 use std::alloc::{AllocError, Global};
 use std::marker::Model;
 
@@ -18,6 +19,8 @@ pub(crate) struct Tables {
     upper: Vec<bool>,
     /// The same of lower-case letters.
     lower: Vec<bool>,
+    /// The same of letters of either case, so that the most frequent question is one look-up.
+    letter: Vec<bool>,
     pairs: Pairs,
 }
 
@@ -31,7 +34,8 @@ impl Model for Tables {
 
     ghost use Rattle.ux_alphabet.specs.Tables.{AreTablesOf};
 
-    ghost invariant = { λ t. AreTablesOf t.lines.items t.upper.items t.lower.items t.pairs.keys };
+    ghost invariant = { λ t. AreTablesOf t.lines.items t.upper.items t.lower.items t.letter.items
+        t.pairs.keys };
 }
 
 impl Tables {
@@ -41,34 +45,65 @@ impl Tables {
     {
         let upper = upper_table(alloc, &lines)?;
         let lower = lower_table(alloc, &lines)?;
+        let letter = either_table(alloc, &upper, &lower)?;
         let pairs = pairs_of(alloc, &lines)?;
         Ok(Tables {
             lines,
             upper,
             lower,
+            letter,
             pairs,
         })
+    }
+
+    /// Whether the character is a letter.
+    pub(crate) fn is_letter(&self, c: char) -> bool
+        ensures { IsTrue result ↔ IsLetter self.now c }
+    {
+        is_marked(&self.letter, c as usize)
     }
 
     /// Whether the character is an upper-case letter.
     pub(crate) fn is_upper(&self, c: char) -> bool
         ensures { IsTrue result ↔ IsUpper self.now c }
     {
-        is_marked(&self.upper, c)
+        is_marked(&self.upper, c as usize)
     }
 
     /// Whether the character is a lower-case letter.
     pub(crate) fn is_lower(&self, c: char) -> bool
         ensures { IsTrue result ↔ IsLower self.now c }
     {
-        is_marked(&self.lower, c)
+        is_marked(&self.lower, c as usize)
     }
 
-    /// Whether one line is this pair.
+    /// Whether one line is this pair. Most answers are no, and come from the letters alone.
     pub(crate) fn has_pair(&self, upper: char, lower: char) -> bool
         ensures { IsTrue result ↔ Contains self.now (Pair upper lower) }
     {
-        has_pair(&self.pairs, upper, lower)
+        self.may_be_pair(upper, lower) && has_pair(&self.pairs, upper, lower)
+    }
+
+    /// Whether the letters leave it open that one line is this pair.
+    fn may_be_pair(&self, upper: char, lower: char) -> bool
+        ensures { Contains self.now (Pair upper lower) → IsTrue result }
+    {
+        self.may_be_upper(upper) && self.may_be_lower(lower)
+    }
+
+    /// Whether a line may name the character as an upper-case letter. White space and braces may be
+    /// named, and are no letters all the same.
+    fn may_be_upper(&self, c: char) -> bool
+        ensures { Any (λ line. NamesUpper line c) self.now → IsTrue result }
+    {
+        self.is_upper(c) || is_never_letter(c as usize)
+    }
+
+    /// Whether a line may name the character as a lower-case letter.
+    fn may_be_lower(&self, c: char) -> bool
+        ensures { Any (λ line. NamesLower line c) self.now → IsTrue result }
+    {
+        self.is_lower(c) || is_never_letter(c as usize)
     }
 }
 
@@ -88,4 +123,16 @@ fn lower_table(alloc: Global, lines: &[Line]) -> Result<Vec<bool>, AllocError>
 {
     let spans = lower_spans(alloc, lines)?;
     table_of(alloc, &spans)
+}
+
+/// By code point, whether one of the tables has the character.
+fn either_table(alloc: Global, upper: &[bool], lower: &[bool]) -> Result<Vec<bool>, AllocError>
+    ensures { IfOk result (λ table. IsEither upper.now lower.now table.items) }
+{
+    let size = upper.len().max(lower.len());
+    let mut table = Vec::with_capacity(alloc, size)?;
+    for place in 0..size {
+        table.push(is_marked(upper, place) || is_marked(lower, place))?;
+    }
+    Ok(table)
 }

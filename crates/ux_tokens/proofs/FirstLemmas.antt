@@ -3,7 +3,7 @@ use Rattle.std.proofs.Common.{◌≡◌, ℕ, ◌+◌, List, [], ◌∷◌, ◌+
 use Rattle.std.specs.Str.{IsCharBoundary, IsUtf8, chars}
 use Rattle.std.specs.Char.{len_utf8}
 use Rattle.std.proofs.lemmas.Str.{length-encode, IsCharBoundary-start, IsCharBoundary-past_char, IsUtf8-take, IsUtf8-drop, chars-append, chars-nil, chars_past_char, drop_past_char}
-use Rattle.std.proofs.lemmas.List.{append_cancel_right, take-append-drop, drop_all, take_at}
+use Rattle.std.proofs.lemmas.List.{append_cancel_right, take-append-drop, drop_all, take_at, length-drop}
 use Rattle.std.proofs.lemmas.List.Elements.{All-nil, All-push, All-same}
 use Rattle.ux_alphabet.specs.declared.line.Line.{Line}
 use Rattle.ux_alphabet.specs.Letters.{IsLetter}
@@ -66,7 +66,13 @@ module _ (lines : List Line) (text : List ℕ) where
       let same : c ≡ d = cc in
       other (subst (IsLetter lines) (sym same) letter)
 
-  -- or at the end of the text
+  -- a run with nothing behind it is the whole text
+  pub run_is_all : (len : ℕ) (rest : List ℕ) → IsRun len rest → length rest ≡ 0 →
+      length text ≡ len
+  run_is_all len rest run none =
+      omega (arith, none, run.cut.0, ap length run.behind, length-drop len text)
+
+  -- so no letter is behind it
   pub run_ends_all : (len : ℕ) (rest : List ℕ) → IsRun len rest → length rest ≡ 0 →
       BeginsWithNoLetter lines (drop len text)
   run_ends_all len rest run none d more is letter =

@@ -8,7 +8,8 @@ use Rattle.std.proofs.lemmas.Map.Views.{any-filter_same}
 use Rattle.std.proofs.lemmas.List.{map-append, append-nil}
 use Rattle.std.proofs.lemmas.Bool.{false_from_ne_true}
 use Rattle.std.proofs.lemmas.List.Elements.{filter-append}
-use Rattle.std.proofs.lemmas.Option.{none-some}
+use Rattle.std.proofs.lemmas.List.Folds.{list_any-from_Any}
+use Rattle.std.proofs.lemmas.Option.{none-some, slice_get_within, get_or_from_slice_get}
 use Rattle.indexmap.specs.IndexSet.{insert_key}
 use Rattle.ux_tokens.specs.Numbers.{each_once, with_text}
 
@@ -158,6 +159,15 @@ with_text-keeps texts new k text at = by (list_any (bytes_eq new) texts) refl
     by false is =
         subst (λ (l : List (List ℕ)). slice_get l k ≡ Some text) (sym (with_text-new texts new is))
         (slice_get-append texts (new ∷ []) k text at)
+
+-- a text that stands among the texts is not put there again
+pub with_text-there : (texts : List (List ℕ)) (text : List ℕ) (k : ℕ) →
+    slice_get texts k ≡ Some text → with_text texts text ≡ texts
+with_text-there texts text k at =
+    let within = slice_get_within texts k text at in
+    let is = get_or_from_slice_get texts k text text at in
+    with_text-known texts text
+    (list_any-from_Any (bytes_eq text) texts (k, text, within, is, eq_self text))
 
 -- no more different texts than texts
 length-filter_le : (test : List ℕ → Bool) (texts : List (List ℕ)) →

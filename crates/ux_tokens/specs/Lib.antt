@@ -4,3 +4,4 @@ pub mod Numbers
 pub mod Pieces
 pub mod Cutting
 pub mod Reading
+pub mod Spaces

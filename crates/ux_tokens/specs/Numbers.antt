@@ -1,10 +1,10 @@
 -- The numbers of tokens: the place of a token's text among the different texts.
-use Rattle.std.specs.Prelude.{◌≡◌, Some, slice_get, ℕ, not, List, [], ◌∷◌, ◌++◌, map, filter, if◌then◌else◌}
+use Rattle.std.specs.Prelude.{◌≡◌, Some, Option, IfSome, slice_get, ℕ, not, List, [], ◌∷◌, ◌++◌, map, filter, if◌then◌else◌}
 use Rattle.std.specs.List.{list_any}
 use Rattle.std.specs.Str.{bytes_eq}
 use Rattle.indexmap.specs.IndexSet.{IndexSet}
 use denote.Ref.{Bor}
-use Rattle.ux_tokens.specs.Tokens.{Token}
+use Rattle.ux_tokens.specs.Tokens.{Token, SPACE}
 
 -- the texts, each at its first appearance alone
 abbrev pub each_once : List (List ℕ) → List (List ℕ)
@@ -22,6 +22,10 @@ texts_in numbers = map (λ text. text.now) numbers.keys
 -- the texts with one more, which goes last where it is new
 abbrev pub with_text : List (List ℕ) → List ℕ → List (List ℕ)
 with_text texts text = if list_any (bytes_eq text) texts then texts else texts ++ text ∷ []
+
+-- the number, where there is one, is that of the space
+abbrev pub IsSpaceNumber : List (List ℕ) → Option ℕ → Type 0
+IsSpaceNumber texts number = IfSome number (λ place. slice_get texts place ≡ Some (SPACE ∷ []))
 
 -- no text stands at two places
 abbrev pub StandOnce : List (List ℕ) → Type 0

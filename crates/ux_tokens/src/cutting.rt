@@ -4,7 +4,7 @@ ghost use Rattle.std.specs.Prelude.{IfOk, IfErr};
 ghost use Rattle.ux_tokens.specs.Cutting.{IsCutting, RefusesCut};
 
 use crate::first::first_token;
-use crate::numbering::number_of;
+use crate::numbering::number_of_kind;
 use crate::piece::Piece;
 use crate::text_error::TextError;
 use indexmap::IndexSet;
@@ -29,6 +29,7 @@ pub fn cut_text(alloc: Global, alphabet: &Alphabet, text: &str) -> Result<Cut, T
     ensures err { IfErr result (RefusesCut alphabet.now text.now) }
 {
     let mut numbers: IndexSet<&str> = IndexSet::new(alloc);
+    let mut space = None;
     let mut pieces: Vec<Piece> = Vec::new(alloc);
     let mut end = 0;
     while end < text.len() {
@@ -37,7 +38,7 @@ pub fn cut_text(alloc: Global, alphabet: &Alphabet, text: &str) -> Result<Cut, T
         }
         let rest = &text[end..];
         let (kind, len) = first_token(alphabet, rest);
-        let number = number_of(&mut numbers, &rest[..len])?;
+        let number = number_of_kind(&mut numbers, &mut space, kind, &rest[..len])?;
         end += len;
         pieces.push(Piece { end, number, kind })?;
     }

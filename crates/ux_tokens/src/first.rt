@@ -14,14 +14,12 @@ fn word_len(alphabet: &Alphabet, text: &str) -> usize
     ensures letters { All (IsLetter alphabet.now) (chars (take result text.now)) }
     ensures ends { BeginsWithNoLetter alphabet.now (drop result text.now) }
 {
-    let mut len = 0;
-    for c in text.chars() {
+    for (place, c) in text.char_indices() {
         if !alphabet.is_letter(c) {
-            return len;
+            return place;
         }
-        len += c.len_utf8();
     }
-    len
+    text.len()
 }
 
 /// The kind and the length in bytes of the token at the front.

@@ -1,8 +1,7 @@
-use Rattle.std.proofs.Common.{◌≡◌, ℕ, ◌+◌, ◌-◌, ◌<◌, ◌≤◌, List, [], Bor, Some, map, length, take, drop, sym, ◌∙◌, ap, subst, arith}
+use Rattle.std.proofs.Common.{◌≡◌, ℕ, ◌-◌, ◌<◌, ◌≤◌, List, [], Bor, Some, map, length, take, drop, sym, ◌∙◌, ap, subst, arith, rules}
 use Rattle.std.specs.List.{slice_get}
 use Rattle.std.specs.Str.{IsCharBoundary}
 use Rattle.std.proofs.lemmas.List.{drop_all, length-map, length-drop}
-use Rattle.ux_tokens.specs.declared.piece.Piece.{Piece}
 use Rattle.ux_tokens.specs.declared.cutting.TheConstants.{MAX_TOKENS}
 use Rattle.ux_tokens.specs.First.{IsFirstToken}
 use Rattle.ux_tokens.specs.Numbers.{texts_in, with_text}
@@ -10,7 +9,7 @@ use Rattle.ux_tokens.specs.Pieces.{tokens_from}
 use Rattle.ux_tokens.proofs.PiecesLemmas.{length-tokens_from}
 use Rattle.std.proofs.lemmas.Str.{IsUtf8-drop}
 use Rattle.ux_tokens.proofs.WholeLemmas.{has_more}
-use Rattle.ux_tokens.proofs.CuttingLemmas.{IsSoFar, so_far_start, so_far_more, few_different, cut_whole}
+use Rattle.ux_tokens.proofs.CuttingLemmas.{so_far_start, so_far_more, few_different, cut_whole}
 use Rattle.ux_tokens.proofs.cutting.cut_text.Goals as goal
 
 pub loop-end-init : goal.loop-end-init
@@ -20,11 +19,11 @@ loop-end-init c =
     drop_all 0 c.new-numbers.result.keys (omega arith) in
     let texts : texts_in c.new-numbers.result ≡ [] =
     ap (λ (keys : List (Bor (List ℕ))). map (λ (s : Bor (List ℕ)). s.now) keys) empty in
-    subst (λ (pieces : List Piece). IsSoFar c.args.alphabet.now c.args.text.now 0 pieces
-    (texts_in c.new-numbers.result))
-    (sym c.new-pieces.ensures.items)
-    (subst (IsSoFar c.args.alphabet.now c.args.text.now 0 []) (sym texts)
-    (so_far_start c.args.alphabet.now c.args.text.now c.utf8.text))
+    let so_far = so_far_start c.args.alphabet.now c.args.text.now c.utf8.text in
+    record {
+      so_far = rw c.new-pieces.ensures.items (rw texts so_far);
+      known = search rules;
+    }
 
 pub returns-then-len-eq-MAX_TOKENS-clause-err : goal.returns-then-len-eq-MAX_TOKENS-clause-err
 returns-then-len-eq-MAX_TOKENS-clause-err c =
@@ -36,18 +35,18 @@ returns-then-len-eq-MAX_TOKENS-clause-err c =
     length-drop c.loop-end.end c.args.text.now in
     let more = has_more c.args.alphabet.now c.args.text.now (drop c.loop-end.end c.args.text.now)
     (tokens_from c.args.text.now 0 c.loop-end.pieces.items)
-    (IsUtf8-drop c.args.text.now c.loop-end.end c.utf8.text c.loop-end.invariant.between)
-    (omega arith) c.loop-end.invariant.tokens in
+    (IsUtf8-drop c.args.text.now c.loop-end.end c.utf8.text c.loop-end.invariant.so_far.between)
+    (omega arith) c.loop-end.invariant.so_far.tokens in
     (more.0, more.1, omega (arith, more.2))
 
-pub number_of-requires : goal.number_of-requires
-number_of-requires c =
+pub number_of_kind-requires-clause-room : goal.number_of_kind-requires-clause-room
+number_of_kind-requires-clause-room c =
     let keys : length (texts_in c.loop-end.numbers) ≡ length c.loop-end.numbers.keys =
     length-map c.loop-end.numbers.keys (λ (s : Bor (List ℕ)). s.now) in
     let fewer : length (texts_in c.loop-end.numbers) ≤ length c.loop-end.pieces.items =
     few_different c.args.alphabet.now c.args.text.now c.loop-end.end c.loop-end.pieces.items
-    (texts_in c.loop-end.numbers) c.loop-end.invariant in
-    let few : length c.loop-end.pieces.items ≤ MAX_TOKENS = c.loop-end.invariant.few in
+    (texts_in c.loop-end.numbers) c.loop-end.invariant.so_far in
+    let few : length c.loop-end.pieces.items ≤ MAX_TOKENS = c.loop-end.invariant.so_far.few in
     omega arith
 
 pub loop-end-preserved : goal.loop-end-preserved
@@ -63,7 +62,7 @@ loop-end-preserved c =
     c.range.ensures.value
     ∙ ap (λ (n : ℕ). take n c.range_from-rest.result.now) whole_len
     ∙ ap (λ (l : List ℕ). take len l) rest in
-    let texts : texts_in c.number_of.new.numbers ≡ with_text (texts_in c.loop-end.numbers)
+    let texts : texts_in c.number_of_kind.new.numbers ≡ with_text (texts_in c.loop-end.numbers)
     (take len (drop end text)) =
     c.in_ok-number.ensures.texts ∙ ap (with_text (texts_in c.loop-end.numbers)) token in
     let place : slice_get (with_text (texts_in c.loop-end.numbers) (take len (drop end text)))
@@ -75,24 +74,23 @@ loop-end-preserved c =
     subst (λ (l : List ℕ). IsCharBoundary l len) rest c.first_token-kind.ensures.cut in
     let first : IsFirstToken lines (drop end text) kind len =
     subst (λ (l : List ℕ). IsFirstToken lines l kind len) rest c.first_token-kind.ensures.is in
-    let room : length c.loop-end.pieces.items < MAX_TOKENS =
-    (let few : length c.loop-end.pieces.items ≤ MAX_TOKENS = c.loop-end.invariant.few in omega
-    arith) in
-    subst (λ (pieces : List Piece). IsSoFar lines text (end + len) pieces
-    (texts_in c.number_of.new.numbers))
-    (sym c.in_ok-push.ensures.items)
-    (subst (IsSoFar lines text (end + len) _) (sym texts)
-    (so_far_more lines text c.utf8.text end c.loop-end.pieces.items (texts_in c.loop-end.numbers)
-    c.loop-end.invariant room kind len c.in_ok-number.number cut first place))
+    let few = c.loop-end.invariant.so_far.few in
+    let room : length c.loop-end.pieces.items < MAX_TOKENS = omega (arith, few) in
+    let pieces = c.loop-end.pieces.items in
+    let so_far = so_far_more lines text c.utf8.text end pieces (texts_in c.loop-end.numbers)
+    c.loop-end.invariant.so_far room kind len c.in_ok-number.number cut first place in
+    record {
+      so_far = rw c.in_ok-push.ensures.items (rw texts so_far);
+      known = c.in_ok-number.ensures.known;
+    }
 
 pub returns-clause-ok : goal.returns-clause-ok
 returns-clause-ok c =
-    let all : c.loop-end.end ≡ length c.args.text.now =
-    (let within : c.loop-end.end ≤ length c.args.text.now = c.loop-end.invariant.between.0 in omega
-    arith) in
+    let within = c.loop-end.invariant.so_far.between.0 in
+    let all : c.loop-end.end ≡ length c.args.text.now = omega (arith, within) in
     let keys : length (texts_in c.loop-end.numbers) ≡ length c.loop-end.numbers.keys =
     length-map c.loop-end.numbers.keys (λ (s : Bor (List ℕ)). s.now) in
     cut_whole c.args.alphabet.now c.args.text.now c.loop-end.end c.loop-end.pieces
     (texts_in c.loop-end.numbers)
-    c.len-2.result c.loop-end.invariant all
+    c.len-2.result c.loop-end.invariant.so_far all
     (c.len-2.ensures.len ∙ sym keys)
