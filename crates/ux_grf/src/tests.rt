@@ -2,8 +2,9 @@
 //! not, its lines in parentheses, `/` and its output, and `>` and each target. A literal has a point
 //! behind it, a call a semicolon, the empty word is `E`, characters of an output have `'` around them.
 
-use crate::{Content, GrfBox, GrfError, Item, Piece, needs, read_content, read_grf};
+use crate::{Content, Graph, GrfBox, GrfError, Item, Piece, needs, read_content, read_grf};
 use std::alloc::{AllocError, Global};
+use std::process::Abort;
 use std::test::Fail;
 use ux_base::{Lst, Txt};
 
@@ -12,17 +13,19 @@ const EXAMPLE: &str =
     "#Unigraph\nSIZE 1188 840\nFONT Times New Roman: 12\nOFONT Times New Roman:B 12\nBCOLOR 16777215\nFCOLOR 0\nACOLOR 13487565\nSCOLOR 16711680\nCCOLOR 255\nDBOXES y\nDFRAME y\nDDATE y\nDFILE y\nDDIR y\nDRIG n\nDRST n\nFITS 100\nPORIENT L\n#\n4\n\"<E>\" 84 248 1 2 \n\"\" 454 248 0 \n\"the cat\" 170 248 1 1 \n\"a remark <x\" 300 400 0 \n";
 
 /// The graph of a file or its refusal, as text.
-fn shown(alloc: Global, text: &str) -> Result<String, Fail> {
+fn shown(alloc: Global, text: &str) -> Result<String, AllocError> {
     match read_grf(alloc, text) {
-        Ok(graph) => {
-            let mut all = String::new(alloc);
-            for drawn in graph.boxes.as_slice() {
-                show_box(alloc, &mut all, drawn)?;
-            }
-            Ok(all)
-        },
-        Err(refusal) => Ok(format!(in alloc; "{refusal:?}")?),
+        Ok(graph) => graph_text(alloc, &graph),
+        Err(refusal) => format!(in alloc; "{refusal:?}"),
     }
+}
+
+fn graph_text(alloc: Global, graph: &Graph) -> Result<String, AllocError> {
+    let mut all = String::new(alloc);
+    for drawn in graph.boxes.as_slice() {
+        show_box(alloc, &mut all, drawn)?;
+    }
+    Ok(all)
 }
 
 fn show_box(alloc: Global, all: &mut String, drawn: &GrfBox) -> Result<(), AllocError> {
@@ -38,10 +41,15 @@ fn show_box(alloc: Global, all: &mut String, drawn: &GrfBox) -> Result<(), Alloc
 fn show_lines(all: &mut String, lines: &Lst<Lst<Item>>) -> Result<(), AllocError> {
     for line in lines.as_slice() {
         all.push('(')?;
-        for item in line.as_slice() {
-            show_item(all, item)?;
-        }
+        show_line(all, line.as_slice())?;
         all.push(')')?;
+    }
+    Ok(())
+}
+
+fn show_line(all: &mut String, line: &[Item]) -> Result<(), AllocError> {
+    for item in line {
+        show_item(all, item)?;
     }
     Ok(())
 }
@@ -70,12 +78,16 @@ fn show_output(all: &mut String, output: &Lst<Piece>) -> Result<(), AllocError> 
     }
     all.push('/')?;
     for piece in output.as_slice() {
-        match piece {
-            Piece::Chars(text) => put(all, "'", text, "'")?,
-            Piece::Value(name) => put(all, "$", name, "$")?,
-        }
+        show_piece(all, piece)?;
     }
     Ok(())
+}
+
+fn show_piece(all: &mut String, piece: &Piece) -> Result<(), AllocError> {
+    match piece {
+        Piece::Chars(text) => put(all, "'", text, "'"),
+        Piece::Value(name) => put(all, "$", name, "$"),
+    }
 }
 
 fn put(all: &mut String, before: &str, text: &Txt, behind: &str) -> Result<(), AllocError> {
@@ -91,11 +103,11 @@ fn show_target(alloc: Global, all: &mut String, target: u32) -> Result<(), Alloc
 }
 
 /// The lines and the output of a content or its refusal, as text.
-fn shown_content(alloc: Global, content: &str) -> Result<String, Fail> {
+fn shown_content(alloc: Global, content: &str) -> Result<String, AllocError> {
     match read_content(alloc, content) {
-        Ok(read) => Ok(content_text(alloc, &read)?),
-        Err(GrfError::BadContent { node: 0, place }) => Ok(format!(in alloc; "bad {place}")?),
-        Err(refusal) => Ok(format!(in alloc; "{refusal:?}")?),
+        Ok(read) => content_text(alloc, &read),
+        Err(GrfError::BadContent { node: 0, place }) => format!(in alloc; "bad {place}"),
+        Err(refusal) => format!(in alloc; "{refusal:?}"),
     }
 }
 
@@ -106,16 +118,45 @@ fn content_text(alloc: Global, read: &Content) -> Result<String, AllocError> {
     Ok(all)
 }
 
-#[test]
-fn draws_the_example(rt: HostRuntime) -> Result<(), Fail> {
-    let graph = shown(rt.alloc(), EXAMPLE)?;
-    assert_eq!(rt; graph.as_str(), "+>2++(the.cat.)>1-");
+/// A name, what is read, and what it is shown as.
+type Row = (&'static str, &'static str, &'static str);
+
+fn compare(rt: &impl Abort, row: &Row, got: &str) {
+    assert_eq!(rt; got, row.2, "{}", row.0);
+}
+
+/// Each row's text stands in its file between the two texts of `around`.
+fn compare_files(
+    rt: &impl Abort,
+    alloc: Global,
+    around: (&str, &str),
+    rows: &[Row],
+) -> Result<(), Fail> {
+    for row in rows {
+        let file = format!(in alloc; "{}{}{}", around.0, row.1, around.1)?;
+        let got = shown(alloc, file.as_str())?;
+        compare(rt, row, got.as_str());
+    }
+    Ok(())
+}
+
+fn compare_contents(rt: &impl Abort, alloc: Global, rows: &[Row]) -> Result<(), Fail> {
+    for row in rows {
+        let got = shown_content(alloc, row.1)?;
+        compare(rt, row, got.as_str());
+    }
     Ok(())
 }
 
 #[test]
+fn draws_the_example(rt: HostRuntime) -> Result<(), Fail> {
+    const ROWS: &[Row] = &[("the example", EXAMPLE, "+>2++(the.cat.)>1-")];
+    compare_files(&rt, rt.alloc(), ("", ""), ROWS)
+}
+
+#[test]
 fn reads_the_header_and_the_number_of_boxes(rt: HostRuntime) -> Result<(), Fail> {
-    let rows = [
+    const ROWS: &[Row] = &[
         ("an empty file", "", "NoHeader"),
         (
             "another first line",
@@ -147,17 +188,13 @@ fn reads_the_header_and_the_number_of_boxes(rt: HostRuntime) -> Result<(), Fail>
             "+>1+",
         ),
     ];
-    for (name, text, want) in rows {
-        let got = shown(rt.alloc(), text)?;
-        assert_eq!(rt; got.as_str(), want, "{name}");
-    }
-    Ok(())
+    compare_files(&rt, rt.alloc(), ("", ""), ROWS)
 }
 
 #[test]
 fn reads_box_lines(rt: HostRuntime) -> Result<(), Fail> {
     // What stands behind the number of boxes, which is 3.
-    let rows = [
+    const ROWS: &[Row] = &[
         (
             "a chain",
             "\"\" 0 0 1 2\n\"\" 0 0 0\n\"the\" 0 0 1 1\n",
@@ -269,19 +306,13 @@ fn reads_box_lines(rt: HostRuntime) -> Result<(), Fail> {
             "+-->0",
         ),
     ];
-    let alloc = rt.alloc();
-    for (name, lines, want) in rows {
-        let text = format!(in alloc; "#Unigraph\n#\n3\n{lines}")?;
-        let got = shown(alloc, text.as_str())?;
-        assert_eq!(rt; got.as_str(), want, "{name}");
-    }
-    Ok(())
+    compare_files(&rt, rt.alloc(), ("#Unigraph\n#\n3\n", ""), ROWS)
 }
 
 #[test]
 fn reads_the_boxes_that_are_reached(rt: HostRuntime) -> Result<(), Fail> {
     // What stands behind the number of boxes, which is 4.
-    let rows = [
+    const ROWS: &[Row] = &[
         (
             "no path passes the end",
             "\"\" 0 0 1 1\n\"\" 0 0 1 2\n\"+\" 0 0 1 2\n\"\" 0 0 0\n",
@@ -333,18 +364,12 @@ fn reads_the_boxes_that_are_reached(rt: HostRuntime) -> Result<(), Fail> {
             "+>2>3++(a.)>3+(b.)>1",
         ),
     ];
-    let alloc = rt.alloc();
-    for (name, lines, want) in rows {
-        let text = format!(in alloc; "#Unigraph\n#\n4\n{lines}")?;
-        let got = shown(alloc, text.as_str())?;
-        assert_eq!(rt; got.as_str(), want, "{name}");
-    }
-    Ok(())
+    compare_files(&rt, rt.alloc(), ("#Unigraph\n#\n4\n", ""), ROWS)
 }
 
 #[test]
 fn reads_items(rt: HostRuntime) -> Result<(), Fail> {
-    let rows = [
+    const ROWS: &[Row] = &[
         ("a literal", "the", "(the.)"),
         ("literals", "the  cat\tsat", "(the.cat.sat.)"),
         ("a colon and a dollar inside", "a:b$c", "(a:b$c.)"),
@@ -389,16 +414,12 @@ fn reads_items(rt: HostRuntime) -> Result<(), Fail> {
         ("an empty content", "", "(E)"),
         ("spaces alone", " \t ", "(E)"),
     ];
-    for (name, content, want) in rows {
-        let got = shown_content(rt.alloc(), content)?;
-        assert_eq!(rt; got.as_str(), want, "{name}");
-    }
-    Ok(())
+    compare_contents(&rt, rt.alloc(), ROWS)
 }
 
 #[test]
 fn reads_lines_of_one_item(rt: HostRuntime) -> Result<(), Fail> {
-    let rows = [
+    const ROWS: &[Row] = &[
         ("a call", ":np", "(:np;)"),
         ("an ending", ":np.grf", "(:np;)"),
         ("two endings", ":np.grf.grf", "(:np.grf;)"),
@@ -414,17 +435,13 @@ fn reads_lines_of_one_item(rt: HostRuntime) -> Result<(), Fail> {
         ("a dollar behind an item", "a $", "(a.$.)"),
         ("a colon behind an item", "\"\":a", "(:a.)"),
     ];
-    for (name, content, want) in rows {
-        let got = shown_content(rt.alloc(), content)?;
-        assert_eq!(rt; got.as_str(), want, "{name}");
-    }
-    Ok(())
+    compare_contents(&rt, rt.alloc(), ROWS)
 }
 
 #[test]
 fn names_the_first_fault(rt: HostRuntime) -> Result<(), Fail> {
     // The place counts characters, and two bytes stand before most faults.
-    let rows = [
+    const ROWS: &[Row] = &[
         ("an open quote", "\u{e9} \"abc", "bad 2"),
         (
             "an open quote, whose end is protected",
@@ -463,16 +480,12 @@ fn names_the_first_fault(rt: HostRuntime) -> Result<(), Fail> {
         ("an open quote before a bad line", "\u{e9}\"+:", "bad 1"),
         ("a fault before that of the output", "\u{e9}+<>/\\", "bad 2"),
     ];
-    for (name, content, want) in rows {
-        let got = shown_content(rt.alloc(), content)?;
-        assert_eq!(rt; got.as_str(), want, "{name}");
-    }
-    Ok(())
+    compare_contents(&rt, rt.alloc(), ROWS)
 }
 
 #[test]
 fn reads_outputs(rt: HostRuntime) -> Result<(), Fail> {
-    let rows = [
+    const ROWS: &[Row] = &[
         ("an output", "a/N", "(a.)/'N'"),
         ("all behind the first slash", "a/b/c+d", "(a.)/'b/c+d'"),
         ("of all lines", "a+b/c", "(a.)(b.)/'c'"),
@@ -492,22 +505,18 @@ fn reads_outputs(rt: HostRuntime) -> Result<(), Fail> {
         ("a protected end", "a/$x\\$", "(a.)/'$x$'"),
         ("a mask's slash", "<a/b>/c", "(<a/b>)/'c'"),
     ];
-    for (name, content, want) in rows {
-        let got = shown_content(rt.alloc(), content)?;
-        assert_eq!(rt; got.as_str(), want, "{name}");
-    }
-    Ok(())
+    compare_contents(&rt, rt.alloc(), ROWS)
 }
 
 #[test]
 fn takes_the_protection_of_the_file_off_first(rt: HostRuntime) -> Result<(), Fail> {
     // What stands between the quotation marks of box 2.
-    let rows = [
-        ("quotation marks", "\\\"the cat\\\"", "(\"the cat\")"),
-        ("two backslashes", "a\\\\+b", "(a+b.)"),
-        ("another pair", "a\\+b", "(a+b.)"),
-        ("a literal mark", "\\\\\\\"x", "(\"x.)"),
-        ("a mask's backslash", "<a\\\\\\\\>", "(<a\\\\>)"),
+    const ROWS: &[Row] = &[
+        ("quotation marks", "\\\"the cat\\\"", "+>2++(\"the cat\")>1"),
+        ("two backslashes", "a\\\\+b", "+>2++(a+b.)>1"),
+        ("another pair", "a\\+b", "+>2++(a+b.)>1"),
+        ("a literal mark", "\\\\\\\"x", "+>2++(\"x.)>1"),
+        ("a mask's backslash", "<a\\\\\\\\>", "+>2++(<a\\\\>)>1"),
         (
             "a backslash at the end",
             "\u{e9}\\\\",
@@ -519,26 +528,14 @@ fn takes_the_protection_of_the_file_off_first(rt: HostRuntime) -> Result<(), Fai
             "BadContent { node: 2, place: 3 }",
         ),
     ];
-    let alloc = rt.alloc();
-    for (name, content, want) in rows {
-        let text = format!(in alloc;
-            "#Unigraph\n#\n3\n\"\" 0 0 1 2\n\"\" 0 0 0\n\"{content}\" 0 0 1 1\n"
-        )?;
-        let got = shown(alloc, text.as_str())?;
-        let wanted = if want.starts_with("Bad") {
-            format!(in alloc; "{want}")?
-        } else {
-            format!(in alloc; "+>2++{want}>1")?
-        };
-        assert_eq!(rt; got.as_str(), wanted.as_str(), "{name}");
-    }
-    Ok(())
+    let before = "#Unigraph\n#\n3\n\"\" 0 0 1 2\n\"\" 0 0 0\n\"";
+    compare_files(&rt, rt.alloc(), (before, "\" 0 0 1 1\n"), ROWS)
 }
 
 #[test]
 fn names_the_first_bad_content(rt: HostRuntime) -> Result<(), Fail> {
     // What stands behind the number of boxes, which is 4.
-    let rows = [
+    const ROWS: &[Row] = &[
         (
             "two bad boxes",
             "\"\" 0 0 1 3\n\"\" 0 0 0\n\"a<>\" 0 0 1 1\n\":\" 0 0 1 2\n",
@@ -565,19 +562,29 @@ fn names_the_first_bad_content(rt: HostRuntime) -> Result<(), Fail> {
             "BadBoxLine { node: 3 }",
         ),
     ];
-    let alloc = rt.alloc();
-    for (name, lines, want) in rows {
-        let text = format!(in alloc; "#Unigraph\n#\n4\n{lines}")?;
-        let got = shown(alloc, text.as_str())?;
-        assert_eq!(rt; got.as_str(), want, "{name}");
+    compare_files(&rt, rt.alloc(), ("#Unigraph\n#\n4\n", ""), ROWS)
+}
+
+/// The names of the graphs that a graph calls, with a space behind each.
+fn called(alloc: Global, text: &str) -> Result<String, GrfError> {
+    let graph = read_grf(alloc, text)?;
+    let names = needs(alloc, &graph)?;
+    Ok(joined(alloc, &names)?)
+}
+
+fn joined(alloc: Global, names: &[String]) -> Result<String, AllocError> {
+    let mut all = String::new(alloc);
+    for name in names {
+        all.push_str(name.as_str())?;
+        all.push(' ')?;
     }
-    Ok(())
+    Ok(all)
 }
 
 #[test]
 fn lists_the_names_that_are_called(rt: HostRuntime) -> Result<(), Fail> {
     // What stands behind the number of boxes, which is 5. No path leads to the last one.
-    let rows = [
+    const ROWS: &[Row] = &[
         (
             "twice, in two boxes",
             "\"\" 0 0 1 3\n\"\" 0 0 0\n\":np+the+:vp.grf+:np\" 0 0 1 1\n\":vp+:pp\" 0 0 1 2\n\":ap\" 0 0 1 1\n",
@@ -590,15 +597,10 @@ fn lists_the_names_that_are_called(rt: HostRuntime) -> Result<(), Fail> {
         ),
     ];
     let alloc = rt.alloc();
-    for (name, lines, want) in rows {
-        let text = format!(in alloc; "#Unigraph\n#\n5\n{lines}")?;
-        let graph = read_grf(alloc, text.as_str())?;
-        let mut all = String::new(alloc);
-        for called in needs(alloc, &graph)? {
-            all.push_str(called.as_str())?;
-            all.push(' ')?;
-        }
-        assert_eq!(rt; all.as_str(), want, "{name}");
+    for row in ROWS {
+        let text = format!(in alloc; "#Unigraph\n#\n5\n{}", row.1)?;
+        let got = called(alloc, text.as_str())?;
+        compare(&rt, row, got.as_str());
     }
     Ok(())
 }

@@ -1,8 +1,5 @@
-//! Rows of small grammars, and what `admit` says of them.
-//!
-//! Places are written as their lines, each with a dot behind it, `>` and their targets. A label is
-//! one sign: `E` is empty, `#` glue, `A` a call of graph 1, `B` of graph 2 and `C` of graph 3, and
-//! another sign a literal.
+//! Rows of small grammars, and what `admit` says of them. Their places are written as `test_rows`
+//! says.
 
 ghost use Rattle.std.specs.Prelude.{◌≡◌, ◌≢◌, ℕ, ◌<◌, ◌↔◌, List, [], ◌∷◌, length, get_or, map, slice_get, slice_set, Some, All, AllPairs, IsTrue, IfOk, false, true};
 ghost use Rattle.ux_grf.specs.Reached.{Reached};
@@ -15,60 +12,12 @@ use crate::admissible::{AdmissionError, admit};
 use crate::label::Label;
 use crate::line::one_call;
 use crate::place::Place;
+use crate::test_rows::{compare, places_of};
 use crate::ways::lines_of;
 use std::alloc::{AllocError, Global};
 use std::test::Fail;
-use ux_base::{Lst, Mem, Txt};
+use ux_base::{Lst, Mem};
 use ux_digraph::{are_edges_inside, reached};
-
-fn label_of(alloc: Global, sign: char) -> Mem<Label> {
-    match sign {
-        'E' => Ok(Label::Empty),
-        '#' => Ok(Label::Glue),
-        'A' => Ok(Label::Call(1)),
-        'B' => Ok(Label::Call(2)),
-        'C' => Ok(Label::Call(3)),
-        _ => {
-            let mut text = String::new(alloc);
-            text.push(sign)?;
-            Ok(Label::Fold(Txt::new(text)))
-        },
-    }
-}
-
-/// A place of a row.
-fn place_of(alloc: Global, text: &str) -> Mem<Place> {
-    let mut lines = Vec::new(alloc);
-    let mut labels = Vec::new(alloc);
-    let mut targets = Vec::new(alloc);
-    for sign in text.chars() {
-        match sign {
-            '>' => {},
-            '.' => {
-                lines.push(Lst::new(labels))?;
-                labels = Vec::new(alloc);
-            },
-            '1' => targets.push(1)?,
-            '2' => targets.push(2)?,
-            '3' => targets.push(3)?,
-            '4' => targets.push(4)?,
-            _ => labels.push(label_of(alloc, sign)?)?,
-        }
-    }
-    Ok(Place {
-        reached: true,
-        lines: Lst::new(lines),
-        targets: Lst::new(targets),
-    })
-}
-
-fn graph_of(alloc: Global, text: &str) -> Mem<Lst<Place>> {
-    let mut places = Vec::new(alloc);
-    for place in text.split(' ') {
-        places.push(place_of(alloc, place)?)?;
-    }
-    Ok(Lst::new(places))
-}
 
 fn is_empty_line(line: &[Label]) -> bool
     ensures { IsTrue result → line.now ≡ Empty ∷ [] }
@@ -270,88 +219,104 @@ fn are_fit(alloc: Global, graphs: &[Lst<Place>]) -> Mem<bool>
     Ok(true)
 }
 
-/// What `admit` says of the graphs, or that they are not fit.
-fn told(alloc: Global, rows: &[&str]) -> Mem<String> {
+fn graphs_of(alloc: Global, texts: &[&str]) -> Mem<Vec<Lst<Place>>> {
     let mut graphs = Vec::new(alloc);
-    for row in rows {
-        graphs.push(graph_of(alloc, row)?)?;
+    for text in texts {
+        graphs.push(Lst::new(places_of(alloc, text)?))?;
     }
-    if !are_fit(alloc, &graphs)? {
-        return Ok(format!(in alloc; "unfit")?);
-    }
-    match admit(alloc, &graphs) {
-        Ok(_) => Ok(format!(in alloc; "admitted")?),
+    Ok(graphs)
+}
+
+/// What `admit` says of the graphs.
+fn verdict(alloc: Global, graphs: &[Lst<Place>]) -> Result<String, AllocError>
+    requires { All (IsFit (length graphs.now)) graphs.now }
+{
+    match admit(alloc, graphs) {
+        Ok(_) => String::from_str(alloc, "admitted"),
         Err(AdmissionError::EmptyLoop { graph, node }) => {
-            Ok(format!(in alloc; "loop {graph} {node}")?)
+            format!(in alloc; "loop {graph} {node}")
         },
         Err(AdmissionError::LeftRecursion { graph, node }) => {
-            Ok(format!(in alloc; "recursion {graph} {node}")?)
+            format!(in alloc; "recursion {graph} {node}")
         },
-        Err(AdmissionError::NoMemory) => Ok(format!(in alloc; "no memory")?),
+        Err(AdmissionError::NoMemory) => String::from_str(alloc, "no memory"),
     }
 }
 
+/// What `admit` says of the graphs, or that they are not fit.
+fn told(alloc: Global, texts: &[&str]) -> Mem<String> {
+    let graphs = graphs_of(alloc, texts)?;
+    if are_fit(alloc, &graphs)? {
+        Ok(verdict(alloc, &graphs)?)
+    } else {
+        Ok(String::from_str(alloc, "unfit")?)
+    }
+}
+
+/// A name, the graphs, and what `admit` says of them.
+type Row = (&'static str, &'static [&'static str], &'static str);
+
 #[test]
 fn names_the_first_empty_loop_and_the_first_left_recursion(rt: HostRuntime) -> Result<(), Fail> {
-    let cases = [
-        ("a word", &["E.>2  a.>1"][..], "admitted"),
-        ("the end has a line", &["E.>2 a. a.>1"][..], "unfit"),
+    const ROWS: &[Row] = &[
+        ("a word", &["E.>2  a.>1"], "admitted"),
+        ("the end has a line", &["E.>2 a. a.>1"], "unfit"),
         (
             "a graph that begins with itself",
-            &["E.>2  A.>3 a.>1"][..],
+            &["E.>2  A.>3 a.>1"],
             "recursion 1 2",
         ),
         (
             "behind a nullable call",
-            &["E.>2  B.>3 A.>4 a.>1", "E.>1 "][..],
+            &["E.>2  B.>3 A.>4 a.>1", "E.>1 "],
             "recursion 1 3",
         ),
         (
             "behind a call of a word",
-            &["E.>2  B.>3 A.>4 a.>1", "E.>2  b.>1"][..],
+            &["E.>2  B.>3 A.>4 a.>1", "E.>2  b.>1"],
             "admitted",
         ),
-        ("behind a word", &["E.>2  a.>3 A.>1"][..], "admitted"),
+        ("behind a word", &["E.>2  a.>3 A.>1"], "admitted"),
         (
             "three graphs in turn",
-            &["E.>2  B.>1", "E.>2  C.>1", "E.>2  A.>1"][..],
+            &["E.>2  B.>1", "E.>2  C.>1", "E.>2  A.>1"],
             "recursion 1 2",
         ),
         (
             "a loop of two empty boxes",
-            &["E.>3  E.>3 E.>12"][..],
+            &["E.>3  E.>3 E.>12"],
             "loop 1 2",
         ),
-        ("a loop with a word", &["E.>2  a.>12"][..], "admitted"),
+        ("a loop with a word", &["E.>2  a.>12"], "admitted"),
         (
             "a glue box that leads to itself",
-            &["E.>2  #.>12"][..],
+            &["E.>2  #.>12"],
             "loop 1 2",
         ),
         (
             "a loop through a nullable call",
-            &["E.>2  B.>3 E.>12", "E.>1 "][..],
+            &["E.>2  B.>3 E.>12", "E.>1 "],
             "loop 1 2",
         ),
         (
             "a loop through a call of a word",
-            &["E.>2  B.>12", "E.>2  b.>1"][..],
+            &["E.>2  B.>12", "E.>2  b.>1"],
             "admitted",
         ),
         (
             "loops in two graphs",
-            &["E.>3  a.>1 E.>23", "E.>2  E.>12"][..],
+            &["E.>3  a.>1 E.>23", "E.>2  E.>12"],
             "loop 1 3",
         ),
         (
             "a loop behind a recursion",
-            &["E.>2  A.>1", "E.>2  E.>12"][..],
+            &["E.>2  A.>1", "E.>2  E.>12"],
             "loop 2 2",
         ),
     ];
-    for (name, rows, want) in cases {
-        let found = told(rt.alloc(), rows)?;
-        assert_eq!(rt; found.as_str(), want, "{name}");
+    for row in ROWS {
+        let found = told(rt.alloc(), row.1)?;
+        compare(&rt, (row.0, row.2), found.as_str());
     }
     Ok(())
 }

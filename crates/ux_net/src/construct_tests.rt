@@ -1,9 +1,7 @@
 //! Rows of places, the states that are made of them, and their ranks.
 //!
-//! A label is written as one sign: `E` is empty, `#` glue, `_` a space, `C` a call of graph 1, and
-//! another sign a literal. A place is written as its lines, each with a dot behind it, and its
-//! targets; `+` is one without lines, `-` one that isn't reached. A state is shown as `t` where it
-//! is final, else `:`, and then as label and target of each edge.
+//! Places are written as `test_rows` says. A state is shown as `t` where it is final, else `:`, and
+//! then as label and target of each edge. A label is shown as it is written, but any call as `C`.
 
 ghost use Rattle.std.specs.Prelude.{◌≡◌, ℕ, ◌+◌, ◌<◌, ◌≤◌, List, [], length, All, IsTrue, false};
 ghost use Rattle.ux_net.specs.declared.label.Label.{Label};
@@ -12,83 +10,46 @@ ghost use Rattle.ux_net.specs.Construct.{AreFit, IsLine, has_state as has_state_
 
 use crate::construct::{states, targets};
 use crate::label::Label;
+use crate::net_graph::Rank;
 use crate::numbering::has_state;
 use crate::place::Place;
 use crate::ranks::ranks;
 use crate::state::{Edge, State};
+use crate::test_rows::{compare, places_of};
 use std::alloc::{AllocError, Global};
 use std::test::Fail;
-use ux_base::{Lst, Mem, NoMemory, Txt};
+use ux_base::{Lst, Mem};
 
-fn label_of(alloc: Global, sign: char) -> Mem<Label> {
-    match sign {
-        'E' => Ok(Label::Empty),
-        '#' => Ok(Label::Glue),
-        '_' => Ok(Label::Space),
-        'C' => Ok(Label::Call(1)),
-        _ => {
-            let mut text = String::new(alloc);
-            text.push(sign)?;
-            Ok(Label::Fold(Txt::new(text)))
-        },
-    }
-}
-
-/// A place of a row.
-fn place_of(alloc: Global, text: &str) -> Mem<Place> {
-    let mut reached = true;
-    let mut lines = Vec::new(alloc);
-    let mut labels = Vec::new(alloc);
-    let mut targets = Vec::new(alloc);
-    for sign in text.chars() {
-        match sign {
-            '-' => reached = false,
-            '+' => reached = true,
-            '.' => {
-                lines.push(Lst::new(labels))?;
-                labels = Vec::new(alloc);
-            },
-            '0' => targets.push(0)?,
-            '1' => targets.push(1)?,
-            '2' => targets.push(2)?,
-            '3' => targets.push(3)?,
-            _ => labels.push(label_of(alloc, sign)?)?,
-        }
-    }
-    Ok(Place {
-        reached,
-        lines: Lst::new(lines),
-        targets: Lst::new(targets),
-    })
-}
-
-fn places_of(alloc: Global, text: &str) -> Mem<Vec<Place>> {
-    let mut places = Vec::new(alloc);
-    for place in text.split(' ') {
-        places.push(place_of(alloc, place)?)?;
-    }
-    Ok(places)
-}
-
-fn show_label(alloc: Global, all: &mut String, label: &Label) -> Mem<()> {
+fn show_label(all: &mut String, label: &Label) -> Result<(), AllocError> {
     match label {
-        Label::Empty => all.push('E')?,
-        Label::Glue => all.push('#')?,
-        Label::Space => all.push('_')?,
-        Label::Fold(text) | Label::Exact(text) => all.push_str(text.as_str())?,
-        Label::Call(_) => all.push('C')?,
+        Label::Empty => all.push('E'),
+        Label::Glue => all.push('#'),
+        Label::Space => all.push('_'),
+        Label::Fold(text) | Label::Exact(text) => all.push_str(text.as_str()),
+        Label::Call(_) => all.push('C'),
     }
-    Ok(())
 }
 
-fn show_state(alloc: Global, all: &mut String, state: &State) -> Mem<()> {
+fn show_edge(alloc: Global, all: &mut String, edge: &Edge) -> Result<(), AllocError> {
+    show_label(all, &edge.label)?;
+    let target = format!(in alloc; "{}", edge.target)?;
+    all.push_str(target.as_str())
+}
+
+fn show_state(alloc: Global, all: &mut String, state: &State) -> Result<(), AllocError> {
     all.push(if state.is_final { 't' } else { ':' })?;
     for edge in state.edges.as_slice() {
-        show_label(alloc, all, &edge.label)?;
-        let target = format!(in alloc; "{}", edge.target)?;
-        all.push_str(target.as_str())?;
+        show_edge(alloc, all, edge)?;
     }
-    Ok(())
+    all.push(' ')
+}
+
+fn states_text(alloc: Global, states: &[State]) -> Result<String, AllocError> {
+    let mut all = String::new(alloc);
+    for state in states {
+        show_state(alloc, &mut all, state)?;
+    }
+    Ok(all)
 }
 
 fn is_call(label: &Label) -> bool
@@ -197,21 +158,19 @@ fn is_fit(places: &[Place]) -> bool
 /// The states of the places of a row, as text.
 fn shown(alloc: Global, text: &str) -> Mem<String> {
     let places = places_of(alloc, text)?;
-    let mut all = String::new(alloc);
     if !is_fit(&places) {
-        return Ok(all);
+        return Ok(String::new(alloc));
     }
     let states = states(alloc, &places)?;
-    for state in &states {
-        show_state(alloc, &mut all, state)?;
-        all.push(' ')?;
-    }
-    Ok(all)
+    Ok(states_text(alloc, &states)?)
 }
+
+/// A name, the places, and their states.
+type Row = (&'static str, &'static str, &'static str);
 
 #[test]
 fn makes_states(rt: HostRuntime) -> Result<(), Fail> {
-    let rows = [
+    const ROWS: &[Row] = &[
         ("a word", "E.2 + a.1", ":a1 t "),
         ("a chain of two labels", "E.2 + ab.1", ":a2 t :b1 "),
         (
@@ -246,11 +205,11 @@ fn makes_states(rt: HostRuntime) -> Result<(), Fail> {
             ":a2 t :b1 ",
         ),
         ("a start that is an end", "E.1 +", "t "),
-        ("a place that leads nowhere", "E.2 + C.", ":C1 : "),
+        ("a place that leads nowhere", "E.2 + A.", ":C1 : "),
     ];
-    for (name, places, want) in rows {
-        let got = shown(rt.alloc(), places)?;
-        assert_eq!(rt; got.as_str(), want, "{name}");
+    for row in ROWS {
+        let got = shown(rt.alloc(), row.1)?;
+        compare(&rt, (row.0, row.2), got.as_str());
     }
     Ok(())
 }
@@ -269,19 +228,29 @@ fn are_small(ranks: &[usize]) -> bool
 /// The ranks of the states as text, with `f` behind those that are marked.
 fn shown_ranks(alloc: Global, text: &str, given: &[usize], free: &[bool]) -> Mem<String> {
     let places = places_of(alloc, text)?;
-    let mut all = String::new(alloc);
     if given.len() != places.len() || free.len() != places.len() || !are_small(given) {
-        return Ok(all);
+        return Ok(String::new(alloc));
     }
     let (ranks, frees) = ranks(alloc, &places, given, free)?;
-    for rank in &ranks {
+    let mut all = String::new(alloc);
+    show_ranks(alloc, &mut all, &ranks)?;
+    show_frees(&mut all, &frees)?;
+    Ok(all)
+}
+
+fn show_ranks(alloc: Global, all: &mut String, ranks: &[Rank]) -> Result<(), AllocError> {
+    for rank in ranks {
         let text = format!(in alloc; "{}.{} ", rank.major, rank.minor)?;
         all.push_str(text.as_str())?;
     }
-    for free in &frees {
+    Ok(())
+}
+
+fn show_frees(all: &mut String, frees: &[bool]) -> Result<(), AllocError> {
+    for free in frees {
         all.push(if *free { 'f' } else { '-' })?;
     }
-    Ok(all)
+    Ok(())
 }
 
 #[test]
@@ -289,6 +258,7 @@ fn ranks_chain_states_by_what_comes_behind(rt: HostRuntime) -> Result<(), Fail> 
     // Behind `a` on the first line all is silent, on the second a token is to come.
     let places = "E.2 + a#E.aEb.1";
     let got = shown_ranks(rt.alloc(), places, &[5, 0, 3], &[false, false, true])?;
-    assert_eq!(rt; got.as_str(), "6.0 4.0 4.2 4.1 0.1 0.0 -fff--");
+    let want = "6.0 4.0 4.2 4.1 0.1 0.0 -fff--";
+    compare(&rt, ("ranks", want), got.as_str());
     Ok(())
 }

@@ -42,6 +42,8 @@ pub mod rows;
 pub mod split;
 pub mod spot;
 pub mod state;
+#[cfg(test)]
+mod test_rows;
 pub mod way;
 pub mod ways;
 

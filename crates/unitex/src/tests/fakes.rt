@@ -2,21 +2,21 @@
 
 ghost use Rattle.std.specs.Prelude.{None};
 
-use crate::run;
-use crate::tests::rows::{LETTERS, SEARCH, files_of, words_of};
-use std::alloc::{AllocError, Global};
+use crate::tests::rows::{LETTERS, Outcome, SEARCH, compare_given, given_by, sink, usual_files};
+use std::alloc::Global;
 use std::test::Fail;
-use ux_base::{Folder, FolderError, MemFolder, MemSink};
+use ux_base::{Folder, FolderError, Mem, MemFolder, MemSink};
+
+const GRAPH: &str = "#Unigraph\n#\n3\n\"<E>\" 0 0 1 2 \n\"\" 0 0 0 \n\"the cat\" 0 0 1 1 \n";
 
 /// The files of a search that finds one hit.
-fn files(alloc: Global) -> Result<Vec<(String, Vec<u8>)>, AllocError> {
-    let graph = "#Unigraph\n#\n3\n\"<E>\" 0 0 1 2 \n\"\" 0 0 0 \n\"the cat\" 0 0 1 1 \n";
-    let files = [
-        ("a.txt", LETTERS.as_bytes()),
-        ("g.grf", graph.as_bytes()),
-        ("t.txt", b"The cat sat. The cats sat.".as_slice()),
-    ];
-    files_of(alloc, &files)
+fn files(alloc: Global) -> Mem<Vec<(String, Vec<u8>)>> {
+    usual_files(
+        alloc,
+        LETTERS.as_bytes(),
+        GRAPH.as_bytes(),
+        b"The cat sat. The cats sat.",
+    )
 }
 
 /// A folder all of whose files are too long.
@@ -40,44 +40,44 @@ impl Folder for LongFolder {
     }
 }
 
+/// Searches where the read of this number fails.
+fn given_without(alloc: Global, number: u64) -> Mem<Outcome> {
+    let mut failing = Vec::new(alloc);
+    failing.push(number)?;
+    let mut folder = MemFolder::new(files(alloc)?, failing);
+    let sinks = (sink(alloc, 64)?, sink(alloc, 64)?);
+    given_by(alloc, SEARCH, &mut folder, sinks)
+}
+
 #[test]
 fn answers_read_faults(rt: HostRuntime) -> Result<(), Fail> {
-    let alloc = rt.alloc();
-    let words = words_of(alloc, &SEARCH)?;
-    let cases = [
+    const ROWS: &[(u64, &str)] = &[
         (0, "read fault: a.txt\n"),
         (1, "read fault: g.grf\n"),
         (2, "read fault: t.txt\n"),
     ];
-    for (number, line) in cases {
-        let mut failing = Vec::new(alloc);
-        failing.push(number)?;
-        let mut folder = MemFolder::new(files(alloc)?, failing);
-        let mut out = MemSink::new(alloc, 64, Vec::new(alloc))?;
-        let mut err = MemSink::new(alloc, 64, Vec::new(alloc))?;
-        let status = run(alloc, words.as_slice(), &mut folder, &mut out, &mut err);
-        assert_eq!(rt; status.number(), 4, "{line}");
-        assert_eq!(rt; out.bytes(), b"".as_slice(), "{line}");
-        assert_eq!(rt; err.bytes(), line.as_bytes());
+    for row in ROWS {
+        let got = given_without(rt.alloc(), row.0)?;
+        compare_given(&rt, row.1, &got, ("", row.1, 4));
     }
     Ok(())
 }
 
+/// Searches where the first write takes so many bytes, and fails.
+fn given_cut(alloc: Global, taken: usize) -> Mem<Outcome> {
+    let mut failing = Vec::new(alloc);
+    failing.push((0, taken))?;
+    let mut folder = MemFolder::new(files(alloc)?, Vec::new(alloc));
+    let out = MemSink::new(alloc, 64, failing)?;
+    given_by(alloc, SEARCH, &mut folder, (out, sink(alloc, 64)?))
+}
+
 #[test]
 fn answers_write_faults(rt: HostRuntime) -> Result<(), Fail> {
-    let alloc = rt.alloc();
-    let words = words_of(alloc, &SEARCH)?;
-    let cases = [(0, ""), (3, "#I\n"), (99, "#I\n0 2 The cat\n")];
-    for (taken, written) in cases {
-        let mut failing = Vec::new(alloc);
-        failing.push((0, taken))?;
-        let mut folder = MemFolder::new(files(alloc)?, Vec::new(alloc));
-        let mut out = MemSink::new(alloc, 64, failing)?;
-        let mut err = MemSink::new(alloc, 64, Vec::new(alloc))?;
-        let status = run(alloc, words.as_slice(), &mut folder, &mut out, &mut err);
-        assert_eq!(rt; status.number(), 5, "{taken}");
-        assert_eq!(rt; out.bytes(), written.as_bytes(), "{taken}");
-        assert_eq!(rt; err.bytes(), b"write fault\n".as_slice(), "{taken}");
+    const ROWS: &[(usize, &str)] = &[(0, ""), (3, "#I\n"), (99, "#I\n0 2 The cat\n")];
+    for row in ROWS {
+        let got = given_cut(rt.alloc(), row.0)?;
+        compare_given(&rt, row.1, &got, (row.1, "write fault\n", 5));
     }
     Ok(())
 }
@@ -85,27 +85,19 @@ fn answers_write_faults(rt: HostRuntime) -> Result<(), Fail> {
 #[test]
 fn answers_a_line_that_is_not_written(rt: HostRuntime) -> Result<(), Fail> {
     let alloc = rt.alloc();
-    let words = words_of(alloc, &["locate"])?;
     let mut folder = MemFolder::new(files(alloc)?, Vec::new(alloc));
-    let mut out = MemSink::new(alloc, 64, Vec::new(alloc))?;
-    let mut err = MemSink::new(alloc, 7, Vec::new(alloc))?;
-    let status = run(alloc, words.as_slice(), &mut folder, &mut out, &mut err);
-    assert_eq!(rt; status.number(), 5);
-    assert_eq!(rt; out.bytes(), b"".as_slice());
-    assert_eq!(rt; err.bytes(), b"usage: ".as_slice());
+    let sinks = (sink(alloc, 64)?, sink(alloc, 7)?);
+    let got = given_by(alloc, &["locate"], &mut folder, sinks)?;
+    compare_given(&rt, "seven bytes", &got, ("", "usage: ", 5));
     Ok(())
 }
 
 #[test]
 fn answers_too_large(rt: HostRuntime) -> Result<(), Fail> {
     let alloc = rt.alloc();
-    let words = words_of(alloc, &SEARCH)?;
     let mut folder = LongFolder { overlong: 0 };
-    let mut out = MemSink::new(alloc, 64, Vec::new(alloc))?;
-    let mut err = MemSink::new(alloc, 64, Vec::new(alloc))?;
-    let status = run(alloc, words.as_slice(), &mut folder, &mut out, &mut err);
-    assert_eq!(rt; status.number(), 6);
-    assert_eq!(rt; out.bytes(), b"".as_slice());
-    assert_eq!(rt; err.bytes(), b"too large: a.txt\n".as_slice());
+    let sinks = (sink(alloc, 64)?, sink(alloc, 64)?);
+    let got = given_by(alloc, SEARCH, &mut folder, sinks)?;
+    compare_given(&rt, "long files", &got, ("", "too large: a.txt\n", 6));
     Ok(())
 }

@@ -3,15 +3,16 @@
 //! It follows the definition word for word, at a cost that small inputs alone allow, and is compared
 //! with what the run writes.
 
-use crate::tests::rows::{LETTERS, Row, SEARCH, check};
+use crate::tests::rows::{LETTERS, compare_given, searched};
 use std::alloc::{AllocError, Global};
+use std::process::Abort;
 use std::test::Fail;
 use ux_alphabet::Alphabet;
-use ux_grf::{Graph, Item, read_grf};
+use ux_grf::{Graph, GrfBox, Item, read_grf};
 use ux_tokens::{Kind, Text};
 
 /// Graphs in which boxes branch, join, are empty, or hold punctuation and spaces.
-const GRAPHS: [&str; 8] = [
+const GRAPHS: &[&str] = &[
     "#Unigraph\n#\n5\n\"<E>\" 0 0 3 2 3 4 \n\"\" 0 0 0 \n\"the cat\" 0 0 1 1 \n\"cat\" 0 0 1 1 \n\"the\" 0 0 1 1 \n",
     "#Unigraph\n#\n5\n\"<E>\" 0 0 2 2 3 \n\"\" 0 0 0 \n\"the\" 0 0 2 3 4 \n\"cat\" 0 0 2 1 4 \n\"sat\" 0 0 1 1 \n",
     "#Unigraph\n#\n5\n\"<E>\" 0 0 2 2 3 \n\"\" 0 0 0 \n\"\" 0 0 2 1 3 \n\"the\" 0 0 2 1 4 \n\"cat\" 0 0 1 1 \n",
@@ -22,7 +23,7 @@ const GRAPHS: [&str; 8] = [
     "#Unigraph\n#\n2\n\"<E>\" 0 0 1 1 \n\"\" 0 0 0 \n",
 ];
 
-const TEXTS: [&str; 7] = [
+const TEXTS: &[&str] = &[
     "",
     " , ",
     "The cat sat, the cat.",
@@ -34,27 +35,18 @@ const TEXTS: [&str; 7] = [
 
 #[test]
 fn agrees_with_the_plain_computation(rt: HostRuntime) -> Result<(), Fail> {
-    let alloc = rt.alloc();
-    for grf in GRAPHS {
-        for text in TEXTS {
-            let index = plain_index(alloc, grf, text)?;
-            let files = [
-                ("a.txt", LETTERS.as_bytes()),
-                ("g.grf", grf.as_bytes()),
-                ("t.txt", text.as_bytes()),
-            ];
-            check(
-                &rt,
-                &Row {
-                    name: text,
-                    words: &SEARCH,
-                    files: &files,
-                    out: index.as_str(),
-                    err: "",
-                    status: 0,
-                },
-            )?;
-        }
+    for graph in GRAPHS {
+        compare_texts(&rt, graph)?;
+    }
+    Ok(())
+}
+
+/// Compares the run over each text with the plain computation.
+fn compare_texts<R: Abort + AllocGlobal>(rt: &R, graph: &str) -> Result<(), Fail> {
+    for text in TEXTS {
+        let index = plain_index(rt.alloc(), graph, text)?;
+        let got = searched(rt.alloc(), LETTERS, graph, text)?;
+        compare_given(rt, text, &got, (index.as_str(), "", 0));
     }
     Ok(())
 }
@@ -67,17 +59,29 @@ fn plain_index(alloc: Global, grf: &str, text: &str) -> Result<String, Fail> {
     let text = Text::read(alloc, String::from_str(alloc, text)?, &alphabet)?;
     let mut index = String::from_str(alloc, "#I\n")?;
     for first in 0..text.len() {
-        if text.kind(first) == Kind::Space {
-            continue;
-        }
-        for last in first..text.len() {
-            if any_takes(alloc, &alphabet, &text, words.as_slice(), first, last + 1)? {
-                let line = format!(in alloc; "{} {} {}\n", first, last, text.slice(first, last))?;
-                index.push_str(line.as_str())?;
-            }
+        if text.kind(first) != Kind::Space {
+            push_hits(alloc, &alphabet, &text, words.as_slice(), first, &mut index)?;
         }
     }
     Ok(index)
+}
+
+/// Adds the line of each hit from a token.
+fn push_hits(
+    alloc: Global,
+    alphabet: &Alphabet,
+    text: &Text,
+    words: &[Word<'_>],
+    first: usize,
+    index: &mut String,
+) -> Result<(), Fail> {
+    for last in first..text.len() {
+        if any_takes(alloc, alphabet, text, words, first, last + 1)? {
+            let line = format!(in alloc; "{} {} {}\n", first, last, text.slice(first, last))?;
+            index.push_str(line.as_str())?;
+        }
+    }
+    Ok(())
 }
 
 /// A list of literals, one for each box line with a literal on a run.
@@ -121,31 +125,37 @@ fn extend_run<'a>(
         if *target == 1 {
             words.push(Vec::from_slice(alloc, word)?)?;
         } else if let Some(next) = graph.boxes.as_slice().get(*target as usize) {
-            for line in next.lines.as_slice() {
-                let mut extended = Vec::from_slice(alloc, word)?;
-                for item in line.as_slice() {
-                    match item {
-                        Item::Literal(text) => extended.push(text.as_str())?,
-                        Item::Empty => (),
-                        // No graph of these rows has another item.
-                        Item::Quoted(_)
-                        | Item::Mask(_)
-                        | Item::Brace(_)
-                        | Item::Glue
-                        | Item::Call(_)
-                        | Item::Begin(_)
-                        | Item::End(_)
-                        | Item::Positive
-                        | Item::Negative
-                        | Item::ContextEnd
-                        | Item::Cut => (),
-                    }
-                }
-                longer.push((*target as usize, extended))?;
-            }
+            push_lines(alloc, next, *target as usize, word, longer)?;
         }
     }
     Ok(())
+}
+
+/// Adds a run's continuation by each line of a box.
+fn push_lines<'a>(
+    alloc: Global,
+    next: &'a GrfBox,
+    node: usize,
+    word: &[&'a str],
+    longer: &mut Vec<(usize, Word<'a>)>,
+) -> Result<(), AllocError> {
+    for line in next.lines.as_slice() {
+        let extended = extended(alloc, word, line.as_slice())?;
+        longer.push((node, extended))?;
+    }
+    Ok(())
+}
+
+/// A word, and the literals of a line behind it.
+fn extended<'a>(alloc: Global, word: &[&'a str], line: &'a [Item]) -> Result<Word<'a>, AllocError> {
+    let mut all = Vec::from_slice(alloc, word)?;
+    for item in line {
+        // No graph of these rows has an item that is neither a literal nor empty.
+        if let Item::Literal(text) = item {
+            all.push(text.as_str())?;
+        }
+    }
+    Ok(all)
 }
 
 /// Whether some word takes exactly the tokens from a position to another.

@@ -1,37 +1,63 @@
 //! Runs without a result: the status, and the one line that says why.
 
-use crate::tests::rows::{LETTERS, Row, SEARCH, check};
+use crate::tests::rows::{LETTERS, SEARCH, compare_given, file, files_of, given, usual_files};
+use std::alloc::Global;
 use std::process::Abort;
 use std::test::Fail;
+use ux_base::Mem;
 
 const CATS: &[u8] = b"The cat sat. The cats sat.";
 
 const GRAPH: &[u8] = b"#Unigraph\n#\n3\n\"<E>\" 0 0 1 2 \n\"\" 0 0 0 \n\"the cat\" 0 0 1 1 \n";
 
-/// A row of the search with the usual names that ends without a result.
-fn check_refusal<R: Abort + AllocGlobal>(
+/// A name, what stands in a file, and the line on `err`.
+type Refusal = (&'static str, &'static [u8], &'static str);
+
+/// What stands in the file of a usual name.
+fn usual(name: &str) -> &'static [u8] {
+    match name {
+        "a.txt" => LETTERS.as_bytes(),
+        "g.grf" => GRAPH,
+        _ => CATS,
+    }
+}
+
+/// Files of usual names.
+fn files_named(alloc: Global, names: &[&str]) -> Mem<Vec<(String, Vec<u8>)>> {
+    let mut all = Vec::new(alloc);
+    for name in names {
+        all.push(file(alloc, name, usual(name))?)?;
+    }
+    Ok(all)
+}
+
+/// The usual files, of which one has these bytes.
+fn files_with(alloc: Global, name: &str, bytes: &[u8]) -> Mem<Vec<(String, Vec<u8>)>> {
+    let letters = LETTERS.as_bytes();
+    match name {
+        "a.txt" => usual_files(alloc, bytes, GRAPH, CATS),
+        "g.grf" => usual_files(alloc, letters, bytes, CATS),
+        _ => usual_files(alloc, letters, GRAPH, bytes),
+    }
+}
+
+/// Each row's bytes stand in the file of this name.
+fn check_refusals<R: Abort + AllocGlobal>(
     rt: &R,
     name: &str,
-    files: &[(&str, &[u8])],
-    err: &str,
-    status: u8,
+    rows: &[Refusal],
 ) -> Result<(), Fail> {
-    check(
-        rt,
-        &Row {
-            name,
-            words: &SEARCH,
-            files,
-            out: "",
-            err,
-            status,
-        },
-    )
+    for row in rows {
+        let files = files_with(rt.alloc(), name, row.1)?;
+        let got = given(rt.alloc(), SEARCH, files)?;
+        compare_given(rt, row.0, &got, ("", row.2, 3));
+    }
+    Ok(())
 }
 
 #[test]
 fn answers_usage(rt: HostRuntime) -> Result<(), Fail> {
-    let cases: [(&str, &[&str]); 10] = [
+    const ROWS: &[(&str, &[&str])] = &[
         ("no word", &[]),
         ("a graph alone", &["locate", "g.grf"]),
         ("another command", &["find", "g.grf", "t.txt", "a.txt"]),
@@ -49,38 +75,34 @@ fn answers_usage(rt: HostRuntime) -> Result<(), Fail> {
             &["locate", "g.fst2", "t.txt", "a.txt"],
         ),
     ];
-    let files = [
-        ("a.txt", LETTERS.as_bytes()),
-        ("g.grf", GRAPH),
-        ("t.txt", CATS),
-    ];
-    for (name, words) in cases {
-        let row = Row {
-            name,
-            words,
-            files: &files,
-            out: "",
-            err: "usage: unitex COMMAND ARGUMENTS\n",
-            status: 1,
-        };
-        check(&rt, &row)?;
+    let alloc = rt.alloc();
+    for row in ROWS {
+        let files = usual_files(alloc, LETTERS.as_bytes(), GRAPH, CATS)?;
+        let got = given(alloc, row.1, files)?;
+        let want = ("", "usage: unitex COMMAND ARGUMENTS\n", 1);
+        compare_given(&rt, row.0, &got, want);
     }
     Ok(())
 }
 
 #[test]
 fn names_the_first_absent_file(rt: HostRuntime) -> Result<(), Fail> {
-    let letters = LETTERS.as_bytes();
-    check_refusal(&rt, "no file", &[], "absent: a.txt\n", 2)?;
-    let no_graph = [("a.txt", letters), ("t.txt", CATS)];
-    check_refusal(&rt, "no graph", &no_graph, "absent: g.grf\n", 2)?;
-    let no_text = [("a.txt", letters), ("g.grf", GRAPH)];
-    check_refusal(&rt, "no text", &no_text, "absent: t.txt\n", 2)
+    const ROWS: &[(&str, &[&str], &str)] = &[
+        ("no file", &[], "absent: a.txt\n"),
+        ("no graph", &["a.txt", "t.txt"], "absent: g.grf\n"),
+        ("no text", &["a.txt", "g.grf"], "absent: t.txt\n"),
+    ];
+    for row in ROWS {
+        let files = files_named(rt.alloc(), row.1)?;
+        let got = given(rt.alloc(), SEARCH, files)?;
+        compare_given(&rt, row.0, &got, ("", row.2, 2));
+    }
+    Ok(())
 }
 
 #[test]
 fn refuses_alphabets(rt: HostRuntime) -> Result<(), Fail> {
-    let cases: [(&str, &[u8], &str); 4] = [
+    const ROWS: &[Refusal] = &[
         (
             "three characters",
             b"Aa\nBb\nabc\nDd",
@@ -98,16 +120,12 @@ fn refuses_alphabets(rt: HostRuntime) -> Result<(), Fail> {
             "refused: a.txt: NotYet\n",
         ),
     ];
-    for (name, alphabet, err) in cases {
-        let files = [("a.txt", alphabet), ("g.grf", GRAPH), ("t.txt", CATS)];
-        check_refusal(&rt, name, &files, err, 3)?;
-    }
-    Ok(())
+    check_refusals(&rt, "a.txt", ROWS)
 }
 
 #[test]
 fn refuses_graphs(rt: HostRuntime) -> Result<(), Fail> {
-    let cases: [(&str, &[u8], &str); 8] = [
+    const ROWS: &[Refusal] = &[
         ("no header", b"#Graph\n#\n2\n", "refused: g.grf: NoHeader\n"),
         (
             "no end of the header",
@@ -141,51 +159,41 @@ fn refuses_graphs(rt: HostRuntime) -> Result<(), Fail> {
             "refused: g.grf: NotYet\n",
         ),
     ];
-    for (name, graph, err) in cases {
-        let files = [
-            ("a.txt", LETTERS.as_bytes()),
-            ("g.grf", graph),
-            ("t.txt", CATS),
-        ];
-        check_refusal(&rt, name, &files, err, 3)?;
-    }
-    Ok(())
+    check_refusals(&rt, "g.grf", ROWS)
 }
 
 #[test]
 fn refuses_texts(rt: HostRuntime) -> Result<(), Fail> {
-    let cases: [(&str, &[u8]); 3] = [
-        ("a brace", b"a{S}b"),
-        ("no text", b"The c\xe9"),
-        ("a byte order mark", b"\xef\xbb\xbfThe cat"),
+    const ROWS: &[Refusal] = &[
+        ("a brace", b"a{S}b", "refused: t.txt: NotYet\n"),
+        ("no text", b"The c\xe9", "refused: t.txt: NotYet\n"),
+        (
+            "a byte order mark",
+            b"\xef\xbb\xbfThe cat",
+            "refused: t.txt: NotYet\n",
+        ),
     ];
-    for (name, text) in cases {
-        let files = [
-            ("a.txt", LETTERS.as_bytes()),
-            ("g.grf", GRAPH),
-            ("t.txt", text),
-        ];
-        check_refusal(&rt, name, &files, "refused: t.txt: NotYet\n", 3)?;
-    }
-    Ok(())
+    check_refusals(&rt, "t.txt", ROWS)
 }
 
 #[test]
 fn names_the_first_refused_file(rt: HostRuntime) -> Result<(), Fail> {
-    let files: [(&str, &[u8]); 2] = [("a.txt", b"abc"), ("t.txt", b"{")];
-    check_refusal(
-        &rt,
-        "alphabet before graph",
-        &files,
-        "refused: a.txt: BadLine line=1\n",
-        3,
-    )?;
-    let files: [(&str, &[u8]); 3] = [("a.txt", b"Aa"), ("g.grf", b""), ("t.txt", b"{")];
-    check_refusal(
-        &rt,
-        "graph before text",
-        &files,
-        "refused: g.grf: NoHeader\n",
-        3,
-    )
+    const ROWS: &[(&str, &[(&str, &[u8])], &str)] = &[
+        (
+            "alphabet before graph",
+            &[("a.txt", b"abc"), ("t.txt", b"{")],
+            "refused: a.txt: BadLine line=1\n",
+        ),
+        (
+            "graph before text",
+            &[("a.txt", b"Aa"), ("g.grf", b""), ("t.txt", b"{")],
+            "refused: g.grf: NoHeader\n",
+        ),
+    ];
+    for row in ROWS {
+        let files = files_of(rt.alloc(), row.1)?;
+        let got = given(rt.alloc(), SEARCH, files)?;
+        compare_given(&rt, row.0, &got, ("", row.2, 3));
+    }
+    Ok(())
 }

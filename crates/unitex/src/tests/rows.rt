@@ -1,46 +1,68 @@
-//! What a row of the top call is, and how it is run.
+//! How the rows of the top call are run and compared.
 
 use crate::run;
-use std::alloc::{AllocError, Global};
+use std::alloc::Global;
 use std::process::Abort;
-use std::test::Fail;
-use ux_base::{MemFolder, MemSink};
+use ux_base::{Folder, Mem, MemFolder, MemSink};
 
 /// The letters `Aa` to `Zz`.
 pub const LETTERS: &str =
     "Aa\nBb\nCc\nDd\nEe\nFf\nGg\nHh\nIi\nJj\nKk\nLl\nMm\nNn\nOo\nPp\nQq\nRr\nSs\nTt\nUu\nVv\nWw\nXx\nYy\nZz\n";
 
 /// The words of a search with the usual names.
-pub const SEARCH: [&str; 4] = ["locate", "g.grf", "t.txt", "a.txt"];
+pub const SEARCH: &[&str] = &["locate", "g.grf", "t.txt", "a.txt"];
 
-/// Words and files, and what they give.
-#[derive(Clone, Copy)]
-pub struct Row<'a> {
-    pub name: &'a str,
-    pub words: &'a [&'a str],
-    pub files: &'a [(&'a str, &'a [u8])],
-    pub out: &'a str,
-    pub err: &'a str,
+/// What a run gives: the bytes of both sinks, and the status.
+#[derive(Debug, Drop)]
+pub struct Outcome {
+    pub out: MemSink,
+    pub err: MemSink,
     pub status: u8,
 }
 
-/// Runs a row, and compares all that it gives.
-pub fn check<R: Abort + AllocGlobal>(rt: &R, row: &Row<'_>) -> Result<(), Fail> {
-    let alloc = rt.alloc();
-    let mut folder = MemFolder::new(files_of(alloc, row.files)?, Vec::new(alloc));
-    let mut out = MemSink::new(alloc, 4096, Vec::new(alloc))?;
-    let mut err = MemSink::new(alloc, 4096, Vec::new(alloc))?;
-    let words = words_of(alloc, row.words)?;
-    let status = run(alloc, words.as_slice(), &mut folder, &mut out, &mut err);
-    let name = row.name;
-    assert_eq!(rt; out.bytes(), row.out.as_bytes(), "{name}");
-    assert_eq!(rt; err.bytes(), row.err.as_bytes(), "{name}");
-    assert_eq!(rt; status.number(), row.status, "{name}");
-    Ok(())
+/// Runs over a folder and these sinks.
+pub fn given_by<F: Folder>(
+    alloc: Global,
+    words: &[&str],
+    folder: &mut F,
+    sinks: (MemSink, MemSink),
+) -> Mem<Outcome> {
+    let words = words_of(alloc, words)?;
+    let (mut out, mut err) = sinks;
+    let status = run(alloc, words.as_slice(), folder, &mut out, &mut err).number();
+    Ok(Outcome { out, err, status })
+}
+
+/// Runs over these files.
+pub fn given(alloc: Global, words: &[&str], files: Vec<(String, Vec<u8>)>) -> Mem<Outcome> {
+    let mut folder = MemFolder::new(files, Vec::new(alloc));
+    let out = sink(alloc, 65_536)?;
+    given_by(alloc, words, &mut folder, (out, sink(alloc, 4096)?))
+}
+
+/// A sink that fails at no write for which it has room.
+pub fn sink(alloc: Global, capacity: usize) -> Mem<MemSink> {
+    MemSink::new(alloc, capacity, Vec::new(alloc))
+}
+
+/// Compares what was written to a sink.
+pub fn compare(rt: &impl Abort, name: &str, got: &MemSink, want: &str) {
+    assert_eq!(rt; got.bytes(), want.as_bytes(), "{name}");
+}
+
+pub fn compare_status(rt: &impl Abort, name: &str, got: u8, want: u8) {
+    assert_eq!(rt; got, want, "{name}");
+}
+
+/// Compares all that a run gave with the index, the line on `err` and the status.
+pub fn compare_given(rt: &impl Abort, name: &str, got: &Outcome, want: (&str, &str, u8)) {
+    compare(rt, name, &got.err, want.1);
+    compare(rt, name, &got.out, want.0);
+    compare_status(rt, name, got.status, want.2);
 }
 
 /// The words, owned.
-pub fn words_of(alloc: Global, words: &[&str]) -> Result<Vec<String>, AllocError> {
+pub fn words_of(alloc: Global, words: &[&str]) -> Mem<Vec<String>> {
     let mut all = Vec::new(alloc);
     for word in words {
         all.push(String::from_str(alloc, word)?)?;
@@ -48,17 +70,42 @@ pub fn words_of(alloc: Global, words: &[&str]) -> Result<Vec<String>, AllocError
     Ok(all)
 }
 
+/// A file, owned.
+pub fn file(alloc: Global, name: &str, bytes: &[u8]) -> Mem<(String, Vec<u8>)> {
+    let name = String::from_str(alloc, name)?;
+    Ok((name, Vec::from_slice(alloc, bytes)?))
+}
+
 /// The files, owned.
-pub fn files_of(
-    alloc: Global,
-    files: &[(&str, &[u8])],
-) -> Result<Vec<(String, Vec<u8>)>, AllocError> {
+pub fn files_of(alloc: Global, files: &[(&str, &[u8])]) -> Mem<Vec<(String, Vec<u8>)>> {
     let mut all = Vec::new(alloc);
-    for (name, bytes) in files {
-        all.push((
-            String::from_str(alloc, name)?,
-            Vec::from_slice(alloc, bytes)?,
-        ))?;
+    for row in files {
+        all.push(file(alloc, row.0, row.1)?)?;
     }
     Ok(all)
+}
+
+/// The files of a search with the usual names.
+pub fn usual_files(
+    alloc: Global,
+    alphabet: &[u8],
+    graph: &[u8],
+    text: &[u8],
+) -> Mem<Vec<(String, Vec<u8>)>> {
+    let mut all = Vec::new(alloc);
+    all.push(file(alloc, "a.txt", alphabet)?)?;
+    all.push(file(alloc, "g.grf", graph)?)?;
+    all.push(file(alloc, "t.txt", text)?)?;
+    Ok(all)
+}
+
+/// Searches with the usual names.
+pub fn searched(alloc: Global, alphabet: &str, graph: &str, text: &str) -> Mem<Outcome> {
+    let files = usual_files(
+        alloc,
+        alphabet.as_bytes(),
+        graph.as_bytes(),
+        text.as_bytes(),
+    )?;
+    given(alloc, SEARCH, files)
 }

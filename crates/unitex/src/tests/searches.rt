@@ -1,36 +1,25 @@
 //! Searches that end well: what stands in the index.
 
-use crate::tests::rows::{LETTERS, Row, SEARCH, check};
+use crate::tests::rows::{LETTERS, compare_given, searched};
+use std::alloc::{AllocError, Global};
 use std::process::Abort;
 use std::test::Fail;
 
-/// A text, the file of a graph, and the index.
-#[derive(Clone, Copy)]
-struct Search<'a> {
-    name: &'a str,
-    alphabet: &'a str,
-    text: &'a str,
-    graph: &'a str,
-    index: &'a str,
-}
+/// A name, an alphabet, a text, the file of a graph, and the index.
+type Search = (
+    &'static str,
+    &'static str,
+    &'static str,
+    &'static str,
+    &'static str,
+);
 
-fn check_search<R: Abort + AllocGlobal>(rt: &R, search: &Search<'_>) -> Result<(), Fail> {
-    let files = [
-        ("a.txt", search.alphabet.as_bytes()),
-        ("g.grf", search.graph.as_bytes()),
-        ("t.txt", search.text.as_bytes()),
-    ];
-    check(
-        rt,
-        &Row {
-            name: search.name,
-            words: &SEARCH,
-            files: &files,
-            out: search.index,
-            err: "",
-            status: 0,
-        },
-    )
+fn check_searches<R: Abort + AllocGlobal>(rt: &R, rows: &[Search]) -> Result<(), Fail> {
+    for row in rows {
+        let got = searched(rt.alloc(), row.1, row.3, row.2)?;
+        compare_given(rt, row.0, &got, (row.4, "", 0));
+    }
+    Ok(())
 }
 
 /// The text of most rows.
@@ -41,68 +30,59 @@ const THE: &str = "#Unigraph\n#\n3\n\"<E>\" 0 0 1 2 \n\"\" 0 0 0 \n\"the\" 0 0 1
 
 #[test]
 fn finds_each_place(rt: HostRuntime) -> Result<(), Fail> {
-    let searches = [
-        Search {
-            name: "an empty text",
-            alphabet: LETTERS,
-            text: "",
-            graph: THE,
-            index: "#I\n",
-        },
-        Search {
-            name: "a text of separators alone",
-            alphabet: LETTERS,
-            text: " \t\r\n ",
-            graph: THE,
-            index: "#I\n",
-        },
-        Search {
-            name: "two words of one box",
-            alphabet: LETTERS,
-            text: CATS,
-            graph: "#Unigraph\n#\n3\n\"<E>\" 0 0 1 2 \n\"\" 0 0 0 \n\"the cat\" 0 0 1 1 \n",
-            index: "#I\n0 2 The cat\n",
-        },
-        Search {
-            name: "two runs that find the same are one hit",
-            alphabet: LETTERS,
-            text: "the",
-            graph: "#Unigraph\n#\n4\n\"<E>\" 0 0 2 2 3 \n\"\" 0 0 0 \n\"the\" 0 0 1 1 \n\"the\" 0 0 1 1 \n",
-            index: "#I\n0 0 the\n",
-        },
-        Search {
-            name: "a shorter and a longer hit from one token",
-            alphabet: LETTERS,
-            text: "a b a",
-            graph: "#Unigraph\n#\n4\n\"<E>\" 0 0 2 2 3 \n\"\" 0 0 0 \n\"a\" 0 0 2 1 3 \n\"b\" 0 0 1 1 \n",
-            index: "#I\n0 0 a\n0 2 a b\n2 2 b\n4 4 a\n",
-        },
-        Search {
-            name: "a box that isn't reached may hold anything",
-            alphabet: LETTERS,
-            text: CATS,
-            graph: "#Unigraph\n#\n4\n\"<E>\" 0 0 1 2 \n\"\" 0 0 0 \n\"the cat\" 0 0 1 1 \n\"a remark <x\" 0 0 0 \n",
-            index: "#I\n0 2 The cat\n",
-        },
-        Search {
-            name: "a box without a word is passed",
-            alphabet: LETTERS,
-            text: CATS,
-            graph: "#Unigraph\n#\n5\n\"<E>\" 0 0 1 2 \n\"\" 0 0 0 \n\"\" 0 0 1 3 \n\"cats\" 0 0 1 4 \n\" \" 0 0 1 1 \n",
-            index: "#I\n9 9 cats\n",
-        },
-        Search {
-            name: "a graph with an empty word finds nothing by it",
-            alphabet: LETTERS,
-            text: CATS,
-            graph: "#Unigraph\n#\n2\n\"<E>\" 0 0 1 1 \n\"\" 0 0 0 \n",
-            index: "#I\n",
-        },
+    const ROWS: &[Search] = &[
+        ("an empty text", LETTERS, "", THE, "#I\n"),
+        (
+            "a text of separators alone",
+            LETTERS,
+            " \t\r\n ",
+            THE,
+            "#I\n",
+        ),
+        (
+            "two words of one box",
+            LETTERS,
+            CATS,
+            "#Unigraph\n#\n3\n\"<E>\" 0 0 1 2 \n\"\" 0 0 0 \n\"the cat\" 0 0 1 1 \n",
+            "#I\n0 2 The cat\n",
+        ),
+        (
+            "two runs that find the same are one hit",
+            LETTERS,
+            "the",
+            "#Unigraph\n#\n4\n\"<E>\" 0 0 2 2 3 \n\"\" 0 0 0 \n\"the\" 0 0 1 1 \n\"the\" 0 0 1 1 \n",
+            "#I\n0 0 the\n",
+        ),
+        (
+            "a shorter and a longer hit from one token",
+            LETTERS,
+            "a b a",
+            "#Unigraph\n#\n4\n\"<E>\" 0 0 2 2 3 \n\"\" 0 0 0 \n\"a\" 0 0 2 1 3 \n\"b\" 0 0 1 1 \n",
+            "#I\n0 0 a\n0 2 a b\n2 2 b\n4 4 a\n",
+        ),
+        (
+            "a box that isn't reached may hold anything",
+            LETTERS,
+            CATS,
+            "#Unigraph\n#\n4\n\"<E>\" 0 0 1 2 \n\"\" 0 0 0 \n\"the cat\" 0 0 1 1 \n\"a remark <x\" 0 0 0 \n",
+            "#I\n0 2 The cat\n",
+        ),
+        (
+            "a box without a word is passed",
+            LETTERS,
+            CATS,
+            "#Unigraph\n#\n5\n\"<E>\" 0 0 1 2 \n\"\" 0 0 0 \n\"\" 0 0 1 3 \n\"cats\" 0 0 1 4 \n\" \" 0 0 1 1 \n",
+            "#I\n9 9 cats\n",
+        ),
+        (
+            "a graph with an empty word finds nothing by it",
+            LETTERS,
+            CATS,
+            "#Unigraph\n#\n2\n\"<E>\" 0 0 1 1 \n\"\" 0 0 0 \n",
+            "#I\n",
+        ),
     ];
-    for search in &searches {
-        check_search(&rt, search)?;
-    }
-    Ok(())
+    check_searches(&rt, ROWS)
 }
 
 /// One box that holds two words around a comma.
@@ -110,54 +90,52 @@ const COMMA: &str = "#Unigraph\n#\n3\n\"<E>\" 0 0 1 2 \n\"\" 0 0 0 \n\"cat , the
 
 #[test]
 fn takes_spaces_as_they_come(rt: HostRuntime) -> Result<(), Fail> {
-    let cases = [
+    const ROWS: &[Search] = &[
         (
             "spaces as written",
+            LETTERS,
             "cat , the dog",
+            COMMA,
             "#I\n0 6 cat , the dog\n",
         ),
         (
             "no space before the comma",
+            LETTERS,
             "cat, the dog",
+            COMMA,
             "#I\n0 5 cat, the dog\n",
         ),
         (
             "no space around the comma",
+            LETTERS,
             "cat,the dog",
+            COMMA,
             "#I\n0 4 cat,the dog\n",
         ),
         (
             "doubled spaces",
+            LETTERS,
             "cat  ,  the \n dog",
+            COMMA,
             "#I\n0 6 cat , the dog\n",
         ),
         (
             "spaces at the ends",
+            LETTERS,
             "  cat, the dog  ",
+            COMMA,
             "#I\n1 6 cat, the dog\n",
         ),
-        ("no comma", "cat the dog", "#I\n"),
-        ("words run together", "cat, thedog", "#I\n"),
+        ("no comma", LETTERS, "cat the dog", COMMA, "#I\n"),
+        ("words run together", LETTERS, "cat, thedog", COMMA, "#I\n"),
     ];
-    for (name, text, index) in cases {
-        check_search(
-            &rt,
-            &Search {
-                name,
-                alphabet: LETTERS,
-                text,
-                graph: COMMA,
-                index,
-            },
-        )?;
-    }
-    Ok(())
+    check_searches(&rt, ROWS)
 }
 
 #[test]
 fn fits_letters_one_way(rt: HostRuntime) -> Result<(), Fail> {
-    let upper = "#Unigraph\n#\n3\n\"<E>\" 0 0 1 2 \n\"\" 0 0 0 \n\"The\" 0 0 1 1 \n";
-    let cases = [
+    const UPPER: &str = "#Unigraph\n#\n3\n\"<E>\" 0 0 1 2 \n\"\" 0 0 0 \n\"The\" 0 0 1 1 \n";
+    const ROWS: &[Search] = &[
         (
             "lower case fits both",
             LETTERS,
@@ -169,7 +147,7 @@ fn fits_letters_one_way(rt: HostRuntime) -> Result<(), Fail> {
             "upper case fits itself alone",
             LETTERS,
             "the The THE",
-            upper,
+            UPPER,
             "#I\n2 2 The\n4 4 THE\n",
         ),
         (
@@ -187,69 +165,53 @@ fn fits_letters_one_way(rt: HostRuntime) -> Result<(), Fail> {
             "#I\n0 0 É\n2 2 é\n",
         ),
     ];
-    for (name, alphabet, text, graph, index) in cases {
-        check_search(
-            &rt,
-            &Search {
-                name,
-                alphabet,
-                text,
-                graph,
-                index,
-            },
-        )?;
-    }
-    Ok(())
+    check_searches(&rt, ROWS)
 }
 
 #[test]
 fn requires_a_space_for_a_carriage_return(rt: HostRuntime) -> Result<(), Fail> {
-    let graph = "#Unigraph\n#\n3\n\"<E>\" 0 0 1 2 \n\"\" 0 0 0 \n\",\r.\" 0 0 1 1 \n";
-    let cases = [
-        ("a space stands there", ", .", "#I\n0 2 , .\n"),
-        ("no space stands there", ",.", "#I\n"),
+    const GRAPH: &str = "#Unigraph\n#\n3\n\"<E>\" 0 0 1 2 \n\"\" 0 0 0 \n\",\r.\" 0 0 1 1 \n";
+    const ROWS: &[Search] = &[
+        (
+            "a space stands there",
+            LETTERS,
+            ", .",
+            GRAPH,
+            "#I\n0 2 , .\n",
+        ),
+        ("no space stands there", LETTERS, ",.", GRAPH, "#I\n"),
     ];
-    for (name, text, index) in cases {
-        check_search(
-            &rt,
-            &Search {
-                name,
-                alphabet: LETTERS,
-                text,
-                graph,
-                index,
-            },
-        )?;
+    check_searches(&rt, ROWS)
+}
+
+/// A stage's two boxes.
+fn push_stage(alloc: Global, graph: &mut String, stage: u32) -> Result<(), AllocError> {
+    if stage == 39 {
+        return graph.push_str("\"a\" 0 0 1 1 \n\"a\" 0 0 1 1 \n");
     }
-    Ok(())
+    let next = stage.saturating_mul(2).saturating_add(4);
+    let line = format!(in alloc; "\"a\" 0 0 2 {} {} \n", next, next.saturating_add(1))?;
+    graph.push_str(line.as_str())?;
+    graph.push_str(line.as_str())
 }
 
 /// Forty stages of two boxes `a`, each leading to both boxes of the next stage: 2^40 runs.
-#[test]
-fn looks_at_no_run_twice(rt: HostRuntime) -> Result<(), Fail> {
-    let alloc = rt.alloc();
+fn stages(alloc: Global) -> Result<String, AllocError> {
     let mut graph = String::from_str(alloc, "#Unigraph\n#\n82\n\"<E>\" 0 0 2 2 3 \n\"\" 0 0 0 \n")?;
     for stage in 0..40u32 {
-        let next = 2 * stage + 4;
-        for _ in 0..2u32 {
-            if stage == 39 {
-                graph.push_str("\"a\" 0 0 1 1 \n")?;
-            } else {
-                let line = format!(in alloc; "\"a\" 0 0 2 {} {} \n", next, next + 1)?;
-                graph.push_str(line.as_str())?;
-            }
-        }
+        push_stage(alloc, &mut graph, stage)?;
     }
-    let text = "a a a a a a a a a a a a a a a a a a a a a a a a a a a a a a a a a a a a a a a a";
-    let index = format!(in alloc; "#I\n0 78 {text}\n")?;
-    check_search(
-        &rt,
-        &Search {
-            name: "forty stages",
-            alphabet: LETTERS,
-            text,
-            graph: graph.as_str(),
-            index: index.as_str(),
-        },
-    )
+    Ok(graph)
+}
+
+#[test]
+fn looks_at_no_run_twice(rt: HostRuntime) -> Result<(), Fail> {
+    const TEXT: &str =
+        "a a a a a a a a a a a a a a a a a a a a a a a a a a a a a a a a a a a a a a a a";
+    let alloc = rt.alloc();
+    let graph = stages(alloc)?;
+    let index = format!(in alloc; "#I\n0 78 {TEXT}\n")?;
+    let got = searched(alloc, LETTERS, graph.as_str(), TEXT)?;
+    compare_given(&rt, "forty stages", &got, (index.as_str(), "", 0));
+    Ok(())
 }

@@ -1,4 +1,4 @@
-use Rattle.std.proofs.Common.{◌≡◌, ◌∙◌, List, Bool, length, subst}
+use Rattle.std.proofs.Common.{◌∙◌, List, Bool, length, subst}
 use Rattle.ux_net.specs.Fitness.{AreMarked}
 use Rattle.ux_net.proofs.FitnessLemmas.{reached_right}
 use Rattle.ux_net.proofs.admissible_tests.are_reached_right.Goals as goal

@@ -1,4 +1,4 @@
-use Rattle.std.proofs.Common.{arith, ◌≡◌, ◌≤◌, ◌∙◌, length, sym}
+use Rattle.std.proofs.Common.{arith, ◌∙◌, sym}
 use Rattle.ux_net.proofs.FitnessLemmas.{fit_is}
 use Rattle.ux_net.proofs.admissible_tests.is_fit_graph.Goals as goal
 
