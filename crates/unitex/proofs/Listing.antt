@@ -74,6 +74,9 @@ module _ (Is : Span → Type 0) where
     ordered = λ k a b first second. absurd (none-some a first);
   }
 
+  pub listed_start : (spans : List Span) → spans ≡ [] → ListsUpTo Is 0 spans
+  listed_start spans none = subst (λ (l : List Span). ListsUpTo Is 0 l) (sym none) listed_none
+
   -- no span begins at this start
   pub listed_skip : (start : ℕ) (spans : List Span) → ListsUpTo Is start spans →
       ((span : Span) → span.first ≡ start → Is span → ⊥) →

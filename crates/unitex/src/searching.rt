@@ -17,7 +17,7 @@ use ux_base::{Lst, Mem};
 use ux_net::Net;
 use ux_outputs::Event;
 use ux_tokens::{Kind, Text};
-use ux_walk::{LookUps, walk_with};
+use ux_walk::{Fronts, LookUps, walk_with};
 
 /// A hit by its first and last token.
 #[derive(Clone, Copy, Debug, PartialEq, Eq)]
@@ -34,13 +34,22 @@ pub fn hits(alloc: Global, net: &Net, alphabet: &Alphabet, text: &Text) -> Mem<V
         ListsSpans (IsSpan alphabet.now text.now (net_grammar net.now)) hits.items) }
 {
     net.is_measured();
+    let mut fronts = Fronts::of(alloc, text, alphabet)?;
     let mut look_ups = LookUps::new(alloc);
     let mut hits = Vec::new(alloc);
     for start in 0..text.len() {
         if !is_start(text, start) {
             continue;
         }
-        let found = walk_with(alloc, net, text, alphabet, &mut look_ups, start)?;
+        let found = walk_with(
+            alloc,
+            net,
+            text,
+            alphabet,
+            &mut fronts,
+            &mut look_ups,
+            start,
+        )?;
         push_hits(alloc, start, found.as_slice(), &mut hits)?;
     }
     Ok(hits)

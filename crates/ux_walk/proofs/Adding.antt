@@ -15,7 +15,7 @@ use Rattle.ux_walk.proofs.LinksLemmas.{names_kept, one_list, consed_extends, con
 pub extends_same : {A : Type 0} (links : List (Link A)) → Extends links links
 extends_same links = ([], sym (append-nil links))
 
-extends_more : {A : Type 0} (old mid new : List (Link A)) → Extends old mid → Extends mid new →
+pub extends_more : {A : Type 0} (old mid new : List (Link A)) → Extends old mid → Extends mid new →
     Extends old new
 extends_more {A} old mid new first second = (
   first.0 ++ second.0,

@@ -12,3 +12,15 @@ pub mod Derived
 pub mod FollowingLemmas
 pub mod SameDerivations
 pub mod LookUpsLemmas
+pub mod FrontsLemmas
+pub mod StraightLemmas
+pub mod BehindLemmas
+pub mod StraightExact
+pub mod KeptLemmas
+pub mod EachLemmas
+pub mod GainsLemmas
+pub mod TablesLemmas
+pub mod WordsLemmas
+pub mod FittedLemmas
+pub mod RaisedLemmas
+pub mod CountsLemmas

@@ -42,7 +42,7 @@ one_less : (a c : ℕ) → a < c → 3 ^ a < 3 ^ c
 one_less a c h = let t = two_powers a a c h h in let o = one_power a in omega arith
 
 -- positions move on within the text
-skip_forward : (tokens : List Token) (p : ℕ) → p ≤ skip tokens p
+pub skip_forward : (tokens : List Token) (p : ℕ) → p ≤ skip tokens p
 skip_forward tokens p = go (kind_of (slice_get tokens p))
   where
     go : (o : Option Kind) → p ≤ skip_past o p

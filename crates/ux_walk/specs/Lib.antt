@@ -3,3 +3,4 @@ pub mod Following
 pub mod Links
 pub mod Configurations
 pub mod LookUps
+pub mod Fronts

@@ -8,19 +8,28 @@
 //! along each edge that may take nothing, so the rounds come to an end.
 //!
 //! Begin with `walking`; `reached` goes one step on, and `matching` alone looks at a label. Masks,
-//! outputs and contexts are further cases of its `Passage`. Where a state has many edges, `look_ups`
-//! lists those that may apply at a token, once, and no others are tried there.
+//! outputs and contexts are further cases of its `Passage`. Where a state has many edges,
+//! `look_ups` lists those that may apply at a token, once, and no others are tried there.
+//!
+//! Nearly every walk over a text is of literals alone, and comes to its end after a token or two.
+//! Such a walk needs no rounds: `straight` takes it through `fronts`, one look-up a token.
 #![tactic(auto)]
 
 mod config;
+mod fronts;
 mod lists;
+mod literals;
 mod look_ups;
 mod matching;
 mod reached;
 mod sets;
+mod straight;
+mod tables;
 #[cfg(test)]
 mod tests;
 mod walking;
+mod words;
 
+pub use fronts::Fronts;
 pub use look_ups::LookUps;
 pub use walking::{walk, walk_with};

@@ -130,7 +130,7 @@ fn is_space(text: &Text, position: usize) -> bool
 }
 
 /// Whether a word or another character stands at the position.
-fn may_stand_for(text: &Text, position: usize) -> bool
+pub fn may_stand_for(text: &Text, position: usize) -> bool
     ensures within { IsTrue result → position < length text.now }
     ensures room { IsTrue result → position + 1 < 2 ^ 64 }
     ensures kind { IsTrue result
@@ -156,7 +156,7 @@ fn kind_at(text: &Text, position: usize) -> Option<Kind>
 }
 
 /// Whether a text has as many characters as the entry, and each of the entry's fits.
-fn fits_text(alphabet: &Alphabet, entry: &str, text: &str) -> bool
+pub fn fits_text(alphabet: &Alphabet, entry: &str, text: &str) -> bool
     ensures { IsTrue result ↔ AllZip (Fits alphabet.now) (chars entry.now) (chars text.now) }
 {
     let mut rest = entry.chars();

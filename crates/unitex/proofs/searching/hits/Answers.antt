@@ -1,7 +1,8 @@
 use Rattle.std.proofs.Common.{◌+◌, sym, subst, arith}
+use Rattle.ux_tokens.specs.Numbers.{different_texts}
 use Rattle.ux_net.specs.Nets.{net_grammar}
 use Rattle.unitex.specs.Spans.{IsSpan}
-use Rattle.unitex.proofs.Listing.{AreDerived, listed_skip, listed_more, listed_all, none_begins, span_of_end, end_of_span, span_within}
+use Rattle.unitex.proofs.Listing.{AreDerived, listed_start, listed_skip, listed_more, listed_all, none_begins, span_of_end, end_of_span, span_within}
 use Rattle.unitex.proofs.searching.hits.Goals as goal
 
 pub loop-start-preserved-then-not-is_start : goal.loop-start-preserved-then-not-is_start
@@ -10,6 +11,7 @@ loop-start-preserved-then-not-is_start c =
     let tokens = c.args.text.now in
     let grammar = net_grammar c.args.net.now in
     record {
+      kept = c.loop-start.invariant.kept;
       sound = c.loop-start.invariant.sound;
       listed = listed_skip (IsSpan alphabet tokens grammar) c.loop-start.start
           c.loop-start.hits.items c.loop-start.invariant.listed
@@ -33,6 +35,7 @@ loop-start-preserved c =
     c.in_ok-found.ensures.exactly in
     let pushed = c.in_ok-push_hits.ensures in
     record {
+      kept = c.in_ok-found.ensures.kept;
       sound = c.walk_with.ensures.sound;
       listed = listed_more (IsSpan alphabet tokens grammar) start c.loop-start.hits.items
           c.push_hits.new.hits.items pushed.0 c.loop-start.invariant.listed pushed.1 pushed.2
@@ -52,3 +55,12 @@ returns c =
     (λ span is.
     let lt = span_within alphabet tokens grammar span is in
     omega (arith, lt, c.loop-start-test.false, c.len-start-end.ensures))
+
+pub loop-start-init : goal.loop-start-init
+loop-start-init c = record {
+  kept = c.in_ok-fronts.ensures c.args.net.now;
+  sound = c.new-look_ups.ensures c.args.alphabet.now c.args.net.now
+      (different_texts c.args.text.now);
+  listed = listed_start (IsSpan c.args.alphabet.now c.args.text.now (net_grammar c.args.net.now))
+      c.new-hits.result.items c.new-hits.ensures.items;
+}

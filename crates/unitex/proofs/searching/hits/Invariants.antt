@@ -1,5 +1,6 @@
 use Rattle.ux_net.specs.Nets.{net_grammar}
 use Rattle.ux_tokens.specs.Numbers.{different_texts}
+use Rattle.ux_walk.specs.Fronts.{AreKept}
 use Rattle.ux_walk.specs.LookUps.{AreSound}
 use Rattle.unitex.specs.Searching.{ListsUpTo}
 use Rattle.unitex.specs.Spans.{IsSpan}
@@ -8,6 +9,7 @@ use Rattle.unitex.proofs.searching.hits.Given as goal
 -- the spans that begin before the token are listed, and what was looked up is right
 abbrev pub invariant-loop-start : goal.invariant-loop-start
 invariant-loop-start l = record {
+  kept : AreKept l.alphabet (different_texts l.text) l.net l.fronts;
   sound : AreSound l.alphabet l.net (different_texts l.text) l.look_ups;
   listed : ListsUpTo (IsSpan l.alphabet l.text (net_grammar l.net)) l.start l.hits.items;
 }

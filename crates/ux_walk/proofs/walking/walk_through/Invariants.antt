@@ -4,7 +4,7 @@ use Rattle.ux_walk.specs.Configurations.{frames_of}
 use Rattle.ux_walk.specs.LookUps.{AreSound}
 use Rattle.ux_walk.proofs.Rounds.{Walking}
 use Rattle.ux_walk.proofs.Weights.{greatest}
-use Rattle.ux_walk.proofs.walking.walk_with.Given as goal
+use Rattle.ux_walk.proofs.walking.walk_through.Given as goal
 
 -- what was found, and what the pending configurations give, is all that is derived
 abbrev pub invariant-loop-reached : goal.invariant-loop-reached

@@ -1,0 +1,52 @@
+use Rattle.std.proofs.Common.{refl}
+use Rattle.std.proofs.lemmas.Option.{none-some}
+use Rattle.ux_walk.specs.Fronts.{AreNamed}
+use Rattle.ux_walk.proofs.KeptLemmas.{kept_more, later_reading}
+use Rattle.ux_walk.proofs.fronts.Fronts.read.Goals as goal
+
+pub returns-in-Some-clause-read : goal.returns-in-Some-clause-read
+returns-in-Some-clause-read c = λ texts kept.
+    kept.read c.args.front c.in-Some.reading.now ((c.in-Some.ensures c.in-Some.reading.now).0 refl)
+
+pub returns-clause-kept : goal.returns-clause-kept
+returns-clause-kept c = λ texts kept.
+    let named : AreNamed c.args.self.now = record { below = kept.below; named = kept.named } in
+    kept_more c.args.alphabet.now texts c.args.net.now c.args.self.now c.read_anew.new.self
+    c.args.front (c.in_ok-reading.ensures.gains texts kept.words named) kept
+    c.in_ok-reading.reading (record {
+      words = c.read_anew.new.self.words;
+      lists = c.read_anew.new.self.lists;
+      first = c.read_anew.new.self.first;
+      turns = c.read_anew.new.self.turns;
+      readings = c.set_at.new.table;
+      left = c.read_anew.new.self.left;
+    }) c.in_ok-set_at.ensures c.requires.named
+    (c.in_ok-reading.ensures.read texts kept.words named
+    (λ number to. kept.unread c.args.front number to
+    (λ r inside. none-some r ((c.in_default.ensures r).1 inside))))
+
+pub returns-clause-read : goal.returns-clause-read
+returns-clause-read c = λ texts kept.
+    let named : AreNamed c.args.self.now = record { below = kept.below; named = kept.named } in
+    later_reading c.args.alphabet.now texts c.args.net.now c.args.self.now c.read_anew.new.self
+    c.args.front (c.in_ok-reading.ensures.gains texts kept.words named) kept
+    c.in_ok-reading.reading (record {
+      words = c.read_anew.new.self.words;
+      lists = c.read_anew.new.self.lists;
+      first = c.read_anew.new.self.first;
+      turns = c.read_anew.new.self.turns;
+      readings = c.set_at.new.table;
+      left = c.read_anew.new.self.left;
+    }) c.in_ok-set_at.ensures c.requires.named
+    (c.in_ok-reading.ensures.read texts kept.words named
+    (λ number to. kept.unread c.args.front number to
+    (λ r inside. none-some r ((c.in_default.ensures r).1 inside)))) c.args.front
+    c.in_ok-reading.reading
+    (c.in_ok-reading.ensures.read texts kept.words named
+    (λ number to. kept.unread c.args.front number to
+    (λ r inside. none-some r ((c.in_default.ensures r).1 inside))))
+
+pub returns-clause-links : goal.returns-clause-links
+returns-clause-links c = λ texts kept.
+    (c.in_ok-reading.ensures.gains texts kept.words
+    (record { below = kept.below; named = kept.named })).links

@@ -1,0 +1,69 @@
+use Rattle.std.proofs.Common.{◌-◌, ℕ}
+use Rattle.std.specs.Prelude.{Contains}
+use Rattle.ux_walk.specs.Fronts.{Leads, links_of}
+use Rattle.ux_walk.proofs.GainsLemmas.{gains_spent, named_spent}
+use Rattle.ux_walk.proofs.KeptLemmas.{spelled_once, front_read, front_end}
+use Rattle.ux_walk.proofs.fronts.Fronts.read_anew.Goals as goal
+
+pub returns-then-has_end-clause-read : goal.returns-then-has_end-clause-read
+returns-then-has_end-clause-read c = λ texts ready named unread.
+    let old = c.args.self.now in
+    let states = c.as_slice-states.result.now in
+    let there = c.requires.named in
+    let are = spelled_once (links_of old) c.args.front there.0 c.in_ok-listed.listed.items
+    c.as_slice.result.now c.in_ok-states.states.keys states there.1
+    (c.in_ok-listed.ensures there.0 there.1) c.as_slice.ensures.value c.in_ok-states.ensures
+    c.as_slice-states.ensures.keys in
+    let gains = gains_spent old (old.left - c.cost-cost.result) (λ number to.
+    (from : ℕ) × Contains states from
+    × Leads c.args.alphabet.now texts c.args.net.now from number to) c.args.front
+    c.add_states.new.self (c.in_ok-add_states.ensures texts ready
+    (named_spent old (old.left - c.cost-cost.result) named)) in (
+      front_read c.args.alphabet.now texts c.args.net.now old c.add_states.new.self c.args.front
+          states gains there are (c.have_literals.ensures c.if-not-have_literals.false) unread,
+      (front_end c.args.alphabet.now texts c.args.net.now old c.add_states.new.self c.args.front
+          states gains there are (c.have_literals.ensures c.if-not-have_literals.false) unread).0
+          (c.has_end.ensures.0 c.if-has_end.true),
+    )
+
+pub returns-clause-read : goal.returns-clause-read
+returns-clause-read c = λ texts ready named unread.
+    let old = c.args.self.now in
+    let states = c.as_slice-states.result.now in
+    let there = c.requires.named in
+    let are = spelled_once (links_of old) c.args.front there.0 c.in_ok-listed.listed.items
+    c.as_slice.result.now c.in_ok-states.states.keys states there.1
+    (c.in_ok-listed.ensures there.0 there.1) c.as_slice.ensures.value c.in_ok-states.ensures
+    c.as_slice-states.ensures.keys in
+    let gains = gains_spent old (old.left - c.cost-cost.result) (λ number to.
+    (from : ℕ) × Contains states from
+    × Leads c.args.alphabet.now texts c.args.net.now from number to) c.args.front
+    c.add_states.new.self (c.in_ok-add_states.ensures texts ready
+    (named_spent old (old.left - c.cost-cost.result) named)) in (
+      front_read c.args.alphabet.now texts c.args.net.now old c.add_states.new.self c.args.front
+          states gains there are (c.have_literals.ensures c.if-not-have_literals.false) unread,
+      λ end. let yes = c.has_end.ensures.1
+          ((front_end c.args.alphabet.now texts c.args.net.now old c.add_states.new.self c.args.front
+          states gains there are (c.have_literals.ensures c.if-not-have_literals.false) unread).1 end)
+          in let no = c.if-has_end.false in cc,
+    )
+
+pub returns-then-has_end-clause-gains : goal.returns-then-has_end-clause-gains
+returns-then-has_end-clause-gains c = λ texts ready named.
+    let old = c.args.self.now in
+    let states = c.as_slice-states.result.now in
+    (gains_spent old (old.left - c.cost-cost.result) (λ number to.
+    (from : ℕ) × Contains states from
+    × Leads c.args.alphabet.now texts c.args.net.now from number to) c.args.front
+    c.add_states.new.self (c.in_ok-add_states.ensures texts ready
+    (named_spent old (old.left - c.cost-cost.result) named))).grows
+
+pub returns-clause-gains : goal.returns-clause-gains
+returns-clause-gains c = λ texts ready named.
+    let old = c.args.self.now in
+    let states = c.as_slice-states.result.now in
+    (gains_spent old (old.left - c.cost-cost.result) (λ number to.
+    (from : ℕ) × Contains states from
+    × Leads c.args.alphabet.now texts c.args.net.now from number to) c.args.front
+    c.add_states.new.self (c.in_ok-add_states.ensures texts ready
+    (named_spent old (old.left - c.cost-cost.result) named))).grows
