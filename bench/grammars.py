@@ -92,6 +92,13 @@ def phrases(alphabet):
         seconds, memory = best(["grep", "-o", "-w", "-F", "-f", patterns, corpus], out, environment)
         print(f"  grep -o -w -F -f, {locale:8} {seconds:.3f} s  {lines(out)} lines, none overlapping,"
               f" within lines  {memory / 1e6:.1f} MB")
+    raised = [word.capitalize() if place % 7 == 0 else word for place, word in enumerate(text)]
+    corpus = write("raised.txt", "\n".join(
+        " ".join(raised[at:at + 12]) for at in range(0, len(raised), 12)) + "\n")
+    seconds, memory = best([PROGRAM, "locate", grammar, corpus, alphabet], out)
+    print(f"  unitex locate, every seventh word capitalised  {seconds:.3f} s  {lines(out) - 1} hits"
+          f"  {memory / 1e6:.1f} MB, {len(set(raised))} different words,"
+          f" {len({word for word in raised if word[0].isupper()})} capitalised")
 
 
 def depth(alphabet):
