@@ -2,6 +2,7 @@
 
 use crate::{Rule, are_edges_inside, are_rules_inside, closure, components, reached};
 use std::alloc::{AllocError, Global};
+use std::process::Abort;
 use std::test::Fail;
 use ux_base::{Lst, Mem};
 
@@ -71,99 +72,105 @@ fn marks_what_a_node_leads_to_and_numbers_its_cycle(rt: HostRuntime) -> Result<(
     Ok(())
 }
 
+/// Stops the test where a row, which is a name and what is wanted, isn't what was got.
+fn compare(rt: &impl Abort, row: (&str, &str), got: &str) {
+    assert_eq!(rt; got, row.1, "{}", row.0);
+}
+
+/// A name, the number of nodes, the edges, the start, and the nodes that it leads to.
+type Search = (
+    &'static str,
+    usize,
+    &'static [(usize, usize)],
+    usize,
+    &'static str,
+);
+
 #[test]
 fn marks_the_nodes_that_a_path_leads_to(rt: HostRuntime) -> Result<(), Fail> {
-    let cases = [
-        ("a node alone", 1, &[][..], 0, "0 "),
-        ("a loop", 2, &[(0, 0)][..], 0, "0 "),
+    const ROWS: &[Search] = &[
+        ("a node alone", 1, &[], 0, "0 "),
+        ("a loop", 2, &[(0, 0)], 0, "0 "),
         (
             "a cycle of three",
             3,
-            &[(0, 1), (1, 2), (2, 0)][..],
+            &[(0, 1), (1, 2), (2, 0)],
             1,
             "0 1 2 ",
         ),
         (
             "a chain from within",
             4,
-            &[(0, 1), (1, 2), (2, 3)][..],
+            &[(0, 1), (1, 2), (2, 3)],
             2,
             "2 3 ",
         ),
-        ("an edge twice", 2, &[(0, 1), (0, 1)][..], 0, "0 1 "),
+        ("an edge twice", 2, &[(0, 1), (0, 1)], 0, "0 1 "),
         (
             "a diamond",
             4,
-            &[(0, 1), (0, 2), (1, 3), (2, 3)][..],
+            &[(0, 1), (0, 2), (1, 3), (2, 3)],
             0,
             "0 1 2 3 ",
         ),
-        (
-            "edges that lead here alone",
-            3,
-            &[(1, 0), (2, 0)][..],
-            0,
-            "0 ",
-        ),
-        ("an edge that leads outside", 2, &[(0, 2)][..], 0, ""),
-        ("a start outside", 2, &[][..], 2, ""),
+        ("edges that lead here alone", 3, &[(1, 0), (2, 0)], 0, "0 "),
+        ("an edge that leads outside", 2, &[(0, 2)], 0, ""),
+        ("a start outside", 2, &[], 2, ""),
     ];
-    for (name, size, edges, start, want) in cases {
-        let edges = rows(rt.alloc(), size, edges)?;
-        let got = shown(rt.alloc(), &marks(rt.alloc(), &edges, start)?)?;
-        assert_eq!(rt; got.as_str(), want, "{name}");
+    for row in ROWS {
+        let edges = rows(rt.alloc(), row.1, row.2)?;
+        let got = shown(rt.alloc(), &marks(rt.alloc(), &edges, row.3)?)?;
+        compare(&rt, (row.0, row.4), got.as_str());
     }
     Ok(())
 }
 
+/// A name, the number of nodes, the edges, and the nodes' components.
+type Numbering = (
+    &'static str,
+    usize,
+    &'static [(usize, usize)],
+    &'static [usize],
+);
+
 #[test]
 fn numbers_the_components(rt: HostRuntime) -> Result<(), Fail> {
-    let cases = [
-        ("no node", 0, &[][..], &[][..]),
-        ("a loop", 1, &[(0, 0)][..], &[0][..]),
-        (
-            "a cycle of three",
-            3,
-            &[(0, 1), (1, 2), (2, 0)][..],
-            &[0, 0, 0][..],
-        ),
+    const ROWS: &[Numbering] = &[
+        ("no node", 0, &[], &[]),
+        ("a loop", 1, &[(0, 0)], &[0]),
+        ("a cycle of three", 3, &[(0, 1), (1, 2), (2, 0)], &[0, 0, 0]),
         (
             "two cycles joined by an edge",
             4,
-            &[(0, 1), (1, 0), (1, 2), (2, 3), (3, 2)][..],
-            &[1, 1, 0, 0][..],
+            &[(0, 1), (1, 0), (1, 2), (2, 3), (3, 2)],
+            &[1, 1, 0, 0],
         ),
         (
             "two cycles joined by two edges",
             4,
-            &[(0, 1), (1, 0), (1, 2), (2, 3), (3, 2), (3, 0)][..],
-            &[0, 0, 0, 0][..],
+            &[(0, 1), (1, 0), (1, 2), (2, 3), (3, 2), (3, 0)],
+            &[0, 0, 0, 0],
         ),
         // The edge to node 2 is followed first.
         (
             "a diamond",
             4,
-            &[(0, 1), (0, 2), (1, 3), (2, 3)][..],
-            &[3, 2, 1, 0][..],
+            &[(0, 1), (0, 2), (1, 3), (2, 3)],
+            &[3, 2, 1, 0],
         ),
         (
             "a cycle behind a diamond's end",
             5,
-            &[(0, 1), (0, 2), (1, 3), (2, 3), (3, 4), (4, 3)][..],
-            &[3, 2, 1, 0, 0][..],
+            &[(0, 1), (0, 2), (1, 3), (2, 3), (3, 4), (4, 3)],
+            &[3, 2, 1, 0, 0],
         ),
-        (
-            "an edge to a node with a number",
-            2,
-            &[(1, 0)][..],
-            &[0, 1][..],
-        ),
-        ("nodes alone", 3, &[][..], &[0, 1, 2][..]),
+        ("an edge to a node with a number", 2, &[(1, 0)], &[0, 1]),
+        ("nodes alone", 3, &[], &[0, 1, 2]),
     ];
-    for (name, size, edges, want) in cases {
-        let edges = rows(rt.alloc(), size, edges)?;
+    for row in ROWS {
+        let edges = rows(rt.alloc(), row.1, row.2)?;
         let got = numbers(rt.alloc(), &edges)?;
-        assert_eq!(rt; got.as_slice(), want, "{name}");
+        assert_eq!(rt; got.as_slice(), row.3, "{}", row.0);
     }
     Ok(())
 }
@@ -182,82 +189,96 @@ fn chain(alloc: Global, size: usize, back: Option<usize>) -> Result<Vec<Lst<usiz
     Ok(rows)
 }
 
+/// A name, the node that the last one leads to, and the components of the first node and the last.
+type Chain = (&'static str, Option<usize>, usize, usize);
+
+fn compare_ends(rt: &impl Abort, row: &Chain, found: &[usize]) {
+    assert_eq!(rt; found.get(0), Some(&row.2), "{}", row.0);
+    assert_eq!(rt; found.get(499), Some(&row.3), "{}", row.0);
+}
+
+/// From node 100 the last node is reached, and node 99 where the chain is one cycle.
+fn compare_marks(rt: &impl Abort, row: &Chain, marks: &[bool]) {
+    assert_eq!(rt; marks.get(499), Some(&true), "{}", row.0);
+    assert_eq!(rt; marks.get(99), Some(&(row.1 == Some(0))), "{}", row.0);
+}
+
 #[test]
 fn follows_a_long_chain(rt: HostRuntime) -> Result<(), Fail> {
-    let alloc = rt.alloc();
-    for (name, back, first, last) in [
+    const ROWS: &[Chain] = &[
         ("without an end's edge", None, 499, 0),
         ("into a cycle of half of it", Some(250), 250, 0),
         ("as one cycle", Some(0), 0, 0),
-    ] {
-        let edges = chain(alloc, 500, back)?;
-        let found = numbers(alloc, &edges)?;
-        assert_eq!(rt; found.get(0), Some(&first), "{name}");
-        assert_eq!(rt; found.get(499), Some(&last), "{name}");
-        let marks = marks(alloc, &edges, 100)?;
-        assert_eq!(rt; marks.get(499), Some(&true), "{name}");
-        assert_eq!(rt; marks.get(99), Some(&(back == Some(0))), "{name}");
+    ];
+    let alloc = rt.alloc();
+    for row in ROWS {
+        let edges = chain(alloc, 500, row.1)?;
+        compare_ends(&rt, row, &numbers(alloc, &edges)?);
+        compare_marks(&rt, row, &marks(alloc, &edges, 100)?);
     }
     Ok(())
 }
 
+/// A name, the rules, the facts, and the places that follow.
+type Deduction = (
+    &'static str,
+    &'static [Rule],
+    &'static [usize],
+    &'static str,
+);
+
 #[test]
 fn marks_the_places_that_follow(rt: HostRuntime) -> Result<(), Fail> {
-    let both = Rule {
+    const BOTH: Rule = Rule {
         place: 2,
         first: 0,
         second: 1,
     };
-    let next = Rule {
+    const NEXT: Rule = Rule {
         place: 3,
         first: 2,
         second: 2,
     };
-    let itself = Rule {
+    const ITSELF: Rule = Rule {
         place: 4,
         first: 4,
         second: 4,
     };
-    let back = Rule {
+    const BACK: Rule = Rule {
         place: 0,
         first: 3,
         second: 3,
     };
-    let cases = [
-        ("no rule", &[][..], &[1, 3][..], "1 3 "),
-        ("no fact", &[both, next][..], &[][..], ""),
-        ("both premises", &[both][..], &[0, 1][..], "0 1 2 "),
-        ("the first premise alone", &[both][..], &[0][..], "0 "),
-        ("the second premise alone", &[both][..], &[1][..], "1 "),
-        (
-            "one rule after another",
-            &[next, both][..],
-            &[1, 0][..],
-            "0 1 2 3 ",
-        ),
-        ("a place that needs itself", &[itself][..], &[0][..], "0 "),
+    const ROWS: &[Deduction] = &[
+        ("no rule", &[], &[1, 3], "1 3 "),
+        ("no fact", &[BOTH, NEXT], &[], ""),
+        ("both premises", &[BOTH], &[0, 1], "0 1 2 "),
+        ("the first premise alone", &[BOTH], &[0], "0 "),
+        ("the second premise alone", &[BOTH], &[1], "1 "),
+        ("one rule after another", &[NEXT, BOTH], &[1, 0], "0 1 2 3 "),
+        ("a place that needs itself", &[ITSELF], &[0], "0 "),
         (
             "a premise that comes last",
-            &[back, both, next][..],
-            &[3, 1][..],
+            &[BACK, BOTH, NEXT],
+            &[3, 1],
             "0 1 2 3 ",
         ),
-        ("a fact twice", &[next][..], &[2, 2][..], "2 3 "),
+        ("a fact twice", &[NEXT], &[2, 2], "2 3 "),
         (
             "a rule outside",
             &[Rule {
                 place: 5,
                 first: 0,
                 second: 0,
-            }][..],
-            &[0][..],
+            }],
+            &[0],
             "",
         ),
-        ("a fact outside", &[][..], &[5][..], ""),
+        ("a fact outside", &[], &[5], ""),
     ];
-    for (name, rules, facts, want) in cases {
-        let got = shown(rt.alloc(), &places(rt.alloc(), 5, rules, facts)?)?;
-        assert_eq!(rt; got.as_str(), want, "{name}");
+    for row in ROWS {
+        let got = shown(rt.alloc(), &places(rt.alloc(), 5, row.1, row.2)?)?;
+        compare(&rt, (row.0, row.3), got.as_str());
     }
     Ok(())
 }
