@@ -2,7 +2,42 @@
 
 use crate::alphabet::Alphabet;
 use crate::error::AlphabetError;
+use std::alloc::Global;
+use std::process::Abort;
 use std::test::Fail;
+
+/// A file, a character, and what it is: an upper-case letter, a lower-case letter.
+type Letter = (&'static str, char, bool, bool);
+
+/// A file, a character of an entry and one of the text, and whether the first fits the second.
+type Fit = (&'static str, char, char, bool);
+
+/// A name, a file, and its refusal.
+type Refusal = (&'static str, &'static str, Option<AlphabetError>);
+
+/// An answer for a file's characters.
+fn compare(rt: &impl Abort, got: bool, want: bool, about: (&str, char)) {
+    assert_eq!(rt; got, want, "{:?} in {:?}", about.1, about.0);
+}
+
+fn compare_refusal(rt: &impl Abort, got: Option<AlphabetError>, row: &Refusal) {
+    assert_eq!(rt; got, row.2, "{}", row.0);
+}
+
+fn check_letter(rt: &impl Abort, alloc: Global, row: &Letter) -> Result<(), AlphabetError> {
+    let alphabet = Alphabet::read(alloc, row.0)?;
+    let about = (row.0, row.1);
+    compare(rt, alphabet.is_upper(row.1), row.2, about);
+    compare(rt, alphabet.is_lower(row.1), row.3, about);
+    compare(rt, alphabet.is_letter(row.1), row.2 || row.3, about);
+    Ok(())
+}
+
+fn check_fit(rt: &impl Abort, alloc: Global, row: &Fit) -> Result<(), AlphabetError> {
+    let alphabet = Alphabet::read(alloc, row.0)?;
+    compare(rt, alphabet.fits(row.1, row.2), row.3, (row.0, row.2));
+    Ok(())
+}
 
 #[test]
 fn reads_an_alphabet_and_answers(rt: HostRuntime) -> Result<(), Fail> {
@@ -19,7 +54,7 @@ fn reads_an_alphabet_and_answers(rt: HostRuntime) -> Result<(), Fail> {
 
 #[test]
 fn the_first_refused_line_is_named(rt: HostRuntime) {
-    let cases = [
+    const ROWS: &[Refusal] = &[
         ("no line", "", None),
         ("pairs", "Aa\nBb\nZz\n", None),
         ("carriage returns", "Aa\r\nx\r\n", None),
@@ -56,14 +91,14 @@ fn the_first_refused_line_is_named(rt: HostRuntime) {
             Some(AlphabetError::EmptyRange { line: 1 }),
         ),
     ];
-    for (name, text, want) in cases {
-        assert_eq!(rt; Alphabet::read(rt.alloc(), text).err(), want, "{name}");
+    for row in ROWS {
+        compare_refusal(&rt, Alphabet::read(rt.alloc(), row.1).err(), row);
     }
 }
 
 #[test]
 fn lines_make_upper_and_lower_case_letters(rt: HostRuntime) -> Result<(), Fail> {
-    let cases = [
+    const ROWS: &[Letter] = &[
         ("", 'a', false, false),
         ("x", 'x', true, true),
         ("Aa\r\n", 'A', true, false),
@@ -83,23 +118,8 @@ fn lines_make_upper_and_lower_case_letters(rt: HostRuntime) -> Result<(), Fail> 
         ("{x", '{', false, false),
         ("{x", 'x', false, true),
     ];
-    for (text, c, upper, lower) in cases {
-        let alphabet = Alphabet::read(rt.alloc(), text)?;
-        assert_eq!(rt;
-            alphabet.is_upper(c),
-            upper,
-            "{c:?} as upper case in {text:?}"
-        );
-        assert_eq!(rt;
-            alphabet.is_lower(c),
-            lower,
-            "{c:?} as lower case in {text:?}"
-        );
-        assert_eq!(rt;
-            alphabet.is_letter(c),
-            upper || lower,
-            "{c:?} as a letter in {text:?}"
-        );
+    for row in ROWS {
+        check_letter(&rt, rt.alloc(), row)?;
     }
     Ok(())
 }
@@ -107,22 +127,22 @@ fn lines_make_upper_and_lower_case_letters(rt: HostRuntime) -> Result<(), Fail> 
 #[test]
 fn a_range_may_span_all_characters(rt: HostRuntime) -> Result<(), Fail> {
     let alphabet = Alphabet::read(rt.alloc(), "#\u{0}\u{10ffff}")?;
-    let cases = [
+    const ROWS: &[(char, bool)] = &[
         ('\u{0}', true),
         ('\t', false),
         ('\r', false),
         ('é', true),
         ('\u{10ffff}', true),
     ];
-    for (c, want) in cases {
-        assert_eq!(rt; alphabet.is_letter(c), want, "{c:?}");
+    for row in ROWS {
+        compare(&rt, alphabet.is_letter(row.0), row.1, ("the range", row.0));
     }
     Ok(())
 }
 
 #[test]
 fn an_upper_case_form_fits_one_way(rt: HostRuntime) -> Result<(), Fail> {
-    let cases = [
+    const ROWS: &[Fit] = &[
         ("Tt", 't', 'T', true),
         ("Tt", 'T', 't', false),
         ("Tt", 't', 't', true),
@@ -133,13 +153,8 @@ fn an_upper_case_form_fits_one_way(rt: HostRuntime) -> Result<(), Fail> {
         ("#AZ\n#az", 'a', 'A', false),
         ("{x", 'x', '{', true),
     ];
-    for (text, entry, other, want) in cases {
-        let alphabet = Alphabet::read(rt.alloc(), text)?;
-        assert_eq!(rt;
-            alphabet.fits(entry, other),
-            want,
-            "{entry:?} at {other:?} in {text:?}"
-        );
+    for row in ROWS {
+        check_fit(&rt, rt.alloc(), row)?;
     }
     Ok(())
 }
