@@ -3,6 +3,7 @@
 use crate::text::Text;
 use crate::text_error::TextError;
 use std::alloc::{AllocError, Global};
+use std::process::Abort;
 use std::test::Fail;
 use ux_alphabet::Alphabet;
 
@@ -23,9 +24,23 @@ fn listed(alloc: Global, text: &Text) -> Result<String, AllocError> {
     Ok(out)
 }
 
+/// A name, a text, and its tokens.
+type Row = (&'static str, &'static str, &'static str);
+
+fn compare(rt: &impl Abort, got: &str, row: &Row) {
+    assert_eq!(rt; got, row.2, "{}", row.0);
+}
+
+fn check(rt: &impl Abort, alloc: Global, row: &Row) -> Result<(), Fail> {
+    let tokens = read(alloc, row.1)??;
+    let got = listed(alloc, &tokens)?;
+    compare(rt, got.as_str(), row);
+    Ok(())
+}
+
 #[test]
 fn cuts_words_spaces_and_others(rt: HostRuntime) -> Result<(), Fail> {
-    let rows = [
+    const ROWS: &[Row] = &[
         ("nothing", "", ""),
         (
             "a sentence",
@@ -48,17 +63,16 @@ fn cuts_words_spaces_and_others(rt: HostRuntime) -> Result<(), Fail> {
         ),
         ("letters of both cases", "A a", "Word0[A]Space1[ ]Word2[a]"),
     ];
-    for (name, text, want) in rows {
-        let tokens = read(rt.alloc(), text)??;
-        let got = listed(rt.alloc(), &tokens)?;
-        assert_eq!(rt; got.as_str(), want, "{name}");
+    for row in ROWS {
+        check(&rt, rt.alloc(), row)?;
     }
     Ok(())
 }
 
 #[test]
 fn refuses_a_brace(rt: HostRuntime) -> Result<(), Fail> {
-    for text in ["{", "The cat {S} sat", "{{{"] {
+    const TEXTS: &[&str] = &["{", "The cat {S} sat", "{{{"];
+    for text in TEXTS {
         let refused = matches!(read(rt.alloc(), text)?, Err(TextError::NotYet));
         assert!(rt; refused, "{text}");
     }
