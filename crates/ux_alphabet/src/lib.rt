@@ -23,6 +23,3 @@ mod tables;
 pub use alphabet::Alphabet;
 pub use error::AlphabetError;
 pub use line::Line;
-
-#[cfg(test)]
-mod tests;

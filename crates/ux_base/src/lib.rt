@@ -17,8 +17,6 @@ pub mod real_folder;
 pub mod settings;
 pub mod sink;
 pub mod std_sink;
-#[cfg(test)]
-mod tests;
 pub mod txt;
 
 pub use counts::Counts;

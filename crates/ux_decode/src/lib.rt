@@ -18,6 +18,3 @@ mod utf16;
 
 pub use error::DecodeError;
 pub use reading::decode;
-
-#[cfg(test)]
-mod tests;

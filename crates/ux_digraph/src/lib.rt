@@ -31,8 +31,6 @@ mod checking;
 pub mod closing;
 mod grouping;
 mod reaching;
-#[cfg(test)]
-mod tests;
 
 pub use checking::{are_edges_inside, are_rules_inside};
 pub use closing::{Rule, closure};

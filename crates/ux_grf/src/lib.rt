@@ -27,8 +27,6 @@ mod protection;
 mod read;
 mod start;
 mod targets;
-#[cfg(test)]
-mod tests;
 mod words;
 
 pub use calls::needs;

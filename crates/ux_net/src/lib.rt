@@ -15,15 +15,9 @@
 #![tactic(auto)]
 
 pub mod admissible;
-#[cfg(test)]
-mod admissible_tests;
 pub mod checking;
 pub mod compile;
-#[cfg(test)]
-mod compile_tests;
 pub mod construct;
-#[cfg(test)]
-mod construct_tests;
 pub mod cycles;
 pub mod edges;
 pub mod error;
@@ -42,8 +36,6 @@ pub mod rows;
 pub mod split;
 pub mod spot;
 pub mod state;
-#[cfg(test)]
-mod test_rows;
 pub mod way;
 pub mod ways;
 

@@ -1,5 +1,5 @@
 -- The loop that cuts a text: one more token keeps what is known of the pieces so far.
-use Rattle.std.proofs.Common.{◌≡◌, ℕ, ◌+◌, ◌-◌, ◌<◌, ◌≤◌, List, [], ◌∷◌, ◌++◌, map, length, take, drop, Some, Vec, Global, refl, sym, ◌∙◌, ap, subst, arith}
+use Rattle.std.proofs.Common.{◌≡◌, ℕ, ◌+◌, ◌-◌, ◌<◌, ◌≤◌, List, [], ◌∷◌, ◌++◌, map, length, take, drop, Some, refl, sym, ◌∙◌, ap, subst, arith}
 use Rattle.std.specs.List.{slice_get}
 use Rattle.std.specs.Str.{IsCharBoundary, IsUtf8}
 use Rattle.std.proofs.lemmas.Str.{IsCharBoundary-start, IsCharBoundary-from_rest, IsUtf8-take, IsUtf8-drop}
@@ -8,11 +8,13 @@ use Rattle.ux_alphabet.specs.declared.line.Line.{Line}
 use Rattle.ux_tokens.specs.declared.kind.Kind.{Kind}
 use Rattle.ux_tokens.specs.declared.kind.Kind.TheVariants.{Word}
 use Rattle.ux_tokens.specs.declared.piece.Piece.{Piece}
+use Rattle.ux_tokens.specs.declared.pieces.Pieces.{Pieces}
 use Rattle.ux_tokens.specs.declared.cutting.TheConstants.{MAX_TOKENS}
 use Rattle.ux_tokens.specs.Tokens.{Token}
 use Rattle.ux_tokens.specs.First.{BeginsWithNoLetter, IsFirstToken}
 use Rattle.ux_tokens.specs.Numbers.{with_text, each_once}
 use Rattle.ux_tokens.specs.Pieces.{ArePieces, token_of, tokens_from, end_from}
+use Rattle.ux_tokens.specs.Columns.{AreEven, pieces_of}
 use Rattle.ux_tokens.specs.Cutting.{IsCut, IsCutting}
 use Rattle.ux_tokens.proofs.CutLemmas.{cut_start, cut_more}
 use Rattle.ux_tokens.proofs.NumbersLemmas.{length-each_once}
@@ -105,15 +107,16 @@ module _ (lines : List Line) (text : List ℕ) where
           t) cut_len
 
   -- behind the last token stands nothing
-  pub cut_whole : (end : ℕ) (pieces : Vec Piece Global) (different : List (List ℕ)) (count : ℕ) →
-      IsSoFar end pieces.items different → end ≡ length text → count ≡ length different →
+  pub cut_whole : (end : ℕ) (pieces : Pieces) (different : List (List ℕ)) (count : ℕ) →
+      IsSoFar end (pieces_of pieces) different → AreEven pieces → end ≡ length text → count ≡ length different →
       IsCutting lines text (record { pieces = pieces; different = count })
-  cut_whole end pieces different count so_far all counted =
+  cut_whole end pieces different count so_far even all counted =
       let none : drop end text ≡ [] = drop_all end text (omega arith) in
       record {
-        tokens = subst (λ (rest : List ℕ). IsCut lines text rest (tokens_from text 0 pieces.items))
+        tokens = subst (λ (rest : List ℕ). IsCut lines text rest (tokens_from text 0 (pieces_of pieces)))
             none so_far.tokens;
-        pieces = subst (ArePieces text pieces.items) so_far.pieces_are.all so_far.pieces_are;
+        pieces = subst (ArePieces text (pieces_of pieces)) so_far.pieces_are.all so_far.pieces_are;
+        even = even;
         few = so_far.few;
         different = counted ∙ ap length so_far.pieces_are.all;
       }

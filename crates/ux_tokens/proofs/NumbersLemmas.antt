@@ -58,11 +58,11 @@ any_kept text new texts apart =
     ap not (subst (λ (t : List ℕ). bytes_eq text t ≡ false) is apart))
     texts
 
-with_text-known : (texts : List (List ℕ)) (new : List ℕ) → list_any (bytes_eq new) texts ≡ true →
+pub with_text-known : (texts : List (List ℕ)) (new : List ℕ) → list_any (bytes_eq new) texts ≡ true →
     with_text texts new ≡ texts
 with_text-known texts new is = ap (λ (b : Bool). cond b texts (texts ++ new ∷ [])) is
 
-with_text-new : (texts : List (List ℕ)) (new : List ℕ) → list_any (bytes_eq new) texts ≡ false →
+pub with_text-new : (texts : List (List ℕ)) (new : List ℕ) → list_any (bytes_eq new) texts ≡ false →
     with_text texts new ≡ texts ++ new ∷ []
 with_text-new texts new is = ap (λ (b : Bool). cond b texts (texts ++ new ∷ [])) is
 

@@ -49,7 +49,7 @@ end_from-take start (first ∷ pieces) zero piece at =
     ap (λ (p : Piece). p.end) (same_Some first piece at)
 end_from-take start (first ∷ pieces) (suc k) piece at = end_from-take first.end pieces k piece at
 
-different_texts-push : (tokens : List Token) (token : Token) →
+pub different_texts-push : (tokens : List Token) (token : Token) →
     different_texts (tokens ++ token ∷ []) ≡ with_text (different_texts tokens) token.text
 different_texts-push tokens token =
     ap each_once (map-append (λ (t : Token). t.text) tokens (token ∷ []))

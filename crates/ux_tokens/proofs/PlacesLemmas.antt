@@ -1,11 +1,11 @@
 -- Where tokens lie: each begins where the one before it ends, and neighbouring ones join to a slice.
-use Rattle.std.proofs.Common.{◌≡◌, ℕ, zero, suc, ◌+◌, ◌-◌, ◌<◌, ◌≤◌, List, ◌∷◌, ◌++◌, length, get_or, take, drop, Option, Some, IsSomeAnd, refl, sym, ◌∙◌, ap, subst, arith}
+use Rattle.std.proofs.Common.{◌≡◌, ℕ, zero, suc, ◌+◌, ◌-◌, ◌<◌, ◌≤◌, List, ◌∷◌, ◌++◌, length, take, drop, Option, Some, IsSomeAnd, refl, sym, ◌∙◌, ap, subst, arith}
 use Rattle.std.specs.List.{slice_get, slice_range}
 use Rattle.std.specs.Str.{IsCharBoundary, IsUtf8}
 use Rattle.std.proofs.lemmas.Str.{IsCharBoundary-start}
 use Rattle.std.proofs.Math.Seq.{take-add}
 use Rattle.std.proofs.lemmas.List.{drop_more, drop-drop}
-use Rattle.std.proofs.lemmas.Option.{slice_get-get_or, get_or_from_slice_get, slice_get_within}
+use Rattle.std.proofs.lemmas.Option.{get_or_from_slice_get, slice_get_within}
 use Rattle.ux_tokens.specs.declared.piece.Piece.{Piece}
 use Rattle.ux_tokens.specs.Tokens.{Token, joined}
 use Rattle.ux_tokens.specs.Pieces.{ArePieces, token_of, tokens_from, end_from}
@@ -16,13 +16,11 @@ abbrev pub start_at : List Piece → ℕ → ℕ
 start_at pieces i = end_from 0 (take i pieces)
 
 -- behind the start it is the end of the piece before
-pub start_behind : (pieces : List Piece) (i : ℕ) (default : Piece) → 0 < i → i ≤ length pieces →
-    (get_or pieces (i - 1) default).end ≡ start_at pieces i
-start_behind pieces i default later within =
-    let before : suc (i - 1) ≡ i = omega arith in
-    sym (ap (start_at pieces) (sym before)
-    ∙ end_from-take 0 pieces (i - 1) (get_or pieces (i - 1) default)
-    (slice_get-get_or pieces (i - 1) default (omega arith)))
+pub start_behind : (pieces : List Piece) (i : ℕ) (before : Piece) → 0 < i →
+    slice_get pieces (i - 1) ≡ Some before → before.end ≡ start_at pieces i
+start_behind pieces i before later at =
+    let next : suc (i - 1) ≡ i = omega arith in
+    sym (ap (start_at pieces) (sym next) ∙ end_from-take 0 pieces (i - 1) before at)
 
 pub some_and : {X : Type 0} (o : Option X) (x : X) (P : X → Type 0) → o ≡ Some x → P x →
     IsSomeAnd o P
@@ -40,14 +38,12 @@ slice_range-join text a b c ab bc =
     ∙ sym (take-add (b - a) (c - b) (drop a text))
     ∙ ap (λ (n : ℕ). take n (drop a text)) sum
 
--- the same slice of equal texts with equal pieces
-pub slice_same : (lent text : List ℕ) (lent_pieces pieces : List Piece) (i j : ℕ) →
-    lent ≡ text → lent_pieces ≡ pieces →
-    slice_range lent (start_at lent_pieces i) (start_at lent_pieces j)
+-- the same slice of equal texts
+pub slice_same : (lent text : List ℕ) (pieces : List Piece) (i j : ℕ) → lent ≡ text →
+    slice_range lent (start_at pieces i) (start_at pieces j)
     ≡ slice_range text (start_at pieces i) (start_at pieces j)
-slice_same lent text lent_pieces pieces i j same same_pieces =
-    ap (λ (l : List ℕ). slice_range l (start_at lent_pieces i) (start_at lent_pieces j)) same
-    ∙ ap (λ (ps : List Piece). slice_range text (start_at ps i) (start_at ps j)) same_pieces
+slice_same lent text pieces i j same =
+    ap (λ (l : List ℕ). slice_range l (start_at pieces i) (start_at pieces j)) same
 
 module _ (text : List ℕ) (pieces : List Piece) (different : List (List ℕ)) where
   -- each token begins at a place between two characters

@@ -10,6 +10,7 @@ use Rattle.ux_tokens.specs.Tokens.{Token, IsTokenText, joined}
 use Rattle.ux_tokens.specs.First.{BeginsWithNoLetter}
 use Rattle.ux_tokens.specs.Numbers.{different_texts}
 use Rattle.ux_tokens.specs.Pieces.{ArePieces, tokens_from}
+use Rattle.ux_tokens.specs.Columns.{AreEven, pieces_of}
 
 -- the tokens are those of the text up to its rest, and the last of them is whole
 pub record IsCut (lines : List Line) (text rest : List ℕ) (tokens : List Token) : Type 0 where
@@ -22,11 +23,12 @@ pub record IsCut (lines : List Line) (text rest : List ℕ) (tokens : List Token
 
 -- the pieces are those of the whole text
 pub record IsCutting (lines : List Line) (text : List ℕ) (cut : Cut) : Type 0 where
-  pub tokens : IsCut lines text [] (tokens_from text 0 cut.pieces.items)
-  pub pieces : ArePieces text cut.pieces.items
-      (different_texts (tokens_from text 0 cut.pieces.items))
-  pub few : length cut.pieces.items ≤ MAX_TOKENS
-  pub different : cut.different ≡ length (different_texts (tokens_from text 0 cut.pieces.items))
+  pub tokens : IsCut lines text [] (tokens_from text 0 (pieces_of cut.pieces))
+  pub pieces : ArePieces text (pieces_of cut.pieces)
+      (different_texts (tokens_from text 0 (pieces_of cut.pieces)))
+  pub even : AreEven cut.pieces
+  pub few : length (pieces_of cut.pieces) ≤ MAX_TOKENS
+  pub different : cut.different ≡ length (different_texts (tokens_from text 0 (pieces_of cut.pieces)))
 
 -- the text has more tokens than a text may have
 abbrev pub HasTooManyTokens : List Line → List ℕ → Type 0

@@ -1,7 +1,11 @@
 pub mod Tokens
 pub mod First
 pub mod Numbers
+pub mod Known
 pub mod Pieces
+pub mod Columns
+pub mod Kept
 pub mod Cutting
 pub mod Reading
 pub mod Spaces
+pub mod TokenFile

@@ -1,5 +1,5 @@
 -- How a text keeps its tokens: by the places where they end.
-use Rattle.std.specs.Prelude.{◌≡◌, ℕ, ◌≤◌, List, [], ◌∷◌, Some, length, take, slice_get, slice_range}
+use Rattle.std.specs.Prelude.{◌≡◌, ℕ, ◌≤◌, List, [], ◌∷◌, Some, take, slice_get, slice_range}
 use Rattle.std.specs.Str.{IsCharBoundary}
 use Rattle.ux_tokens.specs.declared.piece.Piece.{Piece}
 use Rattle.ux_tokens.specs.Tokens.{Token}
@@ -31,8 +31,3 @@ pub record ArePieces (text : List ℕ) (pieces : List Piece) (different : List (
       slice_get (tokens_from text 0 pieces) k ≡ Some token →
       slice_get different piece.number ≡ Some token.text
   pub all : different ≡ different_texts (tokens_from text 0 pieces)
-
--- what a text keeps: its pieces, and how many different tokens there are
-pub record IsKept (text : List ℕ) (pieces : List Piece) (different : ℕ) : Type 0 where
-  pub are : ArePieces text pieces (different_texts (tokens_from text 0 pieces))
-  pub count : different ≡ length (different_texts (tokens_from text 0 pieces))

@@ -4,8 +4,10 @@ ghost use Rattle.std.specs.Prelude.{IfOk, IfErr};
 ghost use Rattle.ux_tokens.specs.Cutting.{IsCutting, RefusesCut};
 
 use crate::first::first_token;
+use crate::known::Known;
 use crate::numbering::number_of_kind;
 use crate::piece::Piece;
+use crate::pieces::Pieces;
 use crate::text_error::TextError;
 use indexmap::IndexSet;
 use std::alloc::Global;
@@ -18,7 +20,7 @@ pub const MAX_TOKENS: usize = 67_108_864;
 #[derive(Debug, Drop)]
 pub struct Cut {
     /// The tokens, by where they end.
-    pub pieces: Vec<Piece>,
+    pub pieces: Pieces,
     /// How many different tokens there are.
     pub different: usize,
 }
@@ -29,8 +31,8 @@ pub fn cut_text(alloc: Global, alphabet: &Alphabet, text: &str) -> Result<Cut, T
     ensures err { IfErr result (RefusesCut alphabet.now text.now) }
 {
     let mut numbers: IndexSet<&str> = IndexSet::new(alloc);
-    let mut space = None;
-    let mut pieces: Vec<Piece> = Vec::new(alloc);
+    let mut known = Known::new(alloc)?;
+    let mut pieces = Pieces::new(alloc);
     let mut end = 0;
     while end < text.len() {
         if pieces.len() == MAX_TOKENS {
@@ -38,7 +40,13 @@ pub fn cut_text(alloc: Global, alphabet: &Alphabet, text: &str) -> Result<Cut, T
         }
         let rest = &text[end..];
         let (kind, len) = first_token(alphabet, rest);
-        let number = number_of_kind(&mut numbers, &mut space, kind, &rest[..len])?;
+        let number = number_of_kind(
+            &mut numbers,
+            &mut known,
+            kind,
+            &rest[..len],
+            rest.as_bytes(),
+        )?;
         end += len;
         pieces.push(Piece { end, number, kind })?;
     }

@@ -5,11 +5,14 @@
 #![tactic(auto)]
 
 pub mod cutting;
+pub mod ends;
 pub mod first;
 pub mod kind;
+pub mod known;
 pub mod numbering;
 pub mod piece;
 pub mod pieces;
+pub mod printing;
 pub mod spaces;
 pub mod text;
 pub mod text_error;
@@ -17,9 +20,7 @@ pub mod text_error;
 pub use cutting::MAX_TOKENS;
 pub use first::first_token;
 pub use kind::Kind;
+pub use printing::print_tokens;
 pub use spaces::single_spaced;
 pub use text::Text;
 pub use text_error::TextError;
-
-#[cfg(test)]
-mod tests;

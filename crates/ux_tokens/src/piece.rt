@@ -2,7 +2,7 @@
 
 use crate::kind::Kind;
 
-/// A token, by where it ends in the text. It begins where the one before it ends. Takes 16 bytes.
+/// A token, by where it ends in the text. It begins where the one before it ends.
 #[derive(Clone, Copy, Debug, PartialEq, Eq)]
 pub struct Piece {
     /// The place behind the token, in bytes.

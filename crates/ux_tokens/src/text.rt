@@ -10,8 +10,7 @@ ghost use Rattle.ux_tokens.specs.Reading.{HasTooManyTokens, Refuses, OPENING_BRA
 
 use crate::cutting::{Cut, MAX_TOKENS, cut_text};
 use crate::kind::Kind;
-use crate::piece::Piece;
-use crate::pieces::part;
+use crate::pieces::{Pieces, part};
 use crate::spaces::single_spaced;
 use crate::text_error::TextError;
 use std::alloc::Global;
@@ -22,20 +21,22 @@ use ux_alphabet::Alphabet;
 #[derive(Debug, Drop)]
 pub struct Text {
     text: String,
-    pieces: Vec<Piece>,
+    pieces: Pieces,
     different: usize,
 }
 
 impl Model for Text {
     ghost use Rattle.std.specs.Prelude.{List, string_bytes};
     ghost use Rattle.ux_tokens.specs.Tokens.{Token};
-    ghost use Rattle.ux_tokens.specs.Pieces.{IsKept, tokens_from};
+    ghost use Rattle.ux_tokens.specs.Pieces.{tokens_from};
+    ghost use Rattle.ux_tokens.specs.Columns.{pieces_of};
+    ghost use Rattle.ux_tokens.specs.Kept.{IsKept};
 
     ghost Value = { List Token };
 
-    ghost view = { λ t. tokens_from (string_bytes t.text) 0 t.pieces.items };
+    ghost view = { λ t. tokens_from (string_bytes t.text) 0 (pieces_of t.pieces) };
 
-    ghost invariant = { λ t. IsKept (string_bytes t.text) t.pieces.items t.different };
+    ghost invariant = { λ t. IsKept (string_bytes t.text) t.pieces t.different };
 }
 
 impl Text {
@@ -71,7 +72,7 @@ impl Text {
         requires { i < length self.now }
         ensures { IsSomeAnd (slice_get self.now i) (λ token. result.now ≡ token.text) }
     {
-        part(self.text.as_str(), self.pieces.as_slice(), i, i)
+        part(self.text.as_str(), &self.pieces, i, i)
     }
 
     /// The texts of neighbouring tokens, joined, from the first to the last. Takes one step.
@@ -80,7 +81,7 @@ impl Text {
         requires within { last < length self.now }
         ensures { result.now ≡ joined (slice_range self.now first (last + 1)) }
     {
-        part(self.text.as_str(), self.pieces.as_slice(), first, last)
+        part(self.text.as_str(), &self.pieces, first, last)
     }
 
     /// The kind of the token at a place.
@@ -88,7 +89,7 @@ impl Text {
         requires { i < length self.now }
         ensures { IsSomeAnd (slice_get self.now i) (λ token. result ≡ token.kind) }
     {
-        self.pieces[i].kind
+        self.pieces.at(i).kind
     }
 
     /// The number of the token at a place, which is the place of its text among the different ones.
@@ -97,7 +98,7 @@ impl Text {
         ensures place { IsSomeAnd (slice_get self.now i) (λ token. slice_get (different_texts self.now) result ≡ Some token.text) }
         ensures below { result < length (different_texts self.now) }
     {
-        self.pieces[i].number
+        self.pieces.at(i).number
     }
 
     /// How many different tokens there are. Each number is below, and equal texts have one number.

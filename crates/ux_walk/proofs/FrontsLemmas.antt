@@ -4,9 +4,10 @@ use Rattle.std.specs.Prelude.{Option, Some, None, Contains}
 use Rattle.std.proofs.lemmas.Option.{none-some, same_Some}
 use Rattle.ux_net.proofs.JoinedLemmas.{first_or_later, contains_first, contains_later}
 use Rattle.ux_walk.specs.declared.lists.Link.{Link}
-use Rattle.ux_walk.specs.declared.fronts.Turn.{Turn}
+use Rattle.ux_walk.specs.declared.turns.Turn.{Turn}
 use Rattle.ux_walk.specs.declared.fronts.Fronts.{Fronts}
 use Rattle.ux_walk.specs.Links.{Extends, IsConsed, Names}
+use Rattle.ux_walk.specs.Turns.{HasTurn}
 use Rattle.ux_walk.specs.Fronts.{AreNamed, Gains, Stands, TurnsTo, links_of}
 use Rattle.ux_walk.proofs.LinksLemmas.{names_kept, one_list, consed_extends, consed_names, consed_below}
 
@@ -72,7 +73,7 @@ key_of front number = record { front = front; number = number }
 module _ (fronts : Fronts) (front number : ℕ) where
   -- where a turn is kept, it leads to its front
   pub turns_to : (next : ℕ) → ((value : ℕ) → (Some next ≡ Some value)
-      ↔ Contains fronts.turns.entries (key_of front number, value)) → (to : ℕ) →
+      ↔ HasTurn fronts.turns (key_of front number) value) → (to : ℕ) →
       Stands (links_of fronts) next to ↔ TurnsTo fronts front number to
   turns_to next kept to = (
     λ s. (next, (kept next).0 refl, s),
@@ -82,7 +83,7 @@ module _ (fronts : Fronts) (front number : ℕ) where
 
   -- where none is kept, none leads on
   pub turns_nowhere : ((value : ℕ) → (◌≡◌ {A = Option ℕ} None (Some value))
-      ↔ Contains fronts.turns.entries (key_of front number, value)) → (to : ℕ) →
+      ↔ HasTurn fronts.turns (key_of front number) value) → (to : ℕ) →
       Stands (links_of fronts) 0 to ↔ TurnsTo fronts front number to
   turns_nowhere kept to = (
     λ s. absurd (stands_nowhere (links_of fronts) to s),
@@ -90,14 +91,14 @@ module _ (fronts : Fronts) (front number : ℕ) where
   )
 
 module _ (old new : Fronts) (front number state others next : ℕ)
-    (words : new.words ≡ old.words) (first : new.first ≡ old.first)
+    (words : new.words ≡ old.words) (first : new.turns.first ≡ old.turns.first)
     (readings : new.readings ≡ old.readings) (named : AreNamed old)
     (there : (states : List ℕ) × Names (links_of old) others states)
     (consed : IsConsed (links_of old) (links_of new) state others next)
     (turned : (to : ℕ) → Stands (links_of old) others to ↔ TurnsTo old front number to)
-    (set : (k : Turn) (v : ℕ) → Contains new.turns.entries (k, v)
+    (set : (k : Turn) (v : ℕ) → HasTurn new.turns k v
     ↔ (((k ≡ key_of front number) × (v ≡ next))
-    ⊎ ((k ≡ key_of front number → ⊥) × Contains old.turns.entries (k, v)))) where
+    ⊎ ((k ≡ key_of front number → ⊥) × HasTurn old.turns k v))) where
   grown : Extends (links_of old) (links_of new)
   grown = consed_extends (links_of old) (links_of new) state others next consed
 
@@ -107,7 +108,7 @@ module _ (old new : Fronts) (front number state others next : ℕ)
   more : (to : ℕ) → Stands (links_of new) next to ↔ ((to ≡ state) ⊎ Stands (links_of old) others to)
   more to = stands_more (links_of old) (links_of new) state others next consed there.0 there.1 to
 
-  still : (turn : Turn) (v : ℕ) → Contains old.turns.entries (turn, v) → (to : ℕ) →
+  still : (turn : Turn) (v : ℕ) → HasTurn old.turns turn v → (to : ℕ) →
       Stands (links_of new) v to ↔ Stands (links_of old) v to
   still turn v inside to = let n = named.named turn v inside in
       stands_kept (links_of old) (links_of new) grown v n.0 n.1 to
@@ -138,7 +139,7 @@ module _ (old new : Fronts) (front number state others next : ℕ)
     | inr old_one ↦ inl (v, old_one.1, (still (key_of front n) v old_one.1 to).0 s)
   ]
 
-  at_key : (n : ℕ) → n ≡ number → Contains new.turns.entries (key_of front n, next)
+  at_key : (n : ℕ) → n ≡ number → HasTurn new.turns (key_of front n) next
   at_key n e = (set (key_of front n) next).1 (inl (ap (key_of front) e, refl))
 
   turns_back : (n to : ℕ) → TurnsTo old front n to ⊎ ((n ≡ number) × (to ≡ state)) →

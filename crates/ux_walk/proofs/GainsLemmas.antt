@@ -24,7 +24,6 @@ module _ (r : Fronts) (left : ℕ) where
   spent = record {
     words = r.words;
     lists = r.lists;
-    first = r.first;
     turns = r.turns;
     readings = r.readings;
     left = left;

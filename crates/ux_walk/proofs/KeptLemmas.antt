@@ -14,6 +14,7 @@ use Rattle.ux_walk.specs.declared.fronts.Reading.{Reading}
 use Rattle.ux_walk.specs.declared.fronts.Reading.TheVariants.{Beyond, Through, Final}
 use Rattle.ux_walk.specs.declared.fronts.Fronts.{Fronts}
 use Rattle.ux_walk.specs.Links.{Names}
+use Rattle.ux_walk.specs.Turns.{HasValue}
 use Rattle.ux_walk.specs.Fronts.{AreKept, AreReady, Gains, Grows, HasEnd, IsLiteral, IsRead, IsReadAs, Leads, Stands, TurnsTo, links_of}
 use Rattle.ux_walk.proofs.LinksLemmas.{names_kept, one_list}
 use Rattle.ux_walk.proofs.FrontsLemmas.{stands_kept}
@@ -150,9 +151,9 @@ module _ (alphabet : List Line) (texts : List (List ℕ)) (net : List NetGraph) 
         (read_still f apart named is.0, (end_still f named).1 is.1)
 
     module _ (reading : Reading) (noted : Fronts)
-        (set : (f : ℕ) (r : Reading) → Contains noted.readings.entries (f, r)
+        (set : (f : ℕ) (r : Reading) → HasValue noted.readings.items f r
         ↔ (((f ≡ front) × (r ≡ reading))
-        ⊎ ((f ≡ front → ⊥) × Contains new.readings.entries (f, r))))
+        ⊎ ((f ≡ front → ⊥) × HasValue new.readings.items f r)))
         (named : (states : List ℕ) × Names (links_of old) front states)
         (is : IsReadAs alphabet texts net new front reading) where
       -- the fronts with what was noted of one
@@ -160,7 +161,6 @@ module _ (alphabet : List Line) (texts : List (List ℕ)) (net : List NetGraph) 
       later = record {
         words = new.words;
         lists = new.lists;
-        first = new.first;
         turns = new.turns;
         readings = noted.readings;
         left = new.left;
@@ -175,12 +175,12 @@ module _ (alphabet : List Line) (texts : List (List ℕ)) (net : List NetGraph) 
       later_reading f Through h = (later_read f h.0, h.1)
       later_reading f Final h = (later_read f h.0, h.1)
 
-      was_known : (f : ℕ) (r : Reading) → Contains new.readings.entries (f, r) →
-          Contains old.readings.entries (f, r)
+      was_known : (f : ℕ) (r : Reading) → HasValue new.readings.items f r →
+          HasValue old.readings.items f r
       was_known f r inside = known_in grows.readings
         where
-          known_in : new.readings ≡ old.readings → Contains old.readings.entries (f, r)
-          known_in e = subst (λ t. Contains t.entries (f, r)) e inside
+          known_in : new.readings ≡ old.readings → HasValue old.readings.items f r
+          known_in e = subst (λ t. HasValue t.items f r) e inside
 
       more_named : (f : ℕ) → (states : List ℕ) × Names (links_of old) f states →
           (states : List ℕ) × Names (links_of later) f states
@@ -192,7 +192,7 @@ module _ (alphabet : List Line) (texts : List (List ℕ)) (net : List NetGraph) 
         words = subst (λ (w : Words). AreReady alphabet texts w) (sym grows.words) kept.words;
         below = grows.named.below;
         first = subst (λ (f : ℕ). Names (links_of new) f (0 ∷ [])) (sym grows.first)
-            (names_kept (links_of old) (links_of new) grows.links old.first (0 ∷ []) kept.first);
+            (names_kept (links_of old) (links_of new) grows.links old.turns.first (0 ∷ []) kept.first);
         named = grows.named.named;
         known = λ f r inside. elim ((set f r).0 inside) [
           | inl here ↦ more_named f
@@ -217,6 +217,6 @@ module _ (alphabet : List Line) (texts : List (List ℕ)) (net : List NetGraph) 
         ];
       }
         where
-          now_known : (f : ℕ) (r : Reading) → Contains old.readings.entries (f, r) →
-              Contains new.readings.entries (f, r)
-          now_known f r inside = subst (λ t. Contains t.entries (f, r)) (sym grows.readings) inside
+          now_known : (f : ℕ) (r : Reading) → HasValue old.readings.items f r →
+              HasValue new.readings.items f r
+          now_known f r inside = subst (λ t. HasValue t.items f r) (sym grows.readings) inside

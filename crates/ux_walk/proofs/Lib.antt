@@ -24,3 +24,5 @@ pub mod WordsLemmas
 pub mod FittedLemmas
 pub mod RaisedLemmas
 pub mod CountsLemmas
+pub mod SlotsLemmas
+pub mod TurnsLemmas

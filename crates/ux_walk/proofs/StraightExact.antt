@@ -35,7 +35,7 @@ module _ (alphabet : List Line) (tokens : List Token) (net : List NetGraph) (sta
       ↔ (Contains found (j, es) ⊎ Standing alphabet tokens net fronts front at before j es)
 
   -- at the start
-  pub exact_begins : (fronts : Fronts) (front : ℕ) → front ≡ fronts.first →
+  pub exact_begins : (fronts : Fronts) (front : ℕ) → front ≡ fronts.turns.first →
       AreKept alphabet texts net fronts → IsExact fronts [] front start []
   exact_begins fronts front is kept j es = (
     λ d. inr (

@@ -18,11 +18,12 @@ use Rattle.ux_outputs.specs.declared.event.Event.TheVariants.{Take}
 use Rattle.ux_outputs.specs.Rendering.{skip}
 use Rattle.ux_walk.specs.declared.lists.Link.{Link}
 use Rattle.ux_walk.specs.declared.words.Words.{Words}
-use Rattle.ux_walk.specs.declared.fronts.Turn.{Turn}
+use Rattle.ux_walk.specs.declared.turns.Turn.{Turn}
 use Rattle.ux_walk.specs.declared.fronts.Reading.{Reading}
 use Rattle.ux_walk.specs.declared.fronts.Reading.TheVariants.{Beyond, Through, Final}
 use Rattle.ux_walk.specs.declared.fronts.Fronts.{Fronts}
 use Rattle.ux_walk.specs.Links.{AreBelow, Extends, Names}
+use Rattle.ux_walk.specs.Turns.{HasTurn, HasValue}
 
 -- a literal, which takes one token
 abbrev pub IsLiteral : Label → Type 0
@@ -111,7 +112,7 @@ Stands links front state = (states : List ℕ) × Names links front states × Co
 abbrev pub TurnsTo : Fronts → (front number state : ℕ) → Type 0
 TurnsTo fronts front number state =
     (next : ℕ)
-    × Contains fronts.turns.entries (record { front = front; number = number }, next)
+    × HasTurn fronts.turns (record { front = front; number = number }) next
     × Stands (links_of fronts) next state
 
 module _ (alphabet : List Line) (texts : List (List ℕ)) (net : List NetGraph) where
@@ -143,33 +144,33 @@ module _ (alphabet : List Line) (texts : List (List ℕ)) (net : List NetGraph) 
   pub record AreKept (fronts : Fronts) : Type 0 where
     pub words : AreReady alphabet texts fronts.words
     pub below : AreBelow (links_of fronts)
-    pub first : Names (links_of fronts) fronts.first (0 ∷ [])
-    pub named : (turn : Turn) (next : ℕ) → Contains fronts.turns.entries (turn, next) →
+    pub first : Names (links_of fronts) fronts.turns.first (0 ∷ [])
+    pub named : (turn : Turn) (next : ℕ) → HasTurn fronts.turns turn next →
         (states : List ℕ) × Names (links_of fronts) next states
     pub known : (front : ℕ) (reading : Reading) →
-        Contains fronts.readings.entries (front, reading) →
+        HasValue fronts.readings.items front reading →
         (states : List ℕ) × Names (links_of fronts) front states
     pub unread : (front number to : ℕ) →
-        ((reading : Reading) → Contains fronts.readings.entries (front, reading) → ⊥) →
+        ((reading : Reading) → HasValue fronts.readings.items front reading → ⊥) →
         TurnsTo fronts front number to → ⊥
     pub read : (front : ℕ) (reading : Reading) →
-        Contains fronts.readings.entries (front, reading) → IsReadAs fronts front reading
+        HasValue fronts.readings.items front reading → IsReadAs fronts front reading
 
 -- the links are in order, and each turn leads to a front
 pub record AreNamed (fronts : Fronts) : Type 0 where
   pub below : AreBelow (links_of fronts)
-  pub named : (turn : Turn) (next : ℕ) → Contains fronts.turns.entries (turn, next) →
+  pub named : (turn : Turn) (next : ℕ) → HasTurn fronts.turns turn next →
       (states : List ℕ) × Names (links_of fronts) next states
 
 -- the fronts grew: turns of one front were added to
 pub record Grows (front : ℕ) (old new : Fronts) : Type 0 where
   pub words : new.words ≡ old.words
-  pub first : new.first ≡ old.first
+  pub first : new.turns.first ≡ old.turns.first
   pub readings : new.readings ≡ old.readings
   pub links : Extends (links_of old) (links_of new)
   pub named : AreNamed new
   pub others : (turn : Turn) (next : ℕ) → (turn.front ≡ front → ⊥) →
-      Contains new.turns.entries (turn, next) ↔ Contains old.turns.entries (turn, next)
+      HasTurn new.turns turn next ↔ HasTurn old.turns turn next
 
 -- and these turns were added
 pub record Gains (Told : ℕ → ℕ → Type 0) (front : ℕ) (old new : Fronts) : Type 0 where

@@ -3,4 +3,5 @@ pub mod Following
 pub mod Links
 pub mod Configurations
 pub mod LookUps
+pub mod Turns
 pub mod Fronts

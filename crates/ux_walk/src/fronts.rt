@@ -18,9 +18,10 @@ ghost use Rattle.ux_walk.specs.Links.{AreBelow, Extends, Names};
 use crate::lists::Lists;
 use crate::literals::{edges_of, has_end, have_literals};
 use crate::sets::put;
-use crate::tables::{set_at, value_at};
+use crate::slots::{give, value_of};
+use crate::turns::{Turn, Turns};
 use crate::words::Words;
-use indexmap::{IndexMap, IndexSet};
+use indexmap::IndexSet;
 use std::alloc::Global;
 use ux_alphabet::Alphabet;
 use ux_base::Mem;
@@ -35,15 +36,6 @@ const MOST_TURNS: usize = 1_048_576;
 const MOST_COMPARED: usize = 16_777_216;
 
 const MOST_COMPARED_A_TOKEN: usize = 256;
-
-/// A front, and the number of a token that comes next.
-#[derive(Clone, Copy, Debug, PartialEq, Eq, Hash)]
-pub struct Turn {
-    /// The number of the list of the front's states.
-    pub front: usize,
-    /// The number of the token.
-    pub number: u32,
-}
 
 /// What is known of a front that was read.
 #[derive(Clone, Copy, Debug, PartialEq, Eq)]
@@ -61,9 +53,9 @@ pub enum Reading {
 pub struct Fronts<'t> {
     words: Words<'t>,
     lists: Lists<u32>,
-    first: usize,
-    turns: IndexMap<Turn, usize>,
-    readings: IndexMap<usize, Reading>,
+    turns: Turns,
+    /// What is known of the fronts that were read, by their numbers.
+    readings: Vec<Option<Reading>>,
     /// How many comparisons may still be spent.
     left: usize,
 }
@@ -80,9 +72,8 @@ impl<'t> Fronts<'t> {
         Ok(Fronts {
             words,
             lists,
-            first,
-            turns: IndexMap::new(alloc),
-            readings: IndexMap::new(alloc),
+            turns: Turns::new(alloc, first),
+            readings: Vec::new(alloc),
             left: text
                 .len()
                 .saturating_mul(MOST_COMPARED_A_TOKEN)
@@ -91,27 +82,27 @@ impl<'t> Fronts<'t> {
     }
 
     /// The front in which a walk begins.
-    pub fn first(&self) -> usize
-        ensures { result ≡ self.now.first }
+    pub(crate) fn first(&self) -> usize
+        ensures { result ≡ self.now.turns.first }
     {
-        self.first
+        self.turns.first()
     }
 
     /// The front to which a token leads: none is 0, in which no state stands.
-    pub fn turn(&self, front: usize, number: u32) -> usize
+    pub(crate) fn turn(&self, front: usize, number: u32) -> usize
         ensures turns { (to : ℕ) →
             Stands (links_of self.now) result to ↔ TurnsTo self.now front number to }
         ensures named { AreNamed self.now →
             (states : List ℕ) × Names (links_of self.now) result states }
     {
-        match value_at(&self.turns, Turn { front, number }) {
-            Some(next) => *next,
+        match self.turns.next(Turn { front, number }) {
+            Some(next) => next,
             None => 0,
         }
     }
 
     /// What is known of a front, which is read if it wasn't.
-    pub fn read(
+    pub(crate) fn read(
         &mut self,
         alloc: Global,
         net: &Net,
@@ -127,11 +118,11 @@ impl<'t> Fronts<'t> {
         ensures links { (texts : List (List ℕ)) → AreKept alphabet.now texts net.now self.old →
             OnOk result (Extends (links_of self.old) (links_of self.new)) }
     {
-        if let Some(reading) = value_at(&self.readings, front) {
-            return Ok(*reading);
+        if let Some(reading) = value_of(&self.readings, front) {
+            return Ok(reading);
         }
         let reading = self.read_anew(alloc, net, alphabet, front)?;
-        set_at(&mut self.readings, front, reading)?;
+        give(&mut self.readings, front, reading)?;
         Ok(reading)
     }
 
@@ -243,7 +234,7 @@ impl<'t> Fronts<'t> {
     {
         let others = self.turn(front, number);
         let next = self.lists.cons(state, others)?;
-        set_at(&mut self.turns, Turn { front, number }, next)
+        self.turns.set(Turn { front, number }, next)
     }
 }
 

@@ -23,10 +23,10 @@ mod look_ups;
 mod matching;
 mod reached;
 mod sets;
+mod slots;
 mod straight;
 mod tables;
-#[cfg(test)]
-mod tests;
+mod turns;
 mod walking;
 mod words;
 

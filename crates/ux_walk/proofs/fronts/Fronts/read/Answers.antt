@@ -1,12 +1,17 @@
-use Rattle.std.proofs.Common.{refl}
+use Rattle.std.proofs.Common.{List, refl, subst, sym}
+use Rattle.std.specs.Prelude.{Option}
 use Rattle.std.proofs.lemmas.Option.{none-some}
+use Rattle.ux_walk.specs.declared.fronts.Reading.{Reading}
+use Rattle.ux_walk.specs.Turns.{HasValue}
 use Rattle.ux_walk.specs.Fronts.{AreNamed}
 use Rattle.ux_walk.proofs.KeptLemmas.{kept_more, later_reading}
 use Rattle.ux_walk.proofs.fronts.Fronts.read.Goals as goal
 
 pub returns-in-Some-clause-read : goal.returns-in-Some-clause-read
 returns-in-Some-clause-read c = λ texts kept.
-    kept.read c.args.front c.in-Some.reading.now ((c.in-Some.ensures c.in-Some.reading.now).0 refl)
+    kept.read c.args.front c.in-Some.reading
+    (subst (λ (l : List (Option Reading)). HasValue l c.args.front c.in-Some.reading)
+    c.deref.ensures.value ((c.in-Some.ensures c.in-Some.reading).0 refl))
 
 pub returns-clause-kept : goal.returns-clause-kept
 returns-clause-kept c = λ texts kept.
@@ -16,14 +21,15 @@ returns-clause-kept c = λ texts kept.
     c.in_ok-reading.reading (record {
       words = c.read_anew.new.self.words;
       lists = c.read_anew.new.self.lists;
-      first = c.read_anew.new.self.first;
       turns = c.read_anew.new.self.turns;
-      readings = c.set_at.new.table;
+      readings = c.give.new.slots;
       left = c.read_anew.new.self.left;
-    }) c.in_ok-set_at.ensures c.requires.named
+    }) c.in_ok-give.ensures c.requires.named
     (c.in_ok-reading.ensures.read texts kept.words named
     (λ number to. kept.unread c.args.front number to
-    (λ r inside. none-some r ((c.in_default.ensures r).1 inside))))
+    (λ r inside. none-some r ((c.in_default.ensures r).1
+    (subst (λ (l : List (Option Reading)). HasValue l c.args.front r)
+    (sym c.deref.ensures.value) inside)))))
 
 pub returns-clause-read : goal.returns-clause-read
 returns-clause-read c = λ texts kept.
@@ -33,18 +39,21 @@ returns-clause-read c = λ texts kept.
     c.in_ok-reading.reading (record {
       words = c.read_anew.new.self.words;
       lists = c.read_anew.new.self.lists;
-      first = c.read_anew.new.self.first;
       turns = c.read_anew.new.self.turns;
-      readings = c.set_at.new.table;
+      readings = c.give.new.slots;
       left = c.read_anew.new.self.left;
-    }) c.in_ok-set_at.ensures c.requires.named
+    }) c.in_ok-give.ensures c.requires.named
     (c.in_ok-reading.ensures.read texts kept.words named
     (λ number to. kept.unread c.args.front number to
-    (λ r inside. none-some r ((c.in_default.ensures r).1 inside)))) c.args.front
+    (λ r inside. none-some r ((c.in_default.ensures r).1
+    (subst (λ (l : List (Option Reading)). HasValue l c.args.front r)
+    (sym c.deref.ensures.value) inside))))) c.args.front
     c.in_ok-reading.reading
     (c.in_ok-reading.ensures.read texts kept.words named
     (λ number to. kept.unread c.args.front number to
-    (λ r inside. none-some r ((c.in_default.ensures r).1 inside))))
+    (λ r inside. none-some r ((c.in_default.ensures r).1
+    (subst (λ (l : List (Option Reading)). HasValue l c.args.front r)
+    (sym c.deref.ensures.value) inside)))))
 
 pub returns-clause-links : goal.returns-clause-links
 returns-clause-links c = λ texts kept.

@@ -1,0 +1,159 @@
+//! What alphabet files say, by rows.
+
+use std::alloc::Global;
+use std::process::Abort;
+use std::test::Fail;
+use ux_alphabet::{Alphabet, AlphabetError};
+
+/// A file, a character, and what it is: an upper-case letter, a lower-case letter.
+type Letter = (&'static str, char, bool, bool);
+
+/// A file, a character of an entry and one of the text, and whether the first fits the second.
+type Fit = (&'static str, char, char, bool);
+
+/// A name, a file, and its refusal.
+type Refusal = (&'static str, &'static str, Option<AlphabetError>);
+
+/// An answer for a file's characters.
+fn compare(rt: &impl Abort, got: bool, want: bool, about: (&str, char)) {
+    assert_eq!(rt; got, want, "{:?} in {:?}", about.1, about.0);
+}
+
+fn compare_refusal(rt: &impl Abort, got: Option<AlphabetError>, row: &Refusal) {
+    assert_eq!(rt; got, row.2, "{}", row.0);
+}
+
+fn check_letter(rt: &impl Abort, alloc: Global, row: &Letter) -> Result<(), AlphabetError> {
+    let alphabet = Alphabet::read(alloc, row.0)?;
+    let about = (row.0, row.1);
+    compare(rt, alphabet.is_upper(row.1), row.2, about);
+    compare(rt, alphabet.is_lower(row.1), row.3, about);
+    compare(rt, alphabet.is_letter(row.1), row.2 || row.3, about);
+    Ok(())
+}
+
+fn check_fit(rt: &impl Abort, alloc: Global, row: &Fit) -> Result<(), AlphabetError> {
+    let alphabet = Alphabet::read(alloc, row.0)?;
+    compare(rt, alphabet.fits(row.1, row.2), row.3, (row.0, row.2));
+    Ok(())
+}
+
+#[test]
+fn reads_an_alphabet_and_answers(rt: HostRuntime) -> Result<(), Fail> {
+    let alphabet = Alphabet::read(rt.alloc(), "Tt\nÉe\n")?;
+    assert!(rt; alphabet.is_letter('t'));
+    assert!(rt; alphabet.is_upper('É'));
+    assert!(rt; alphabet.is_lower('e'));
+    assert!(rt; alphabet.fits('e', 'É'));
+    let none = Alphabet::empty();
+    assert!(rt; !none.is_letter('t'));
+    assert!(rt; none.fits('t', 't'));
+    Ok(())
+}
+
+#[test]
+fn the_first_refused_line_is_named(rt: HostRuntime) {
+    const ROWS: &[Refusal] = &[
+        ("no line", "", None),
+        ("pairs", "Aa\nBb\nZz\n", None),
+        ("carriage returns", "Aa\r\nx\r\n", None),
+        ("blanks alone", " \t \nx", None),
+        ("a range", "#AZ", None),
+        ("a range of one character", "#AA", None),
+        ("the sign alone", "#", None),
+        ("a pair of signs", "##", None),
+        ("a range of signs", "###", None),
+        ("a pair with a blank behind it", "#A ", None),
+        (
+            "a range backwards",
+            "x\n#ZA\n",
+            Some(AlphabetError::EmptyRange { line: 2 }),
+        ),
+        (
+            "three other characters",
+            "\r\n\nabc",
+            Some(AlphabetError::BadLine { line: 3 }),
+        ),
+        (
+            "four characters",
+            "#ABC",
+            Some(AlphabetError::BadLine { line: 1 }),
+        ),
+        (
+            "blanks in front",
+            "  a",
+            Some(AlphabetError::BadLine { line: 1 }),
+        ),
+        (
+            "two refusals",
+            "#ZA\nabc",
+            Some(AlphabetError::EmptyRange { line: 1 }),
+        ),
+    ];
+    for row in ROWS {
+        compare_refusal(&rt, Alphabet::read(rt.alloc(), row.1).err(), row);
+    }
+}
+
+#[test]
+fn lines_make_upper_and_lower_case_letters(rt: HostRuntime) -> Result<(), Fail> {
+    const ROWS: &[Letter] = &[
+        ("", 'a', false, false),
+        ("x", 'x', true, true),
+        ("Aa\r\n", 'A', true, false),
+        ("Aa\r\n", 'a', false, true),
+        ("Aa\nÉé", 'é', false, true),
+        ("#", '#', true, true),
+        ("#AZ", '@', false, false),
+        ("#AZ", 'A', true, true),
+        ("#AZ", 'Z', true, true),
+        ("#AZ", '[', false, false),
+        ("#AZ\n#CD", 'Z', true, true),
+        ("#AC\n#BZ", 'Z', true, true),
+        ("# ~", '!', true, true),
+        ("# ~", ' ', false, false),
+        ("# ~", '{', false, false),
+        ("# ~", '}', false, false),
+        ("{x", '{', false, false),
+        ("{x", 'x', false, true),
+    ];
+    for row in ROWS {
+        check_letter(&rt, rt.alloc(), row)?;
+    }
+    Ok(())
+}
+
+#[test]
+fn a_range_may_span_all_characters(rt: HostRuntime) -> Result<(), Fail> {
+    let alphabet = Alphabet::read(rt.alloc(), "#\u{0}\u{10ffff}")?;
+    const ROWS: &[(char, bool)] = &[
+        ('\u{0}', true),
+        ('\t', false),
+        ('\r', false),
+        ('é', true),
+        ('\u{10ffff}', true),
+    ];
+    for row in ROWS {
+        compare(&rt, alphabet.is_letter(row.0), row.1, ("the range", row.0));
+    }
+    Ok(())
+}
+
+#[test]
+fn an_upper_case_form_fits_one_way(rt: HostRuntime) -> Result<(), Fail> {
+    const ROWS: &[Fit] = &[
+        ("Tt", 't', 'T', true),
+        ("Tt", 'T', 't', false),
+        ("Tt", 't', 't', true),
+        ("", 't', 't', true),
+        ("", 't', 'T', false),
+        ("Ee\nÉe", 'e', 'É', true),
+        ("Ee\nÉe", 'é', 'É', false),
+        ("#AZ\n#az", 'a', 'A', false),
+        ("{x", 'x', '{', true),
+    ];
+    for row in ROWS {
+        check_fit(&rt, rt.alloc(), row)?;
+    }
+    Ok(())
+}

@@ -1,0 +1,94 @@
+//! Grammars of the rows, in a short notation.
+//!
+//! The boxes of a graph stand with a space between. Each is its content, `|`, and the digits of its
+//! targets. In a content `E` is the empty word, `_` a space that must stand there, and `A` or `B` a
+//! call of the first or second graph.
+
+ghost use Rattle.std.specs.Prelude.{◌<◌, IfOk};
+ghost use Rattle.ux_grf.specs.Size.{size_of};
+ghost use Rattle.ux_grf.specs.WellFormed.{IsWellFormed};
+
+use std::alloc::{AllocError, Global};
+use ux_alphabet::Alphabet;
+use ux_grf::{Graph, read_grf};
+use ux_net::{Net, NetError};
+
+/// The line of a box in a graph's file.
+fn box_line(alloc: Global, text: &str) -> Result<String, AllocError> {
+    let mut content = String::new(alloc);
+    let mut targets = String::new(alloc);
+    for sign in text.chars() {
+        match sign {
+            '|' => {},
+            'E' => content.push_str("<E>")?,
+            '_' => content.push_str("\\\" \\\"")?,
+            'A' | 'B' => {
+                content.push(':')?;
+                content.push(sign)?;
+            },
+            '0'..='9' => {
+                targets.push(' ')?;
+                targets.push(sign)?;
+            },
+            _ => content.push(sign)?,
+        }
+    }
+    let count = targets.len() / 2;
+    format!(in alloc; "\"{content}\" 0 0 {count}{targets}\n")
+}
+
+/// A graph's file.
+fn file(alloc: Global, boxes: &str) -> Result<String, AllocError> {
+    let count = boxes.split(' ').count();
+    let mut text = format!(in alloc; "#Unigraph\n#\n{count}\n")?;
+    for drawn in boxes.split(' ') {
+        text.push_str(box_line(alloc, drawn)?.as_str())?;
+    }
+    Ok(text)
+}
+
+/// The graph of a file that isn't long.
+fn graph(alloc: Global, boxes: &str) -> Result<Graph, NetError>
+    ensures formed { IfOk result IsWellFormed }
+    ensures small { IfOk result (λ graph. size_of graph < 4294967296) }
+{
+    let text = file(alloc, boxes)?;
+    if text.len() > 1000 {
+        return Err(NetError::NoMemory);
+    }
+    match read_grf(alloc, text.as_str()) {
+        Ok(graph) => Ok(graph),
+        Err(_) => Err(NetError::NoMemory),
+    }
+}
+
+/// A grammar of one graph, compiled.
+fn one(alloc: Global, first: &str, alphabet: &Alphabet) -> Result<Net, NetError> {
+    let first = graph(alloc, first)?;
+    let mut graphs = Vec::new(alloc);
+    graphs.push((String::from_str(alloc, "A")?, first))?;
+    Net::compile(alloc, graphs, alphabet)
+}
+
+/// A grammar of two graphs, compiled.
+fn two(alloc: Global, first: &str, second: &str, alphabet: &Alphabet) -> Result<Net, NetError> {
+    let first = graph(alloc, first)?;
+    let second = graph(alloc, second)?;
+    let mut graphs = Vec::new(alloc);
+    graphs.push((String::from_str(alloc, "A")?, first))?;
+    graphs.push((String::from_str(alloc, "B")?, second))?;
+    Net::compile(alloc, graphs, alphabet)
+}
+
+/// A grammar of one graph or two, compiled.
+pub(crate) fn compiled(
+    alloc: Global,
+    graphs: &[&str],
+    alphabet: &Alphabet,
+) -> Result<Net, NetError> {
+    match graphs {
+        [first] => one(alloc, first, alphabet),
+        [first, second] => two(alloc, first, second, alphabet),
+        _ => Err(NetError::NoMemory),
+    }
+}

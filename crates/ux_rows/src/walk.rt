@@ -1,0 +1,99 @@
+//! Rows of walks from one position, each over a graph of one box.
+//!
+//! The text is `The`, a space, `cat`, a comma, a space, `x`.
+
+use crate::graphs::compiled;
+use std::alloc::{AllocError, Global};
+use std::process::Abort;
+use std::test::Fail;
+use ux_alphabet::Alphabet;
+use ux_base::{Lst, Mem};
+use ux_net::Net;
+use ux_outputs::Event;
+use ux_tokens::Text;
+use ux_walk::walk;
+
+/// The positions at which walks end, with a space behind each.
+fn ends(alloc: Global, found: &[(usize, Lst<Event>)]) -> Result<String, AllocError> {
+    let mut all = String::new(alloc);
+    for (end, _) in found {
+        let text = format!(in alloc; "{end} ")?;
+        all.push_str(text.as_str())?;
+    }
+    Ok(all)
+}
+
+/// The ends of the walks from a position, or `outside`.
+fn walked(alloc: Global, net: &Net, text: &Text, alphabet: &Alphabet, start: usize) -> Mem<String> {
+    if start > text.len() {
+        return Ok(String::from_str(alloc, "outside")?);
+    }
+    net.is_measured();
+    let found = walk(alloc, net, text, alphabet, start)?;
+    Ok(ends(alloc, &found)?)
+}
+
+/// A name, the content of the box, the position, and the ends.
+type Row = (&'static str, &'static str, usize, &'static str);
+
+fn compare(rt: &impl Abort, row: &Row, got: &str) {
+    assert_eq!(rt; got, row.3, "{}", row.0);
+}
+
+fn compare_walks(rt: &impl Abort, alloc: Global, rows: &[Row]) -> Result<(), Fail> {
+    let alphabet = Alphabet::read(alloc, "Tt\nHh\nEe\nNn\nCc\nAa\n")?;
+    let text = Text::read(alloc, String::from_str(alloc, "The  cat, x")?, &alphabet)?;
+    for row in rows {
+        let boxes = format!(in alloc; "E|2 | {}|1", row.1)?;
+        let net = compiled(alloc, &[boxes.as_str()], &alphabet)?;
+        let got = walked(alloc, &net, &text, &alphabet, row.2)?;
+        compare(rt, row, got.as_str());
+    }
+    Ok(())
+}
+
+#[test]
+fn entries_fit_tokens(rt: HostRuntime) -> Result<(), Fail> {
+    const ROWS: &[Row] = &[
+        ("an upper-case letter of the text", "the", 0, "1 "),
+        ("an upper-case letter of both", "The", 0, "1 "),
+        ("an upper-case letter of the graph", "caT", 2, ""),
+        ("a space is passed over", "cat", 1, "3 "),
+        ("no space is needed", "cat", 2, "3 "),
+        ("another character", ",", 3, "4 "),
+        ("a front of the token", "th", 0, ""),
+        ("more than the token", "then", 0, ""),
+        ("no token behind the end", "x", 6, ""),
+        ("one of two", "cat+the", 0, "1 "),
+    ];
+    compare_walks(&rt, rt.alloc(), ROWS)
+}
+
+#[test]
+fn quoted_texts_are_tokens(rt: HostRuntime) -> Result<(), Fail> {
+    const ROWS: &[Row] = &[
+        ("the same text", "\\\"The\\\"", 0, "1 "),
+        ("behind a space", "\\\"x\\\"", 4, "6 "),
+        ("another case", "\\\"the\\\"", 0, ""),
+    ];
+    compare_walks(&rt, rt.alloc(), ROWS)
+}
+
+#[test]
+fn spaces_are_found_and_shunned(rt: HostRuntime) -> Result<(), Fail> {
+    const ROWS: &[Row] = &[
+        ("a space at the start", "_", 0, ""),
+        ("glue at the start", "#", 0, "0 "),
+        ("a space before a space", "_", 1, "2 "),
+        ("glue before a space", "#", 1, ""),
+        ("a space behind a space", "_", 2, ""),
+        ("glue behind a space", "#", 2, "2 "),
+        ("a space before punctuation", "_", 3, ""),
+        ("glue before punctuation", "#", 3, "3 "),
+        ("a space behind punctuation", "_", 4, "5 "),
+        ("glue behind punctuation", "#", 4, ""),
+        ("a space at the end", "_", 6, ""),
+        ("glue at the end", "#", 6, "6 "),
+    ];
+    compare_walks(&rt, rt.alloc(), ROWS)
+}

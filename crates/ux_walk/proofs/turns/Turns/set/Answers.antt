@@ -1,0 +1,14 @@
+use Rattle.ux_walk.proofs.Results.{on_ok}
+use Rattle.ux_walk.proofs.TurnsLemmas.{set_begins, set_others}
+use Rattle.ux_walk.proofs.turns.Turns.set.Goals as goal
+
+pub returns-then-turn-self-clause-set : goal.returns-then-turn-self-clause-set
+returns-then-turn-self-clause-set c = on_ok c.give.result _ _
+    (set_begins c.args.self.now.first c.args.self.now.begins.items c.give.new.slots.items
+    c.args.self.now.others.entries c.args.turn c.args.next c.if-turn-self.true) c.give.ensures
+
+pub returns-else-turn-self-clause-set : goal.returns-else-turn-self-clause-set
+returns-else-turn-self-clause-set c = on_ok c.set_at.result _ _
+    (set_others c.args.self.now.first c.args.self.now.begins.items
+    c.args.self.now.others.entries c.set_at.new.table.entries c.args.turn c.args.next
+    c.if-turn-self.false) c.set_at.ensures
