@@ -1,0 +1,5 @@
+pub mod Tables
+pub mod Arguments
+pub mod Requests
+pub mod Filling
+pub mod Writing

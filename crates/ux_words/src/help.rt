@@ -1,0 +1,18 @@
+//! What `--help` and `--version` print. Only what the program can do stands here: a command comes
+//! in with its line, and a value of an option with its own.
+
+/// What the program can do: for each command what it reads and writes, then its options.
+pub const HELP: &str = "\
+usage: unitex COMMAND ARGUMENTS
+
+  locate GRAPH TEXT ALPHABET   reads a grammar, a text and its letters, writes the index of all hits
+    --mode ignore              outputs of the grammar are left out (the default)
+    --policy all               every hit is kept (the default)
+  tokenize TEXT ALPHABET       reads a text and its letters, writes its tokens
+
+Options and names of files stand in any order, an option as --name value or --name=value. Behind --
+all words are names of files. --help and --version stand alone.
+";
+
+/// Which program it is.
+pub const VERSION: &str = "unitex 0.1.0\n";

@@ -1,0 +1,137 @@
+//! What is asked for.
+
+ghost use Rattle.std.specs.Prelude.{◌≡◌, map, string_bytes, Some, None, OnOk, IfOk, IsErrOf};
+ghost use Rattle.ux_words.specs.Requests.{request_of, command_request, question_of};
+ghost use Rattle.ux_words.specs.declared.error.WordsError.TheVariants.{Usage};
+
+use crate::arguments::Arguments;
+use crate::building::build;
+use crate::command::Command;
+use crate::error::WordsError;
+use crate::names::Names;
+use crate::options::Options;
+use std::alloc::Global;
+use ux_base::{Lst, Mode, NoVar, Policy, Sort, Txt};
+
+/// A search: the names of its files, and how it is done.
+#[derive(Debug, Drop, PartialEq, Eq)]
+pub struct Search {
+    /// The graph's file.
+    pub graph: Txt,
+    /// The text's file.
+    pub text: Txt,
+    /// The alphabet's file.
+    pub alphabet: Txt,
+    /// The dictionaries' files, in the order of the words.
+    pub dics: Lst<Txt>,
+    /// What becomes of outputs.
+    pub mode: Mode,
+    /// Which hits are kept.
+    pub policy: Policy,
+    /// What an output does without its variable.
+    pub novar: NoVar,
+}
+
+/// What the words ask for.
+#[derive(Debug, Drop, PartialEq, Eq)]
+pub enum Request {
+    /// The places where a graph is found.
+    Locate(Search),
+    /// These places, with so many characters in front and behind.
+    Concord {
+        search: Search,
+        left: u32,
+        right: u32,
+        sort: Sort,
+    },
+    /// The tokens of a text.
+    Tokenize {
+        text: Txt,
+        alphabet: Txt,
+    },
+    /// The number of entries of a dictionary, or of stems.
+    Check {
+        delas: bool,
+        file: Txt,
+    },
+    /// The entries that dictionaries give the words of a text.
+    Dico {
+        text: Txt,
+        alphabet: Txt,
+        dics: Lst<Txt>,
+    },
+    /// A compiled grammar.
+    Fst2 {
+        graph: Txt,
+        alphabet: Txt,
+    },
+    /// The inflected forms of stems.
+    Inflect {
+        stems: Txt,
+    },
+    /// The image of a dictionary.
+    Compress {
+        dic: Txt,
+    },
+    /// The automata of a text's sentences.
+    Tfst {
+        text: Txt,
+        alphabet: Txt,
+        dics: Lst<Txt>,
+    },
+    /// Such automata, thinned by at least one rule.
+    Elag {
+        tfst: Txt,
+        rules: Lst<Txt>,
+    },
+    /// A search in a text of so many words that is made up.
+    Bench {
+        n: u32,
+    },
+    /// What the program can do.
+    Help,
+    /// Which program it is.
+    Version,
+}
+
+impl Request {
+    /// The request of the words behind the program's name.
+    pub fn of(alloc: Global, words: &[String]) -> Result<Request, WordsError>
+        ensures ok { IfOk result (λ request.
+            request_of (map string_bytes words.now) ≡ Some request) }
+        ensures usage { IsErrOf result Usage → request_of (map string_bytes words.now) ≡ None }
+    {
+        match words {
+            [] => Err(WordsError::Usage),
+            [word] => match question(word.as_str()) {
+                Some(request) => Ok(request),
+                None => command_request(alloc, word.as_str(), &[]),
+            },
+            [word, rest @ ..] => command_request(alloc, word.as_str(), rest),
+        }
+    }
+}
+
+/// The question about the program itself that the word is.
+fn question(word: &str) -> Option<Request>
+    ensures { result ≡ question_of word.now }
+{
+    match word {
+        "--help" => Some(Request::Help),
+        "--version" => Some(Request::Version),
+        _ => None,
+    }
+}
+
+/// The request of a command and the words behind it.
+fn command_request(alloc: Global, name: &str, words: &[String]) -> Result<Request, WordsError>
+    ensures ok { IfOk result (λ request.
+        command_request name.now (map string_bytes words.now) ≡ Some request) }
+    ensures usage { IsErrOf result Usage →
+        command_request name.now (map string_bytes words.now) ≡ None }
+{
+    let command = Command::named(name).ok_or(WordsError::Usage)?;
+    let arguments = Arguments::read(alloc, command, words)?;
+    let options = Options::of(&arguments.settings).ok_or(WordsError::Usage)?;
+    build(alloc, command, &options, Names::new(arguments.files))
+}

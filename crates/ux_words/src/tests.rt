@@ -1,0 +1,239 @@
+//! Rows of words, with `|` between them.
+
+use crate::error::WordsError;
+use crate::request::Request;
+use std::alloc::Global;
+use std::process::Abort;
+use std::test::Fail;
+
+fn read(alloc: Global, line: &str) -> Result<Result<Request, WordsError>, Fail> {
+    let mut words = Vec::new(alloc);
+    for word in line.split('|') {
+        words.push(String::from_str(alloc, word)?)?;
+    }
+    Ok(Request::of(alloc, &words))
+}
+
+/// Words, and what they ask for as it is debugged.
+type Asked = (&'static str, &'static str);
+
+fn check_asked(rt: &impl Abort, alloc: Global, row: &Asked) -> Result<(), Fail> {
+    let request = read(alloc, row.0)??;
+    let got = format!(in alloc; "{request:?}")?;
+    assert_eq!(rt; got.as_str(), row.1, "{}", row.0);
+    Ok(())
+}
+
+#[test]
+fn reads_each_command(rt: HostRuntime) -> Result<(), Fail> {
+    const ROWS: &[Asked] = &[
+        (
+            "locate|g|t|a",
+            "Locate(Search { graph: Txt { text: \"g\" }, text: Txt { text: \"t\" }, alphabet: Txt { text: \"a\" }, dics: Lst { items: [] }, mode: Ignore, policy: All, novar: Nothing })",
+        ),
+        (
+            "locate|--novar|--mode=replace|g|t|--policy|shortest|a|d|e",
+            "Locate(Search { graph: Txt { text: \"g\" }, text: Txt { text: \"t\" }, alphabet: Txt { text: \"a\" }, dics: Lst { items: [Txt { text: \"d\" }, Txt { text: \"e\" }] }, mode: Replace, policy: Shortest, novar: Drop })",
+        ),
+        (
+            "concord|g|t|a|--right|0007|--sort=RL",
+            "Concord { search: Search { graph: Txt { text: \"g\" }, text: Txt { text: \"t\" }, alphabet: Txt { text: \"a\" }, dics: Lst { items: [] }, mode: Ignore, policy: All, novar: Nothing }, left: 40, right: 7, sort: RL }",
+        ),
+        (
+            "tokenize|t|a",
+            "Tokenize { text: Txt { text: \"t\" }, alphabet: Txt { text: \"a\" } }",
+        ),
+        (
+            "check|d.udi|--delas",
+            "Check { delas: true, file: Txt { text: \"d.udi\" } }",
+        ),
+        (
+            "dico|t|a|d",
+            "Dico { text: Txt { text: \"t\" }, alphabet: Txt { text: \"a\" }, dics: Lst { items: [Txt { text: \"d\" }] } }",
+        ),
+        (
+            "fst2|g|a",
+            "Fst2 { graph: Txt { text: \"g\" }, alphabet: Txt { text: \"a\" } }",
+        ),
+        ("inflect|s", "Inflect { stems: Txt { text: \"s\" } }"),
+        ("compress|d", "Compress { dic: Txt { text: \"d\" } }"),
+        (
+            "txt2tfst|t|a",
+            "Tfst { text: Txt { text: \"t\" }, alphabet: Txt { text: \"a\" }, dics: Lst { items: [] } }",
+        ),
+        (
+            "elag|f|r|s",
+            "Elag { tfst: Txt { text: \"f\" }, rules: Lst { items: [Txt { text: \"r\" }, Txt { text: \"s\" }] } }",
+        ),
+        ("bench|200000", "Bench { n: 200000 }"),
+        ("--help", "Help"),
+        ("--version", "Version"),
+    ];
+    for row in ROWS {
+        check_asked(&rt, rt.alloc(), row)?;
+    }
+    Ok(())
+}
+
+/// Words, and others that ask for the same; none where they are no request.
+type Row = (&'static str, &'static str);
+
+fn check(rt: &impl Abort, alloc: Global, row: &Row) -> Result<(), Fail> {
+    let got = read(alloc, row.0)?;
+    let want = if row.1.is_empty() {
+        Err(WordsError::Usage)
+    } else {
+        Ok(read(alloc, row.1)??)
+    };
+    assert_eq!(rt; got, want, "{}", row.0);
+    Ok(())
+}
+
+#[test]
+fn reads_every_form_of_an_option(rt: HostRuntime) -> Result<(), Fail> {
+    const ROWS: &[Row] = &[
+        // An option with a value.
+        ("locate|--mode=merge|g|t|a", "locate|g|t|a|--mode|merge"),
+        (
+            "locate|--policy=longest|g|t|a",
+            "locate|g|t|--policy|longest|a",
+        ),
+        ("locate|--mode=ignore|--policy=all|g|t|a", "locate|g|t|a"),
+        ("locate|--mode=merge|--mode=merge|g|t|a", ""),
+        ("locate|--mode|merge|--mode=replace|g|t|a", ""),
+        ("locate|--policy|all|g|t|a|--policy|all", ""),
+        ("locate|--mode=|g|t|a", ""),
+        ("locate|--mode||g|t|a", ""),
+        ("locate|--mode=Merge|g|t|a", ""),
+        ("locate|--mode=merge=|g|t|a", ""),
+        ("locate|--mode|--policy|all|g|t|a", ""),
+        ("locate|--mode|--|g|t|a", ""),
+        ("locate|g|t|a|--mode", ""),
+        ("locate|--mod=merge|g|t|a", ""),
+        ("locate|--modes=merge|g|t|a", ""),
+        ("locate|--pol|all|g|t|a", ""),
+        ("locate|-m|merge|g|t|a", ""),
+        ("locate|-mode=merge|g|t|a", ""),
+        ("locate|--=merge|g|t|a", ""),
+        ("locate|--left=5|g|t|a", ""),
+        ("locate|--delas|g|t|a", ""),
+        // A flag.
+        ("locate|g|t|a|--novar", "locate|--novar|g|t|a"),
+        ("locate|--novar|--novar|g|t|a", ""),
+        ("locate|--novar=|g|t|a", ""),
+        ("locate|--novar=x|g|t|a", ""),
+        ("locate|--no|g|t|a", ""),
+        ("check|--delas|d", "check|d|--delas"),
+        ("check|--delas|d|--delas", ""),
+        ("check|--delas=|d", ""),
+        ("check|--del|d", ""),
+        // Numbers.
+        ("concord|--left=40|--right=0040|g|t|a", "concord|g|t|a"),
+        ("concord|--left|0|g|t|a", "concord|g|t|a|--left=0000"),
+        ("concord|--left=1000|g|t|a", "concord|--left|1000|g|t|a"),
+        ("concord|--left=1001|g|t|a", ""),
+        ("concord|--left=00040|g|t|a", ""),
+        ("concord|--left=|g|t|a", ""),
+        ("concord|--left=+5|g|t|a", ""),
+        ("concord|--left|-5|g|t|a", ""),
+        ("concord|--right=5x|g|t|a", ""),
+        ("concord|--right=5|--right=5|g|t|a", ""),
+        ("concord|--sort=TO|g|t|a", "concord|g|t|a"),
+        ("concord|--sort=to|g|t|a", ""),
+        ("concord|--sort=LC|--sort|LC|g|t|a", ""),
+        (
+            "concord|--mode=merge|g|t|a|--novar",
+            "concord|--novar|--mode|merge|g|t|a",
+        ),
+        ("bench|000005", "bench|5"),
+        ("bench|0", ""),
+        ("bench|200001", ""),
+        ("bench|0000005", ""),
+        ("bench|x", ""),
+        ("bench|--|5", "bench|5"),
+    ];
+    for row in ROWS {
+        check(&rt, rt.alloc(), row)?;
+    }
+    Ok(())
+}
+
+#[test]
+fn reads_names_of_files(rt: HostRuntime) -> Result<(), Fail> {
+    const ROWS: &[Row] = &[
+        // `--`, `-` and the empty word.
+        ("locate|--|g|t|a", "locate|g|t|a"),
+        ("locate|g|--|t|a", "locate|g|t|a"),
+        ("locate|g|t|a|--", "locate|g|t|a"),
+        (
+            "locate|--mode=merge|--|--mode|--novar|--",
+            "locate|--mode|merge|--|--mode|--novar|--",
+        ),
+        ("locate|--|--mode=merge|t", ""),
+        ("locate|-|-|-", "locate|--|-|-|-"),
+        ("tokenize|--|-x|--", "tokenize|--|-x|--"),
+        ("tokenize|-x|a", ""),
+        ("tokenize|--x|t|a", ""),
+        ("locate||t|a", ""),
+        ("locate|g|t|a|", ""),
+        ("locate|--|g|t|", ""),
+        ("tokenize|t|a|--|", ""),
+        // Counts.
+        ("locate|g|t", ""),
+        ("concord|g|t", ""),
+        ("tokenize|t", ""),
+        ("tokenize|t|a|d", ""),
+        ("dico|t", ""),
+        ("dico|t|a", "dico|--|t|a"),
+        ("fst2|g", ""),
+        ("fst2|g|a|x", ""),
+        ("txt2tfst|t", ""),
+        ("check|", ""),
+        ("check|d|e", ""),
+        ("inflect|s|t", ""),
+        ("compress|--", ""),
+        ("compress|d|e", ""),
+        ("elag|f", ""),
+        ("bench|1|2", ""),
+        // Commands.
+        ("", ""),
+        ("locate", ""),
+        ("Locate|g|t|a", ""),
+        ("loc|g|t|a", ""),
+        ("tfst|t|a", ""),
+        ("--|locate|g|t|a", ""),
+        ("--help|locate", ""),
+        ("locate|--help", ""),
+        ("--version|", ""),
+        ("--help=", ""),
+        ("-h", ""),
+    ];
+    for row in ROWS {
+        check(&rt, rt.alloc(), row)?;
+    }
+    Ok(())
+}
+
+#[test]
+fn takes_no_option_where_a_command_has_none(rt: HostRuntime) -> Result<(), Fail> {
+    const ROWS: &[Row] = &[
+        ("tokenize|--mode=merge|t|a", ""),
+        ("dico|--novar|t|a", ""),
+        ("fst2|--policy|all|g|a", ""),
+        ("inflect|--delas|s", ""),
+        ("compress|--delas|d", ""),
+        ("txt2tfst|--sort=TO|t|a", ""),
+        ("elag|--left=5|f|r", ""),
+        ("bench|--right|5|6", ""),
+        ("check|--mode=merge|d", ""),
+    ];
+    for row in ROWS {
+        check(&rt, rt.alloc(), row)?;
+    }
+    Ok(())
+}
+
+#[test]
+fn no_words_are_no_request(rt: HostRuntime) {
+    assert_eq!(rt; Request::of(rt.alloc(), &[]), Err(WordsError::Usage));
+}
