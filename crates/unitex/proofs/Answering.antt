@@ -1,5 +1,5 @@
 -- The index of a net's hits is that of the hits of the grammar from which it was compiled.
-use Rattle.std.proofs.Common.{◌≡◌, ℕ, List, Option, Some, ◌↔◌}
+use Rattle.std.proofs.Common.{ℕ, List, Option, ◌↔◌}
 use Rattle.ux_base.specs.Outside.{Files}
 use Rattle.ux_alphabet.specs.declared.line.Line.{Line}
 use Rattle.ux_tokens.specs.Tokens.{Token}
@@ -14,7 +14,8 @@ use Rattle.ux_walk.proofs.SameDerivations.{same_derivations}
 use Rattle.unitex.specs.Hits.{IsHit}
 use Rattle.unitex.specs.Index.{IsIndex}
 use Rattle.unitex.specs.Reading.{AreFiles}
-use Rattle.unitex.specs.Running.{Asked, IsAnswer}
+use Rattle.unitex.specs.Running.{IsIndexOf}
+use Rattle.ux_words.specs.declared.request.Search.{Search}
 
 module _ (alphabet : List Line) (tokens : List Token) where
   -- grammars that derive the same give the same hits
@@ -49,14 +50,12 @@ module _ (alphabet : List Line) (tokens : List Token) where
     written = index.written;
   }
 
--- the index of the net's hits answers the request
-pub answered : (request : Option Asked) (told : Option Files) (asked : Asked)
-    (alphabet : List Line) (net : List NetGraph) (tokens : List Token) (answer : List ℕ) →
-    request ≡ Some asked → AreFiles asked told alphabet net tokens →
-    IsIndex (IsHit alphabet tokens (net_grammar net)) answer → IsAnswer request told answer
-answered request told asked alphabet net tokens answer is files index = record {
-  asked = asked;
-  is = is;
+-- the index of the net's hits answers the search
+pub answered : (search : Search) (told : Option Files) (alphabet : List Line)
+    (net : List NetGraph) (tokens : List Token) (answer : List ℕ) →
+    AreFiles search told alphabet net tokens →
+    IsIndex (IsHit alphabet tokens (net_grammar net)) answer → IsIndexOf search told answer
+answered search told alphabet net tokens answer files index = record {
   alphabet = alphabet;
   graphs = files.graphs;
   tokens = tokens;

@@ -1,11 +1,14 @@
 -- A run whose files are all accepted ends well, unless a read or a write failed.
 use Rattle.std.proofs.Common.{arith, ◌≡◌, ◌≢◌, ℕ, zero, suc, ◌<◌, ◌≤◌, ◌⊎◌, inl, inr, List, [], ◌∷◌, ◌++◌, Option, Some, Result, Ok, Err, length, take, refl, sym, ap, ◌∙◌, subst}
-use Rattle.std.specs.Prelude.{IsSomeAnd, slice_get}
+use Rattle.std.specs.Prelude.{Contains, IsSomeAnd, slice_get}
 use Rattle.std.proofs.lemmas.Option.{none-some, same_Some, slice_get_within}
 use Rattle.std.proofs.lemmas.Bool.{cases_lt}
 use Rattle.std.proofs.lemmas.List.{take_all}
 use Rattle.ux_base.specs.Outside.{Files, Rose, file_named, MAX}
 use Rattle.ux_base.specs.declared.counts.Counts.{Counts}
+use Rattle.ux_decode.specs.Decoding.{IsTextOf}
+use Rattle.ux_decode.specs.declared.error.DecodeError.{DecodeError}
+use Rattle.ux_decode.proofs.UniqueLemmas.{no_refusal, one_text}
 use Rattle.ux_alphabet.specs.File.{alphabet_of}
 use Rattle.ux_alphabet.specs.declared.line.Line.{Line}
 use Rattle.ux_alphabet.specs.declared.error.AlphabetError.{AlphabetError}
@@ -16,39 +19,43 @@ use Rattle.ux_net.specs.Boxes.{Drawn}
 use Rattle.ux_net.specs.declared.error.NetError.{NetError}
 use Rattle.ux_net.specs.declared.error.NetError.TheVariants as net_error
 use Rattle.ux_net.proofs.RefusingLemmas.{compilable_not_refused}
-use Rattle.ux_tokens.specs.Tokens.{Token}
+use Rattle.ux_tokens.specs.Tokens.{AreTokens, Token}
+use Rattle.ux_tokens.specs.Reading.{OPENING_BRACE}
 use Rattle.ux_tokens.proofs.UniqueLemmas.{tokens_unique}
 use Rattle.unitex.specs.declared.status.Status.{Status}
 use Rattle.unitex.specs.declared.status.Status.TheVariants.{Done, Usage, Absent, Refused, ReadFault, WriteFault, TooLarge, NoMemory}
 use Rattle.unitex.specs.declared.status.Reason.{Reason}
-use Rattle.unitex.specs.declared.status.Reason.TheVariants.{NotYet, Alphabet, Grf, Net, Text, TooManyGraphs}
+use Rattle.unitex.specs.declared.status.Reason.TheVariants.{Decode, Alphabet, Grf, Net, Text, TooManyGraphs}
 use Rattle.unitex.specs.Grammars.{file_of, next_name, MOST_GRAPHS}
-use Rattle.unitex.specs.Running.{Asked, AreRead, Format, IsLong, NamesFile, Stops, StopsGrammar, StopsNet, Explains, Denies, HasText, HasAlphabet, HasGrammar, HasGraph, HasTokens, IsAccepted, IsAnswerable, HasTooManyTokens, RefusesAlphabet, RefusesGraph, RefusesGraphAt, RefusesText, alphabet_format, graph_format, text_format}
+use Rattle.ux_words.specs.declared.request.Request.{Request}
+use Rattle.ux_words.specs.declared.request.Request.TheVariants.{Locate, Concord, Tokenize, Check, Dico, Fst2, Inflect, Compress, Tfst, Elag, Bench, Help, Version}
+use Rattle.ux_words.specs.declared.request.Search.{Search}
+use Rattle.unitex.specs.Running.{AreAccepted, AreRead, AreTokensOf, Format, IsLong, NamesFile, Stops, StopsGrammar, StopsNet, Explains, ExplainsSearch, ExplainsTokens, Denies, HasText, HasAlphabet, HasGrammar, HasGraph, HasTokens, IsAccepted, IsAnswerable, HasTooManyTokens, IsNoText, RefusesAlphabet, RefusesGraph, RefusesGraphAt, RefusesText, alphabet_format, graph_format, text_format}
 use Rattle.unitex.proofs.GraphRefusals.{drawn_not_refused, drawn_once}
 
 module _ (files : Files) (old new : Counts) (sound : Rose old.faults new.faults → ⊥) where
-  -- a file whose text its reader takes is not why a run ends
+  -- a file that its reader takes is not why a run ends
   module _ (format : Format) (name text : List ℕ) (has : HasText (Some files) name text)
-      (taken : (reason : Reason) → format.Refuses text reason → ⊥)
-      (small : format.IsTooLarge text → ⊥) where
-    same_text : (other : List ℕ) → file_named name files ≡ Some other → other ≡ text
-    same_text other found = same_Some other text (sym found ∙ has.bytes)
+      (taken : (reason : Reason) → format.Refuses has.file reason → ⊥)
+      (small : format.IsTooLarge has.file → ⊥) where
+    same_file : (other : List ℕ) → file_named name files ≡ Some other → other ≡ has.file
+    same_file other found = same_Some other has.file (sym found ∙ has.bytes)
 
     not_long : IsLong format name (Some files) old new → ⊥
     not_long (inl long) =
-        let more : MAX < length text =
+        let more : MAX < length has.file =
         subst (λ (o : Option (List ℕ)). IsSomeAnd o (λ t. MAX < length t)) has.bytes long.1 in
         omega (arith, more, has.short)
-    not_long (inr more) = small (subst format.IsTooLarge (same_text more.0 more.1) more.2)
+    not_long (inr more) = small (subst format.IsTooLarge (same_file more.0 more.1) more.2)
 
     only_memory : (status : Status) → Stops format name (Some files) old new status →
         status ≡ NoMemory
     only_memory Done stops = absurd stops
     only_memory Usage stops = absurd stops
-    only_memory (Absent named) stops = absurd (none-some text (sym stops.2 ∙ has.bytes))
+    only_memory (Absent named) stops = absurd (none-some has.file (sym stops.2 ∙ has.bytes))
     only_memory (Refused file reason) stops =
         absurd (taken reason (subst (λ (t : List ℕ). format.Refuses t reason)
-        (same_text stops.1.0 stops.1.1) stops.1.2))
+        (same_file stops.1.0 stops.1.1) stops.1.2))
     only_memory (ReadFault named) stops = absurd (sound stops.1)
     only_memory WriteFault stops = absurd stops
     only_memory (TooLarge file) stops = absurd (not_long stops.1)
@@ -63,47 +70,72 @@ same_Ok : (read : Result (List Line) AlphabetError) (one other : List Line) →
     read ≡ Ok one → read ≡ Ok other → one ≡ other
 same_Ok read one other a b = cc
 
+-- a file has a text or is refused, and not both
+module _ (told : Option Files) (name text : List ℕ) (has : HasText told name text) where
+  decoded : (error : DecodeError) → IsNoText has.file error → ⊥
+  decoded error none = none.not_memory (no_refusal has.file text error has.is none.refuses)
+
+  same_text : (other : List ℕ) → IsTextOf has.file other → other ≡ text
+  same_text other is = one_text has.file other text is has.is
+
 alphabet_taken : (told : Option Files) (name : List ℕ) (alphabet : List Line)
-    (has : HasAlphabet told name alphabet) (reason : Reason) → RefusesAlphabet has.text reason → ⊥
-alphabet_taken told name alphabet has NotYet refused = refused has.has.plain
+    (has : HasAlphabet told name alphabet) (reason : Reason) →
+    RefusesAlphabet has.has.file reason → ⊥
+alphabet_taken told name alphabet has (Decode error) refused =
+    decoded told name has.text has.has error refused
 alphabet_taken told name alphabet has (Alphabet error) refused =
-    read_not_refused (alphabet_of has.text) alphabet error has.lines refused.1
+    read_not_refused (alphabet_of has.text) alphabet error has.lines
+    (ap alphabet_of (sym (same_text told name has.text has.has refused.0 refused.1)) ∙ refused.2)
 alphabet_taken told name alphabet has (Grf error) refused = refused
 alphabet_taken told name alphabet has (Text error) refused = refused
 alphabet_taken told name alphabet has (Net error) refused = refused
 alphabet_taken told name alphabet has TooManyGraphs refused = refused
 
 graph_taken : (told : Option Files) (name : List ℕ) (boxes : List GrfBox)
-    (has : HasGraph told name boxes) (reason : Reason) → RefusesGraph has.text reason → ⊥
-graph_taken told name boxes has NotYet refused = refused has.has.plain
+    (has : HasGraph told name boxes) (reason : Reason) → RefusesGraph has.has.file reason → ⊥
+graph_taken told name boxes has (Decode error) refused =
+    decoded told name has.text has.has error refused
 graph_taken told name boxes has (Alphabet error) refused = refused
 graph_taken told name boxes has (Grf error) refused =
-    drawn_not_refused has.text (record { boxes = boxes }) error has.draws refused.2 refused.1
+    let same = same_text told name has.text has.has refused.0 refused.1 in
+    drawn_not_refused has.text (record { boxes = boxes }) error has.draws refused.3
+    (subst (λ (t : List ℕ). grf.Refuses t error) same refused.2)
 graph_taken told name boxes has (Text error) refused = refused
 graph_taken told name boxes has (Net error) refused = refused
 graph_taken told name boxes has TooManyGraphs refused = refused
 
 graph_taken_at : (n : ℕ) (told : Option Files) (name : List ℕ) (boxes : List GrfBox)
     (has : HasGraph told name boxes) → n < MOST_GRAPHS → (reason : Reason) →
-    RefusesGraphAt n has.text reason → ⊥
+    RefusesGraphAt n has.has.file reason → ⊥
 graph_taken_at n told name boxes has few reason (inl refused) =
     graph_taken told name boxes has reason refused.1
 graph_taken_at n told name boxes has few reason (inr many) = omega (arith, few, many.0)
 
 text_taken : (told : Option Files) (name : List ℕ) (alphabet : List Line) (tokens : List Token)
-    (has : HasTokens told name alphabet tokens) (reason : Reason) → RefusesText has.text reason → ⊥
-text_taken told name alphabet tokens has NotYet refused = refused has.has.plain
+    (has : HasTokens told name alphabet tokens) (reason : Reason) →
+    RefusesText has.has.file reason → ⊥
+text_taken told name alphabet tokens has (Decode error) refused =
+    decoded told name has.text has.has error refused
 text_taken told name alphabet tokens has (Alphabet error) refused = refused
 text_taken told name alphabet tokens has (Grf error) refused = refused
-text_taken told name alphabet tokens has (Text error) refused = has.no_brace refused.2
+text_taken told name alphabet tokens has (Text error) refused =
+    has.no_brace (subst (λ (t : List ℕ). Contains t OPENING_BRACE)
+    (same_text told name has.text has.has refused.0 refused.1) refused.3)
 text_taken told name alphabet tokens has (Net error) refused = refused
 text_taken told name alphabet tokens has TooManyGraphs refused = refused
+
+-- the files are told, so a name has one text
+one_text_of : (files : Files) (name one other : List ℕ) → HasText (Some files) name one →
+    HasText (Some files) name other → one ≡ other
+one_text_of files name one other a b =
+    same_text (Some files) name other b one
+    (subst (λ (f : List ℕ). IsTextOf f one) (same_Some a.file b.file (sym a.bytes ∙ b.bytes)) a.is)
 
 -- one graph is drawn by a file
 same_boxes : (files : Files) (name : List ℕ) (one other : List GrfBox) →
     HasGraph (Some files) name one → HasGraph (Some files) name other → one ≡ other
 same_boxes files name one other a b =
-    let text : b.text ≡ a.text = same_Some b.text a.text (sym b.has.bytes ∙ a.has.bytes) in
+    let text : b.text ≡ a.text = one_text_of files name b.text a.text b.has a.has in
     ap (λ (g : Graph). g.boxes)
     (drawn_once a.text (record { boxes = one }) (record { boxes = other }) a.draws
     (subst (λ (t : List ℕ). grf.IsGraphOf t (record { boxes = other })) text b.draws))
@@ -195,34 +227,41 @@ module _ (files : Files) (word : List ℕ) (graphs : List Drawn)
         mine.has (graph_taken_at n (Some files) (file_of word n stops.name) g.0.boxes mine few)
         (λ (none : ⊥). none) status stops.stops
 
-module _ (asked : Asked) (files : Files)
+module _ (files : Files) (name : List ℕ) (lines : List Line)
+    (has : HasAlphabet (Some files) name lines) where
+  -- the alphabet is the only one
+  same_alphabet : (other : List Line) → HasAlphabet (Some files) name other → lines ≡ other
+  same_alphabet other has_other =
+      let text = one_text_of files name has_other.text has.text has_other.has has.has in
+      same_Ok (alphabet_of has.text) lines other has.lines
+      (ap alphabet_of (sym text) ∙ has_other.lines)
+
+  alphabet_memory : (old new : Counts) → (Rose old.faults new.faults → ⊥) → (status : Status) →
+      Stops alphabet_format name (Some files) old new status → status ≡ NoMemory
+  alphabet_memory old new sound status stops =
+      only_memory files old new sound alphabet_format name has.text has.has
+      (alphabet_taken (Some files) name lines has) (λ (none : ⊥). none) status stops
+
+module _ (files : Files) (name : List ℕ) (lines : List Line) (tokens : List Token)
+    (has : HasTokens (Some files) name lines tokens) where
+  -- nor is a longer list of tokens that of the text
+  no_more : HasTooManyTokens lines has.has.file → ⊥
+  no_more large =
+      let text = same_text (Some files) name has.text has.has large.text large.is in
+      let are = subst (λ (t : List ℕ). AreTokens lines t large.more.0) text large.more.1 in
+      let same = ap length (tokens_unique lines has.text tokens large.more.0 has.are are) in
+      omega (arith, same, has.few, large.more.2)
+
+  text_memory : (old new : Counts) → (Rose old.faults new.faults → ⊥) → (status : Status) →
+      Stops (text_format lines) name (Some files) old new status → status ≡ NoMemory
+  text_memory old new sound status stops =
+      only_memory files old new sound (text_format lines) name has.text has.has
+      (text_taken (Some files) name lines tokens has) no_more status stops
+
+module _ (asked : Search) (files : Files)
     (alphabet : List Line) (graphs : List Drawn) (tokens : List Token)
     (accepted : IsAccepted asked (Some files) alphabet graphs tokens)
     (old new : Counts) (sound : Rose old.faults new.faults → ⊥) where
-  -- the alphabet is the only one
-  same_alphabet : (other : List Line) → HasAlphabet (Some files) asked.alphabet other →
-      alphabet ≡ other
-  same_alphabet other has =
-      let first = accepted.has_alphabet in
-      let text = same_Some has.text first.text (sym has.has.bytes ∙ first.has.bytes) in
-      same_Ok (alphabet_of first.text) alphabet other first.lines
-      (ap alphabet_of (sym text) ∙ has.lines)
-
-  -- nor is a longer list of tokens that of the text
-  no_more : HasTooManyTokens alphabet accepted.has_tokens.text → ⊥
-  no_more large =
-      let has = accepted.has_tokens in
-      let same = ap length (tokens_unique alphabet has.text tokens large.more.0 has.are
-      large.more.1) in
-      omega (arith, same, has.few, large.more.2)
-
-  text_memory : (status : Status) →
-      Stops (text_format alphabet) asked.text (Some files) old new status → status ≡ NoMemory
-  text_memory status stops =
-      let has = accepted.has_tokens in
-      only_memory files old new sound (text_format alphabet) asked.text has.text has.has
-      (text_taken (Some files) asked.text alphabet tokens has) no_more status stops
-
   placed : (error : NetError) (file : List ℕ) → NamesFile asked.graph error file →
       error ≢ net_error.NoMemory
   placed net_error.NoMemory file names e = names
@@ -241,7 +280,7 @@ module _ (asked : Asked) (files : Files)
   net_memory Done refused = absurd refused
   net_memory Usage refused = absurd refused
   net_memory (Absent name) refused = absurd refused
-  net_memory (Refused file NotYet) refused = absurd refused
+  net_memory (Refused file (Decode error)) refused = absurd refused
   net_memory (Refused file (Alphabet error)) refused = absurd refused
   net_memory (Refused file (Grf error)) refused = absurd refused
   net_memory (Refused file (Text error)) refused = absurd refused
@@ -251,35 +290,65 @@ module _ (asked : Asked) (files : Files)
   net_memory (TooLarge file) refused = absurd refused
 
   -- a search whose files are accepted ends early for want of memory alone
-  only_for_memory : (status : Status) → Explains asked (Some files) old new status →
+  search_memory : (status : Status) → ExplainsSearch asked (Some files) old new status →
       status ≡ NoMemory
-  only_for_memory status (inl stops) =
-      let has = accepted.has_alphabet in
-      only_memory files old new sound alphabet_format asked.alphabet has.text has.has
-      (alphabet_taken (Some files) asked.alphabet alphabet has) (λ (none : ⊥). none) status stops
-  only_for_memory status (inr (other, has_other, inl stops)) =
+  search_memory status (inl stops) =
+      alphabet_memory files asked.alphabet alphabet accepted.has_alphabet old new sound status stops
+  search_memory status (inr (other, has_other, inl stops)) =
       grammar_memory files asked.graph graphs accepted.has_grammar old new sound status stops
-  only_for_memory status (inr (other, has_other, inr (others, read, inl refused))) =
+  search_memory status (inr (other, has_other, inr (others, read, inl refused))) =
       net_memory status
       (subst (λ (a : List Line). StopsNet asked.graph a graphs status)
-      (sym (same_alphabet other has_other))
+      (sym (same_alphabet files asked.alphabet alphabet accepted.has_alphabet other has_other))
       (subst (λ (l : List Drawn). StopsNet asked.graph other l status)
       (same_grammar files asked.graph graphs accepted.has_grammar others read) refused))
-  only_for_memory status (inr (other, has_other, inr (others, read, inr (compilable, stops)))) =
-      text_memory status
+  search_memory status (inr (other, has_other, inr (others, read, inr (compilable, stops)))) =
+      text_memory files asked.text alphabet tokens accepted.has_tokens old new sound status
       (subst (λ (a : List Line). Stops (text_format a) asked.text (Some files) old new status)
-      (sym (same_alphabet other has_other)) stops)
+      (sym (same_alphabet files asked.alphabet alphabet accepted.has_alphabet other has_other))
+      stops)
 
-module _ (request : Option Asked) (told : Option Files) (ready : IsAnswerable request told)
+-- and so does the writing of tokens
+tokens_memory : (text alphabet : List ℕ) (files : Files) (lines : List Line) (tokens : List Token)
+    → AreTokensOf (Some files) text alphabet lines tokens → (old new : Counts) →
+    (Rose old.faults new.faults → ⊥) → (status : Status) →
+    ExplainsTokens text alphabet (Some files) old new status → status ≡ NoMemory
+tokens_memory text alphabet files lines tokens accepted old new sound status (inl stops) =
+    alphabet_memory files alphabet lines accepted.has_alphabet old new sound status stops
+tokens_memory text alphabet files lines tokens accepted old new sound status
+    (inr (other, has_other, stops)) =
+    text_memory files text lines tokens accepted.has_tokens old new sound status
+    (subst (λ (a : List Line). Stops (text_format a) text (Some files) old new status)
+    (sym (same_alphabet files alphabet lines accepted.has_alphabet other has_other)) stops)
+
+module _ (files : Files) (old new : Counts) (sound : Rose old.faults new.faults → ⊥) where
+  only_for_memory : (asked : Request) → AreAccepted asked (Some files) → (status : Status) →
+      Explains asked (Some files) old new status → status ≡ NoMemory
+  only_for_memory (Locate what) (alphabet, graphs, tokens, accepted) status explains =
+      search_memory what files alphabet graphs tokens accepted old new sound status explains
+  only_for_memory (Tokenize text alphabet) (lines, tokens, accepted) status explains =
+      tokens_memory text alphabet files lines tokens accepted old new sound status explains
+  only_for_memory (Concord what left right sort) accepted status explains = explains
+  only_for_memory (Check delas file) accepted status explains = explains
+  only_for_memory (Dico text alphabet dics) accepted status explains = explains
+  only_for_memory (Fst2 graph alphabet) accepted status explains = explains
+  only_for_memory (Inflect stems) accepted status explains = explains
+  only_for_memory (Compress dic) accepted status explains = explains
+  only_for_memory (Tfst text alphabet dics) accepted status explains = explains
+  only_for_memory (Elag tfst rules) accepted status explains = explains
+  only_for_memory (Bench n) accepted status explains = explains
+  only_for_memory Help accepted status explains = explains
+  only_for_memory Version accepted status explains = explains
+
+module _ (request : Option Request) (told : Option Files) (ready : IsAnswerable request told)
     (old new : Counts) (faults : Type 0)
     (sound : Rose old.faults new.faults → ⊥) (wrote : faults → ⊥) where
   denied : (status : Status) → Denies request told old new status → status ≡ NoMemory
   denied status denies =
-      let here : Denies (Some ready.asked) (Some ready.files) old new status =
-      subst (λ (files : Option Files). Denies (Some ready.asked) files old new status) ready.tells
-      (subst (λ (r : Option Asked). Denies r told old new status) ready.is denies) in
-      only_for_memory ready.asked ready.files ready.alphabet ready.graphs ready.tokens
-      ready.accepted old new sound status here
+      let here : Explains ready.asked (Some ready.files) old new status =
+      subst (λ (files : Option Files). Explains ready.asked files old new status) ready.tells
+      (subst (λ (r : Option Request). Denies r told old new status) ready.is denies) in
+      only_for_memory ready.files old new sound ready.asked ready.accepted status here
 
   -- where nothing is answered, memory ran out, or the line that says why could not be written
   pub denied_well : {Line : Type 0} (status result : Status) → Denies request told old new status →

@@ -2,6 +2,7 @@ pub mod Answering
 pub mod Collecting
 pub mod Complete
 pub mod Explaining
+pub mod FileRefusals
 pub mod GrammarLemmas
 pub mod GraphRefusals
 pub mod IndexLemmas
@@ -12,3 +13,4 @@ pub mod Rendering
 pub mod RunningExamples
 pub mod Sets
 pub mod TableLemmas
+pub mod TextLemmas

@@ -2,6 +2,7 @@ pub mod Grammars
 pub mod Hits
 pub mod Index
 pub mod Reading
+pub mod Requests
 pub mod Running
 pub mod Searching
 pub mod Spans

@@ -16,8 +16,9 @@ use Rattle.ux_net.specs.declared.error.NetError.{NetError}
 use Rattle.ux_net.specs.declared.error.NetError.TheVariants.{MissingGraph, NotYet, EmptyLoop, LeftRecursion, NoMemory}
 use Rattle.ux_net.specs.declared.net_graph.NetGraph.{NetGraph}
 use Rattle.unitex.specs.declared.status.Status.{Status}
+use Rattle.ux_words.specs.declared.request.Search.{Search}
 use Rattle.unitex.specs.Grammars.{names_after, MOST_GRAPHS}
-use Rattle.unitex.specs.Running.{Asked, AreRead, HasGrammar, IsAccepted, StopsGrammar, StopsNet}
+use Rattle.unitex.specs.Running.{AreRead, HasGrammar, IsAccepted, StopsGrammar, StopsNet}
 
 -- what every graph that is read has: it is well formed, and not too large to be numbered
 pub record IsGivenGraph (graph : Graph) : Type 0 where
@@ -63,8 +64,8 @@ StopsBefore told word alphabet old new status =
     ⊎ ((graphs : List Drawn) × HasGrammar told word graphs × StopsNet word alphabet graphs status)
 
 -- the files of a search, read: the net is that of a grammar whose files are all accepted
-pub record AreFiles (asked : Asked) (told : Option Files) (alphabet : List Line)
+pub record AreFiles (search : Search) (told : Option Files) (alphabet : List Line)
     (net : List NetGraph) (tokens : List Token) : Type 0 where
   pub graphs : List Drawn
-  pub accepted : IsAccepted asked told alphabet graphs tokens
+  pub accepted : IsAccepted search told alphabet graphs tokens
   pub compiles : Compiles alphabet graphs net

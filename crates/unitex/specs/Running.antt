@@ -1,9 +1,12 @@
 -- What a run has to answer, and why it may end otherwise.
-use Rattle.std.specs.Prelude.{◌≡◌, ◌≢◌, ◌⊎◌, ⊤, ℕ, ◌<◌, ◌≤◌, ◌&&◌, ◌==◌, nat_eq, Bool, false, not, if◌then◌else◌, List, [], ◌∷◌, Contains, length, codes, Option, Some, None, IfSome, IsSome, IsSomeAnd, Ok, Err, slice_get, take}
-use Rattle.std.specs.List.{starts_with, ends_with}
-use Rattle.std.specs.Str.{IsUtf8, bytes_eq}
+use Rattle.std.specs.Prelude.{◌≡◌, ◌≢◌, ◌⊎◌, ⊤, ℕ, ◌<◌, ◌≤◌, if◌then◌else◌, List, Contains, length, Option, Some, None, IfSome, IsSome, IsSomeAnd, Ok, Err, slice_get, take}
+use Rattle.std.specs.Str.{bytes_eq}
 use Rattle.ux_base.specs.Outside.{Files, file_named, MAX, Rose}
 use Rattle.ux_base.specs.declared.counts.Counts.{Counts}
+use Rattle.ux_decode.specs.Decoding as decoding
+use Rattle.ux_decode.specs.Decoding.{IsTextOf}
+use Rattle.ux_decode.specs.declared.error.DecodeError.{DecodeError}
+use Rattle.ux_decode.specs.declared.error.DecodeError.TheVariants as decode_error
 use Rattle.ux_alphabet.specs.File.{alphabet_of}
 use Rattle.ux_alphabet.specs.declared.line.Line.{Line}
 use Rattle.ux_grf.specs.File as grf
@@ -17,79 +20,33 @@ use Rattle.ux_net.specs.declared.error.NetError.TheVariants as net_error
 use Rattle.ux_tokens.specs.Tokens.{Token, AreTokens}
 use Rattle.ux_tokens.specs.Reading.{OPENING_BRACE}
 use Rattle.ux_tokens.specs.Reading as reading
+use Rattle.ux_tokens.specs.TokenFile.{token_file}
 use Rattle.ux_tokens.specs.declared.cutting.TheConstants.{MAX_TOKENS}
 use Rattle.ux_tokens.specs.declared.text_error.TextError.TheVariants as text_error
-use Rattle.unitex.specs.declared.request.Request.{Request}
+use Rattle.ux_words.specs.declared.help.TheConstants.{HELP, VERSION}
+use Rattle.ux_words.specs.declared.request.Request.{Request}
+use Rattle.ux_words.specs.declared.request.Request.TheVariants.{Locate, Tokenize, Help, Version}
+use Rattle.ux_words.specs.declared.request.Search.{Search}
 use Rattle.unitex.specs.declared.status.Status.{Status}
 use Rattle.unitex.specs.declared.status.Status.TheVariants.{Done, Usage, Absent, Refused, ReadFault, WriteFault, TooLarge, NoMemory}
 use Rattle.unitex.specs.declared.status.Reason.{Reason}
-use Rattle.unitex.specs.declared.status.Reason.TheVariants.{NotYet, Alphabet, Grf, Net, Text, TooManyGraphs}
+use Rattle.unitex.specs.declared.status.Reason.TheVariants.{Decode, Alphabet, Grf, Net, Text, TooManyGraphs}
 use Rattle.unitex.specs.Grammars.{next_name, file_of, main_name, callee_file, MOST_GRAPHS}
 use Rattle.unitex.specs.Hits.{IsHit}
 use Rattle.unitex.specs.Index.{IsIndex}
 
--- THE REQUEST
-
--- a search, by the names of its files
-pub record Asked : Type 0 where
-  pub graph : List ℕ
-  pub text : List ℕ
-  pub alphabet : List ℕ
-
--- what a request of the program asks for
-abbrev pub asked_by : Request → Asked
-asked_by request = record {
-  graph = request.graph.now;
-  text = request.text.now;
-  alphabet = request.alphabet.now;
-}
-
--- the sign that begins an option
-abbrev pub HYPHEN : ℕ
-HYPHEN = 45
-
--- the word may name a file: it isn't empty and doesn't begin with a hyphen
-abbrev pub is_name : List ℕ → Bool
-is_name [] = false
-is_name (first ∷ rest) = not (first == HYPHEN)
-
--- the word may name a graph that is drawn, and no compiled one
-abbrev pub is_graph_name : List ℕ → Bool
-is_graph_name word = is_name word && not (ends_with nat_eq word (codes ".fst2"))
-
--- what four words ask for: a search, where they are `locate` and three names
-abbrev pub search_of : (command graph text alphabet : List ℕ) → Option Asked
-search_of command graph text alphabet =
-    if bytes_eq command (codes "locate")
-    && (is_graph_name graph && (is_name text && is_name alphabet))
-    then Some (record { graph = graph; text = text; alphabet = alphabet })
-    else None
-
--- what the words ask for
-abbrev pub request_of : List (List ℕ) → Option Asked
-request_of (command ∷ graph ∷ text ∷ alphabet ∷ []) = search_of command graph text alphabet
-request_of words = None
-
 -- WHAT IS ACCEPTED
-
--- the mark in front of some files of UTF-8
-abbrev pub BYTE_ORDER_MARK : List ℕ
-BYTE_ORDER_MARK = 239 ∷ 187 ∷ 191 ∷ []
-
--- the bytes are UTF-8 without a byte order mark
-pub record IsPlain (bytes : List ℕ) : Type 0 where
-  pub utf8 : IsUtf8 bytes
-  pub unmarked : starts_with nat_eq bytes BYTE_ORDER_MARK ≡ false
 
 -- the file of this name has these bytes, where the files are told
 abbrev pub HasBytes : Option Files → List ℕ → List ℕ → Type 0
 HasBytes told name bytes = IfSome told (λ files. file_named name files ≡ Some bytes)
 
--- the file has this text, and isn't too long
+-- the file has this text, in the encoding that its mark names, and isn't too long
 pub record HasText (told : Option Files) (name text : List ℕ) : Type 0 where
-  pub bytes : HasBytes told name text
-  pub short : length text ≤ MAX
-  pub plain : IsPlain text
+  pub file : List ℕ
+  pub bytes : HasBytes told name file
+  pub short : length file ≤ MAX
+  pub is : IsTextOf file text
 
 -- the alphabet's file has these lines
 pub record HasAlphabet (told : Option Files) (name : List ℕ) (alphabet : List Line) : Type 0 where
@@ -130,33 +87,64 @@ pub record HasTokens (told : Option Files) (name : List ℕ) (alphabet : List Li
   pub few : length tokens ≤ MAX_TOKENS
 
 -- each file of the search is accepted, and the grammar has a meaning
-pub record IsAccepted (asked : Asked) (told : Option Files) (alphabet : List Line)
+pub record IsAccepted (search : Search) (told : Option Files) (alphabet : List Line)
     (graphs : List Drawn) (tokens : List Token) : Type 0 where
-  pub has_alphabet : HasAlphabet told asked.alphabet alphabet
-  pub has_grammar : HasGrammar told asked.graph graphs
+  pub has_alphabet : HasAlphabet told search.alphabet alphabet
+  pub has_grammar : HasGrammar told search.graph graphs
   pub compilable : IsCompilable alphabet graphs
-  pub has_tokens : HasTokens told asked.text alphabet tokens
+  pub has_tokens : HasTokens told search.text alphabet tokens
 
--- the text is the answer to the request: the index of the grammar's hits in the text
-pub record IsAnswer (request : Option Asked) (told : Option Files) (answer : List ℕ) : Type 0 where
-  pub asked : Asked
-  pub is : request ≡ Some asked
+-- the files of a text and its letters are accepted
+pub record AreTokensOf (told : Option Files) (name alphabet : List ℕ) (lines : List Line)
+    (tokens : List Token) : Type 0 where
+  pub has_alphabet : HasAlphabet told alphabet lines
+  pub has_tokens : HasTokens told name lines tokens
+
+-- the answer is the index of the grammar's hits in the text
+pub record IsIndexOf (search : Search) (told : Option Files) (answer : List ℕ) : Type 0 where
   pub alphabet : List Line
   pub graphs : List Drawn
   pub tokens : List Token
-  pub accepted : IsAccepted asked told alphabet graphs tokens
+  pub accepted : IsAccepted search told alphabet graphs tokens
   pub index : IsIndex (IsHit alphabet tokens (box_grammar alphabet graphs)) answer
 
--- the folder tells its files, and each file of the request is accepted
-pub record IsAnswerable (request : Option Asked) (told : Option Files) : Type 0 where
-  pub asked : Asked
+-- the answer is the token file of the text
+pub record IsTokenFileOf (told : Option Files) (name alphabet answer : List ℕ) : Type 0 where
+  pub lines : List Line
+  pub tokens : List Token
+  pub accepted : AreTokensOf told name alphabet lines tokens
+  pub is : answer ≡ token_file tokens
+
+-- what answers a request
+abbrev pub Answers : Request → Option Files → List ℕ → Type 0
+Answers (Locate asked) told answer = IsIndexOf asked told answer
+Answers (Tokenize text alphabet) told answer = IsTokenFileOf told text alphabet answer
+Answers Help told answer = answer ≡ HELP.now
+Answers Version told answer = answer ≡ VERSION.now
+Answers request told answer = ⊥
+
+-- the words are a request, and this is its answer
+pub record IsAnswer (request : Option Request) (told : Option Files) (answer : List ℕ) :
+    Type 0 where
+  pub asked : Request
+  pub is : request ≡ Some asked
+  pub answers : Answers asked told answer
+
+-- all files of the request are accepted
+abbrev pub AreAccepted : Request → Option Files → Type 0
+AreAccepted (Locate asked) told = (alphabet : List Line) × (graphs : List Drawn)
+    × (tokens : List Token) × IsAccepted asked told alphabet graphs tokens
+AreAccepted (Tokenize text alphabet) told =
+    (lines : List Line) × (tokens : List Token) × AreTokensOf told text alphabet lines tokens
+AreAccepted request told = ⊤
+
+-- the words are a request, the folder tells its files, and those of the request are accepted
+pub record IsAnswerable (request : Option Request) (told : Option Files) : Type 0 where
+  pub asked : Request
   pub is : request ≡ Some asked
   pub files : Files
   pub tells : told ≡ Some files
-  pub alphabet : List Line
-  pub graphs : List Drawn
-  pub tokens : List Token
-  pub accepted : IsAccepted asked (Some files) alphabet graphs tokens
+  pub accepted : AreAccepted asked (Some files)
 
 -- WHY NOTHING IS ANSWERED
 
@@ -165,71 +153,79 @@ pub record Format : Type 1 where
   pub Refuses : List ℕ → Reason → Type 0
   pub IsTooLarge : List ℕ → Type 0
 
--- why a file is no plain text
-abbrev pub RefusesPlain : List ℕ → Reason → Type 0
-RefusesPlain text NotYet = ¬ IsPlain text
-RefusesPlain text (Alphabet error) = ⊥
-RefusesPlain text (Grf error) = ⊥
-RefusesPlain text (Text error) = ⊥
-RefusesPlain text (Net error) = ⊥
-RefusesPlain text TooManyGraphs = ⊥
+-- the file has no text in the encoding that its mark names
+pub record IsNoText (file : List ℕ) (error : DecodeError) : Type 0 where
+  pub refuses : decoding.Refuses file error
+  pub not_memory : error ≢ decode_error.NoMemory
+
+-- why a file has no text
+abbrev pub RefusesFile : (file : List ℕ) → Reason → Type 0
+RefusesFile file (Decode error) = IsNoText file error
+RefusesFile file (Alphabet error) = ⊥
+RefusesFile file (Grf error) = ⊥
+RefusesFile file (Text error) = ⊥
+RefusesFile file (Net error) = ⊥
+RefusesFile file TooManyGraphs = ⊥
 
 -- why a file is no alphabet
-abbrev pub RefusesAlphabet : List ℕ → Reason → Type 0
-RefusesAlphabet text NotYet = ¬ IsPlain text
-RefusesAlphabet text (Alphabet error) = IsPlain text × (alphabet_of text ≡ Err error)
-RefusesAlphabet text (Grf error) = ⊥
-RefusesAlphabet text (Text error) = ⊥
-RefusesAlphabet text (Net error) = ⊥
-RefusesAlphabet text TooManyGraphs = ⊥
+abbrev pub RefusesAlphabet : (file : List ℕ) → Reason → Type 0
+RefusesAlphabet file (Decode error) = IsNoText file error
+RefusesAlphabet file (Alphabet error) =
+    (text : List ℕ) × IsTextOf file text × (alphabet_of text ≡ Err error)
+RefusesAlphabet file (Grf error) = ⊥
+RefusesAlphabet file (Text error) = ⊥
+RefusesAlphabet file (Net error) = ⊥
+RefusesAlphabet file TooManyGraphs = ⊥
 
 -- why a file is no graph
-abbrev pub RefusesGraph : List ℕ → Reason → Type 0
-RefusesGraph text NotYet = ¬ IsPlain text
-RefusesGraph text (Alphabet error) = ⊥
-RefusesGraph text (Grf error) = IsPlain text × grf.Refuses text error × (error ≢ grf_error.NoMemory)
-RefusesGraph text (Text error) = ⊥
-RefusesGraph text (Net error) = ⊥
-RefusesGraph text TooManyGraphs = ⊥
+abbrev pub RefusesGraph : (file : List ℕ) → Reason → Type 0
+RefusesGraph file (Decode error) = IsNoText file error
+RefusesGraph file (Alphabet error) = ⊥
+RefusesGraph file (Grf error) =
+    (text : List ℕ) × IsTextOf file text × grf.Refuses text error × (error ≢ grf_error.NoMemory)
+RefusesGraph file (Text error) = ⊥
+RefusesGraph file (Net error) = ⊥
+RefusesGraph file TooManyGraphs = ⊥
 
 -- why the file of the graph behind so many others is refused: one more than there may be is refused
 -- whatever it holds
-abbrev pub RefusesGraphAt : ℕ → List ℕ → Reason → Type 0
-RefusesGraphAt n text reason =
-    ((n < MOST_GRAPHS) × RefusesGraph text reason)
+abbrev pub RefusesGraphAt : ℕ → (file : List ℕ) → Reason → Type 0
+RefusesGraphAt n file reason =
+    ((n < MOST_GRAPHS) × RefusesGraph file reason)
     ⊎ ((MOST_GRAPHS ≤ n) × (reason ≡ TooManyGraphs))
 
 -- why a file is no text of tokens
-abbrev pub RefusesText : List ℕ → Reason → Type 0
-RefusesText text NotYet = ¬ IsPlain text
-RefusesText text (Alphabet error) = ⊥
-RefusesText text (Grf error) = ⊥
-RefusesText text (Text error) =
-    IsPlain text × (error ≡ text_error.NotYet) × Contains text OPENING_BRACE
-RefusesText text (Net error) = ⊥
-RefusesText text TooManyGraphs = ⊥
+abbrev pub RefusesText : (file : List ℕ) → Reason → Type 0
+RefusesText file (Decode error) = IsNoText file error
+RefusesText file (Alphabet error) = ⊥
+RefusesText file (Grf error) = ⊥
+RefusesText file (Text error) = (text : List ℕ) × IsTextOf file text
+    × (error ≡ text_error.NotYet) × Contains text OPENING_BRACE
+RefusesText file (Net error) = ⊥
+RefusesText file TooManyGraphs = ⊥
 
--- the text has more tokens than a text may have
-pub record HasTooManyTokens (alphabet : List Line) (text : List ℕ) : Type 0 where
-  pub plain : IsPlain text
+-- the file's text has more tokens than a text may have
+pub record HasTooManyTokens (alphabet : List Line) (file : List ℕ) : Type 0 where
+  pub text : List ℕ
+  pub is : IsTextOf file text
   pub no_brace : ¬ Contains text OPENING_BRACE
   pub more : reading.HasTooManyTokens alphabet text
 
 -- any bytes
 abbrev pub bytes_format : Format
-bytes_format = record { Refuses = λ text reason. ⊥; IsTooLarge = λ text. ⊥ }
+bytes_format = record { Refuses = λ file reason. ⊥; IsTooLarge = λ file. ⊥ }
 
--- bytes that are UTF-8 without a byte order mark
-abbrev pub plain_format : Format
-plain_format = record { Refuses = RefusesPlain; IsTooLarge = λ text. ⊥ }
+-- files that have a text
+abbrev pub file_format : Format
+file_format = record { Refuses = RefusesFile; IsTooLarge = λ file. ⊥ }
 
 -- alphabet files
 abbrev pub alphabet_format : Format
-alphabet_format = record { Refuses = RefusesAlphabet; IsTooLarge = λ text. ⊥ }
+alphabet_format = record { Refuses = RefusesAlphabet; IsTooLarge = λ file. ⊥ }
 
 -- the file of the graph behind so many others
 abbrev pub graph_format : ℕ → Format
-graph_format n = record { Refuses = RefusesGraphAt n; IsTooLarge = λ text. ⊥ }
+graph_format n = record { Refuses = RefusesGraphAt n; IsTooLarge = λ file. ⊥ }
 
 -- texts, which are cut by the letters of an alphabet
 abbrev pub text_format : List Line → Format
@@ -250,8 +246,8 @@ pub record NoneFell (old new : Counts) : Type 0 where
 abbrev pub IsLong : Format → List ℕ → Option Files → Counts → Counts → Type 0
 IsLong format name told old new =
     (Rose old.overlong new.overlong
-    × IfSome told (λ files. IsSomeAnd (file_named name files) (λ text. MAX < length text)))
-    ⊎ ((text : List ℕ) × HasBytes told name text × format.IsTooLarge text)
+    × IfSome told (λ files. IsSomeAnd (file_named name files) (λ file. MAX < length file)))
+    ⊎ ((file : List ℕ) × HasBytes told name file × format.IsTooLarge file)
 
 -- Why the file of this name is not read. Where the files are told, they show it; a count of the
 -- folder shows what the folder itself answered.
@@ -261,11 +257,11 @@ Stops format name told old new Usage = ⊥
 Stops format name told old new (Absent named) =
     (named ≡ name) × Rose old.misses new.misses
     × IfSome told (λ files. file_named name files ≡ None)
-Stops format name told old new (Refused file reason) =
-    (file ≡ name) × ((text : List ℕ) × HasBytes told name text × format.Refuses text reason)
+Stops format name told old new (Refused named reason) =
+    (named ≡ name) × ((file : List ℕ) × HasBytes told name file × format.Refuses file reason)
 Stops format name told old new (ReadFault named) = (named ≡ name) × Rose old.faults new.faults
 Stops format name told old new WriteFault = ⊥
-Stops format name told old new (TooLarge file) = (file ≡ name) × IsLong format name told old new
+Stops format name told old new (TooLarge named) = (named ≡ name) × IsLong format name told old new
 Stops format name told old new NoMemory = ⊤
 
 -- the file of a graph that is behind those that were read stops the reading
@@ -299,29 +295,44 @@ StopsNet word alphabet graphs NoMemory = ⊤
 StopsNet word alphabet graphs status = ⊥
 
 -- behind the alphabet, a graph's file is not accepted, or else the grammar or the text is not
-abbrev pub StopsLater : Asked → List Line → Option Files → Counts → Counts → Status → Type 0
-StopsLater asked alphabet told old new status =
-    StopsGrammar told asked.graph old new status
-    ⊎ ((graphs : List Drawn) × HasGrammar told asked.graph graphs
-    × (StopsNet asked.graph alphabet graphs status
+abbrev pub StopsLater : Search → List Line → Option Files → Counts → Counts → Status → Type 0
+StopsLater search alphabet told old new status =
+    StopsGrammar told search.graph old new status
+    ⊎ ((graphs : List Drawn) × HasGrammar told search.graph graphs
+    × (StopsNet search.graph alphabet graphs status
     ⊎ (IsCompilable alphabet graphs
-    × Stops (text_format alphabet) asked.text told old new status)))
+    × Stops (text_format alphabet) search.text told old new status)))
 
 -- Why a search is not begun: the first of its files that is not accepted stops it. The alphabet is
 -- read first, then the graphs, then the text.
-abbrev pub Explains : Asked → Option Files → Counts → Counts → Status → Type 0
-Explains asked told old new status =
-    Stops alphabet_format asked.alphabet told old new status
-    ⊎ ((alphabet : List Line) × HasAlphabet told asked.alphabet alphabet
-    × StopsLater asked alphabet told old new status)
+abbrev pub ExplainsSearch : Search → Option Files → Counts → Counts → Status → Type 0
+ExplainsSearch search told old new status =
+    Stops alphabet_format search.alphabet told old new status
+    ⊎ ((alphabet : List Line) × HasAlphabet told search.alphabet alphabet
+    × StopsLater search alphabet told old new status)
 
--- why words are not answered
-abbrev pub Denies : Option Asked → Option Files → Counts → Counts → Status → Type 0
-Denies None told old new status = status ≡ Usage
+-- Why the tokens of a text are not written: the alphabet is read first, then the text.
+abbrev pub ExplainsTokens : (text alphabet : List ℕ) → Option Files → Counts → Counts → Status →
+    Type 0
+ExplainsTokens text alphabet told old new status =
+    Stops alphabet_format alphabet told old new status
+    ⊎ ((lines : List Line) × HasAlphabet told alphabet lines
+    × Stops (text_format lines) text told old new status)
+
+-- why a request is not answered: one without files is, unless memory runs out
+abbrev pub Explains : Request → Option Files → Counts → Counts → Status → Type 0
+Explains (Locate asked) told old new status = ExplainsSearch asked told old new status
+Explains (Tokenize text alphabet) told old new status =
+    ExplainsTokens text alphabet told old new status
+Explains request told old new status = status ≡ NoMemory
+
+-- why words are not answered: they are no request, or the request has no answer
+abbrev pub Denies : Option Request → Option Files → Counts → Counts → Status → Type 0
+Denies None told old new status = (status ≡ Usage) ⊎ (status ≡ NoMemory)
 Denies (Some asked) told old new status = Explains asked told old new status
 
 -- How a run ends. The faults are those of the sinks.
-abbrev pub EndsBy : Option Asked → Option Files → Counts → Counts → (faults : Type 0) →
+abbrev pub EndsBy : Option Request → Option Files → Counts → Counts → (faults : Type 0) →
     Status → Type 0
 EndsBy request told old new faults Done = IsSome request
 EndsBy request told old new faults Usage = request ≡ None

@@ -132,9 +132,7 @@ fn read_graph<F: Folder>(
     if count >= MAX_GRAPHS {
         return Err(refused(alloc, name, Reason::TooManyGraphs));
     }
-    let Some(text) = decoded(bytes) else {
-        return Err(refused(alloc, name, Reason::NotYet));
-    };
+    let text = decoded(alloc, name, bytes)?;
     match read_grf(alloc, text.as_str()) {
         Ok(graph) => Ok(graph),
         Err(GrfError::NoMemory) => Err(Status::NoMemory),

@@ -1,23 +1,27 @@
-//! The files of a request, read in their order: the alphabet, the graphs, the text.
+//! The files of a request, read in their order: of a search the alphabet, the graphs, the text.
 //!
 //! Each is read, decoded and given to its format's reader before the next is looked at, so the
 //! first that isn't accepted ends the run.
 
-ghost use Rattle.std.specs.Prelude.{◌≡◌, ◌⊎◌, ℕ, ◌≤◌, Ok, IfOk, IfErr, IfSome, IfNone, length, string_bytes};
+ghost use Rattle.std.specs.Prelude.{◌≡◌, ◌⊎◌, ℕ, ◌≤◌, ◌*◌, List, Ok, IfOk, IfErr, length, string_bytes};
+ghost use Rattle.ux_alphabet.specs.declared.line.Line.{Line};
+ghost use Rattle.ux_decode.specs.Decoding.{IsTextOf};
+ghost use Rattle.ux_decode.specs.declared.error.DecodeError.{DecodeError};
 ghost use Rattle.ux_base.specs.Outside.{MAX};
 ghost use Rattle.unitex.specs.Reading.{AreFiles, HasNet, StopsBefore};
-ghost use Rattle.unitex.specs.Running.{asked_by, counts_of, IsPlain, HasBytes, HasText, HasAlphabet, HasTokens, NoneFell, Stops, Explains, alphabet_format, text_format, bytes_format, plain_format};
+ghost use Rattle.unitex.specs.Running.{AreTokensOf, counts_of, HasBytes, HasText, HasAlphabet, HasTokens, IsNoText, NoneFell, Stops, ExplainsSearch, ExplainsTokens, alphabet_format, text_format, bytes_format, file_format};
 
 use crate::graphs::{compile, read_graphs};
-use crate::request::Request;
 use crate::status::{Reason, Status};
 use std::alloc::{AllocError, Global};
 use ux_alphabet::{Alphabet, AlphabetError};
 use ux_base::{Folder, FolderError, Txt};
+use ux_decode::{DecodeError, decode};
 use ux_net::Net;
 use ux_tokens::{Text, TextError};
+use ux_words::Search;
 
-/// A request's files, each as its reader gives it.
+/// A search's files, each as its reader gives it.
 #[derive(Debug, Drop)]
 pub struct Files {
     /// The letters.
@@ -28,31 +32,51 @@ pub struct Files {
     pub text: Text,
 }
 
-/// Reads the request's files, or says how the run ends.
+/// Reads the search's files, or says how the run ends.
 #[tactic(auto, using(crate::proofs::Explaining::none_fell_both))]
 pub fn read_files<F: Folder>(
     alloc: Global,
-    request: Request<'_>,
+    search: &Search,
     folder: &mut F,
 ) -> Result<Files, Status>
     ensures kept { F.files folder.new ≡ F.files folder.old }
     ensures counts { NoneFell (counts_of F.faults F.misses F.overlong folder.old)
         (counts_of F.faults F.misses F.overlong folder.new) }
     ensures ok { IfOk result (λ files.
-        AreFiles (asked_by request.entry) (F.files folder.old)
+        AreFiles search.now (F.files folder.old)
         files.alphabet files.net files.text) }
-    ensures err { IfErr result (Explains (asked_by request.entry) (F.files folder.old)
+    ensures err { IfErr result (ExplainsSearch search.now (F.files folder.old)
         (counts_of F.faults F.misses F.overlong folder.old)
         (counts_of F.faults F.misses F.overlong folder.new)) }
 {
-    let alphabet = read_alphabet(alloc, request.alphabet, folder)?;
-    let net = read_net(alloc, request.graph, &alphabet, folder)?;
-    let text = read_text(alloc, request.text, &alphabet, folder)?;
+    let alphabet = read_alphabet(alloc, search.alphabet.as_str(), folder)?;
+    let net = read_net(alloc, search.graph.as_str(), &alphabet, folder)?;
+    let text = read_text(alloc, search.text.as_str(), &alphabet, folder)?;
     Ok(Files {
         alphabet,
         net,
         text,
     })
+}
+
+/// Reads a text and its letters, and gives the text's tokens, or says how the run ends.
+pub fn read_tokens<F: Folder>(
+    alloc: Global,
+    text: &str,
+    alphabet: &str,
+    folder: &mut F,
+) -> Result<Text, Status>
+    ensures kept { F.files folder.new ≡ F.files folder.old }
+    ensures counts { NoneFell (counts_of F.faults F.misses F.overlong folder.old)
+        (counts_of F.faults F.misses F.overlong folder.new) }
+    ensures ok { IfOk result (λ tokens. (lines : List Line)
+        × AreTokensOf (F.files folder.old) text.now alphabet.now lines tokens) }
+    ensures err { IfErr result (ExplainsTokens text.now alphabet.now (F.files folder.old)
+        (counts_of F.faults F.misses F.overlong folder.old)
+        (counts_of F.faults F.misses F.overlong folder.new)) }
+{
+    let alphabet = read_alphabet(alloc, alphabet, folder)?;
+    read_text(alloc, text, &alphabet, folder)
 }
 
 /// Reads the alphabet's file.
@@ -116,21 +140,18 @@ fn read_text<F: Folder>(
     }
 }
 
-/// Reads a file and decodes it as UTF-8 without a byte order mark.
+/// Reads a file, and decodes it.
 fn read_decoded<F: Folder>(alloc: Global, name: &str, folder: &mut F) -> Result<String, Status>
     ensures kept { F.files folder.new ≡ F.files folder.old }
     ensures counts { NoneFell (counts_of F.faults F.misses F.overlong folder.old)
         (counts_of F.faults F.misses F.overlong folder.new) }
     ensures ok { IfOk result (λ text. HasText (F.files folder.old) name.now (string_bytes text)) }
-    ensures err { IfErr result (Stops plain_format name.now (F.files folder.old)
+    ensures err { IfErr result (Stops file_format name.now (F.files folder.old)
         (counts_of F.faults F.misses F.overlong folder.old)
         (counts_of F.faults F.misses F.overlong folder.new)) }
 {
     let bytes = read_bytes(alloc, name, folder)?;
-    match decoded(bytes) {
-        Some(text) => Ok(text),
-        None => Err(refused(alloc, name, Reason::NotYet)),
-    }
+    decoded(alloc, name, bytes)
 }
 
 /// The bytes of a file.
@@ -153,21 +174,18 @@ pub fn read_bytes<F: Folder>(alloc: Global, name: &str, folder: &mut F) -> Resul
     }
 }
 
-/// The text of the bytes, if they are UTF-8 without a byte order mark.
-pub fn decoded(bytes: Vec<u8>) -> Option<String>
-    ensures some { IfSome result (λ text. string_bytes text ≡ bytes.items) }
-    ensures plain { IfSome result (λ text. IsPlain bytes.items) }
-    ensures none { IfNone result (¬ IsPlain bytes.items) }
+/// The text of a file's bytes.
+pub fn decoded(alloc: Global, name: &str, bytes: Vec<u8>) -> Result<String, Status>
+    ensures ok { IfOk result (λ text. IsTextOf bytes.items (string_bytes text)) }
+    ensures size { IfOk result (λ text. 2 * length (string_bytes text) ≤ 3 * length bytes.items) }
+    ensures err { IfErr result (λ status. (status ≡ Status.NoMemory)
+        ⊎ ((error : DecodeError) × IsNoText bytes.items error
+        × (status ≡ Status.Refused name.now (Reason.Decode error)))) }
 {
-    if bytes.as_slice().starts_with(b"\xef\xbb\xbf") {
-        return None;
-    }
-    match String::from_utf8(bytes) {
-        Ok(text) => {
-            let _text = text.as_str();
-            Some(text)
-        },
-        Err(_) => None,
+    match decode(alloc, bytes) {
+        Ok(text) => Ok(text),
+        Err(DecodeError::NoMemory) => Err(Status::NoMemory),
+        Err(error) => Err(refused(alloc, name, Reason::Decode(error))),
     }
 }
 

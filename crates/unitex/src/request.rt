@@ -1,68 +1,88 @@
-//! What the words of the command line ask for.
+//! What the words of the command line ask for, where that is built.
 
-ghost use Rattle.std.specs.Prelude.{◌≡◌, map, option_map, string_bytes};
-ghost use Rattle.unitex.specs.Running.{asked_by, request_of, is_graph_name, is_name, search_of};
+ghost use Rattle.std.specs.Prelude.{◌≡◌, ◌⊎◌, Some, None, IfErr, IfOk, map, string_bytes};
+ghost use Rattle.unitex.specs.Requests.{is_all, is_built, is_built_search, is_drawn, is_ignore, is_nothing, request_of};
 
-/// A search: the names of its files.
-#[derive(Clone, Copy, Debug)]
-pub struct Request<'a> {
-    /// The graph's file.
-    pub graph: &'a str,
-    /// The text's file.
-    pub text: &'a str,
-    /// The alphabet's file.
-    pub alphabet: &'a str,
-}
+use crate::status::Status;
+use std::alloc::Global;
+use ux_base::{Mode, NoVar, Policy};
+use ux_words::{Request, Search, WordsError};
 
-/// The request of the words `locate GRAPH TEXT ALPHABET`, if they are one: no file's name is empty
-/// or begins with `-`, and the graph's doesn't end in `.fst2`.
-pub fn request_of(words: &[String]) -> Option<Request<'_>>
-    ensures { option_map asked_by result ≡ request_of (map string_bytes words.now) }
+/// The request of the words, if they are one that is built.
+pub fn read_request(alloc: Global, words: &[String]) -> Result<Request, Status>
+    ensures ok { IfOk result (λ request.
+        request_of (map string_bytes words.now) ≡ Some request) }
+    ensures err { IfErr result (λ status. (status ≡ Status.NoMemory)
+        ⊎ ((status ≡ Status.Usage) × (request_of (map string_bytes words.now) ≡ None))) }
 {
-    match words {
-        [command, graph, text, alphabet] => search_of(
-            command.as_str(),
-            graph.as_str(),
-            text.as_str(),
-            alphabet.as_str(),
-        ),
-        _ => None,
+    match Request::of(alloc, words) {
+        Ok(request) => {
+            if is_built(&request) {
+                Ok(request)
+            } else {
+                Err(Status::Usage)
+            }
+        },
+        Err(WordsError::Usage) => Err(Status::Usage),
+        Err(WordsError::NoMemory) => Err(Status::NoMemory),
     }
 }
 
-/// The request of the four words, if they are one.
-fn search_of<'a>(
-    command: &str,
-    graph: &'a str,
-    text: &'a str,
-    alphabet: &'a str,
-) -> Option<Request<'a>>
-    ensures { option_map asked_by result ≡ search_of command.now graph.now text.now alphabet.now }
+/// Whether the request is answered.
+pub fn is_built(request: &Request) -> bool
+    ensures { result ≡ is_built request.now }
 {
-    if command == "locate" && is_graph_name(graph) && is_name(text) && is_name(alphabet) {
-        Some(Request {
-            graph,
-            text,
-            alphabet,
-        })
-    } else {
-        None
+    match request {
+        Request::Locate(search) => is_built_search(search),
+        Request::Tokenize { .. } | Request::Help | Request::Version => true,
+        _ => false,
     }
 }
 
-/// Whether a word may name a graph that is drawn, and no compiled one.
-fn is_graph_name(word: &str) -> bool
-    ensures { result ≡ is_graph_name word.now }
+/// Whether the search is in the default mode and policy, by a graph that is drawn and no dictionary.
+fn is_built_search(search: &Search) -> bool
+    ensures { result ≡ is_built_search search.now }
 {
-    is_name(word) && !word.as_bytes().ends_with(b".fst2")
+    is_ignore(search.mode)
+        && is_all(search.policy)
+        && is_nothing(search.novar)
+        && search.dics.as_slice().is_empty()
+        && is_drawn(search.graph.as_str())
 }
 
-/// Whether a word may name a file.
-fn is_name(word: &str) -> bool
-    ensures { result ≡ is_name word.now }
+/// Whether outputs are ignored.
+fn is_ignore(mode: Mode) -> bool
+    ensures { result ≡ is_ignore mode }
 {
-    match word.as_bytes() {
-        [] => false,
-        [first, ..] => *first != b'-',
+    match mode {
+        Mode::Ignore => true,
+        Mode::Merge | Mode::Replace => false,
     }
+}
+
+/// Whether every hit is kept.
+fn is_all(policy: Policy) -> bool
+    ensures { result ≡ is_all policy }
+{
+    match policy {
+        Policy::All => true,
+        Policy::Shortest | Policy::Longest => false,
+    }
+}
+
+/// Whether no hit is dropped for a variable without a value.
+fn is_nothing(novar: NoVar) -> bool
+    ensures { result ≡ is_nothing novar }
+{
+    match novar {
+        NoVar::Nothing => true,
+        NoVar::Drop => false,
+    }
+}
+
+/// Whether the graph is drawn, and no compiled one.
+fn is_drawn(graph: &str) -> bool
+    ensures { result ≡ is_drawn graph.now }
+{
+    !graph.as_bytes().ends_with(b".fst2")
 }

@@ -75,6 +75,10 @@ fn push_hits(
         × IsStrictlyIncreasing ends
         × ((e : ℕ) → Contains ends e ↔ EndsAt found.now start e)) }
 {
+    // From nearly every start nothing is found.
+    if found.is_empty() {
+        return Ok(());
+    }
     let ends = end_positions(alloc, start, found)?;
     for end in &ends {
         hits.push(Span {

@@ -3,6 +3,7 @@
 use std::alloc::{AllocError, AllocFailed};
 use ux_alphabet::AlphabetError;
 use ux_base::{NoMemory, Txt};
+use ux_decode::DecodeError;
 use ux_grf::GrfError;
 use ux_net::NetError;
 use ux_tokens::TextError;
@@ -31,8 +32,8 @@ pub enum Status {
 /// Why a file is refused.
 #[derive(Debug, Drop)]
 pub enum Reason {
-    /// The bytes are no UTF-8, or begin with a byte order mark.
-    NotYet,
+    /// Why the file has no text.
+    Decode(DecodeError),
     /// The alphabet's own reason.
     Alphabet(AlphabetError),
     /// The graph's own reason.

@@ -1,15 +1,16 @@
 //! The line on standard error that tells how a run ended. It is written in pieces, without memory.
 
-ghost use Rattle.std.specs.Prelude.{◌≢◌, ℕ, ◌≤◌, ◌++◌, OnOk, OnErr, codes};
+ghost use Rattle.std.specs.Prelude.{◌≢◌, ◌≤◌, ◌∷◌, [], OnOk, OnErr, codes, map};
 ghost use Rattle.std.specs.Fmt.{decimal};
-ghost use Rattle.ux_base.specs.Outside.{Rose, Appended};
+ghost use Rattle.ux_base.specs.Outside.{Rose, Appended, AppendedFront};
 ghost use Rattle.unitex.specs.declared.status.Status.TheVariants.{Done};
-ghost use Rattle.unitex.specs.Statuses.{line_of, reason_text, alphabet_reason, grf_reason, net_reason, text_reason};
+ghost use Rattle.unitex.specs.Statuses.{joined, line_of, refusal, reason_of, at_node, decode_reason, alphabet_reason, grf_reason, net_reason, text_reason};
 
 use crate::status::{Reason, Status};
 use itoa::Buffer;
 use ux_alphabet::AlphabetError;
 use ux_base::{Sink, SinkError, Txt};
+use ux_decode::DecodeError;
 use ux_grf::GrfError;
 use ux_net::NetError;
 use ux_tokens::TextError;
@@ -21,253 +22,266 @@ pub fn tell<E: Sink>(err: &mut E, status: &Status) -> Result<(), SinkError>
     ensures cause { OnErr result (Rose (E.faults err.old) (E.faults err.new)) }
     ensures line { OnOk result (Appended (E.written err.old) (E.written err.new)
         (line_of status.now)) }
+    ensures front { OnErr result (AppendedFront (E.written err.old) (E.written err.new)
+        (line_of status.now)) }
 {
     match status {
         Status::Done => Ok(()),
-        Status::Usage => say(err, "usage: unitex COMMAND ARGUMENTS\n"),
-        Status::Absent { name } => say_of(err, "absent: ", name.as_str()),
+        Status::Usage => say(err, &["usage: unitex COMMAND ARGUMENTS\n"]),
+        Status::Absent { name } => say(err, &["absent: ", name.as_str(), "\n"]),
         Status::Refused { file, reason } => say_refusal(err, file.as_str(), reason),
-        Status::ReadFault { name } => say_of(err, "read fault: ", name.as_str()),
-        Status::WriteFault => say(err, "write fault\n"),
-        Status::TooLarge { file } => say_of(err, "too large: ", file.as_str()),
-        Status::NoMemory => say(err, "no memory\n"),
+        Status::ReadFault { name } => say(err, &["read fault: ", name.as_str(), "\n"]),
+        Status::WriteFault => say(err, &["write fault\n"]),
+        Status::TooLarge { file } => say(err, &["too large: ", file.as_str(), "\n"]),
+        Status::NoMemory => say(err, &["no memory\n"]),
     }
 }
 
-/// Writes a text.
-fn say<E: Sink>(err: &mut E, text: &str) -> Result<(), SinkError>
+/// Writes texts, one behind the other.
+fn say<E: Sink>(err: &mut E, texts: &[&str]) -> Result<(), SinkError>
     ensures later { E.faults err.old ≤ E.faults err.new }
     ensures cause { OnErr result (Rose (E.faults err.old) (E.faults err.new)) }
     ensures line { OnOk result (Appended (E.written err.old) (E.written err.new)
-        (text.now)) }
+        (joined (map (λ text. text.now) texts.now))) }
+    ensures front { OnErr result (AppendedFront (E.written err.old) (E.written err.new)
+        (joined (map (λ text. text.now) texts.now))) }
 {
-    err.write_all(text.as_bytes())
-}
-
-/// Writes two texts, one behind the other.
-#[tactic(auto, using(ux_base::proofs::Fronts::both_parts))]
-fn say_both<E: Sink>(err: &mut E, first: &str, second: &str) -> Result<(), SinkError>
-    ensures later { E.faults err.old ≤ E.faults err.new }
-    ensures cause { OnErr result (Rose (E.faults err.old) (E.faults err.new)) }
-    ensures line { OnOk result (Appended (E.written err.old) (E.written err.new)
-        (first.now ++ second.now)) }
-{
-    say(err, first)?;
-    say(err, second)?;
-    Ok(())
-}
-
-/// Writes a line of what happened and a file's name.
-#[tactic(auto, using(ux_base::proofs::Fronts::both_parts))]
-fn say_of<E: Sink>(err: &mut E, what: &str, name: &str) -> Result<(), SinkError>
-    ensures later { E.faults err.old ≤ E.faults err.new }
-    ensures cause { OnErr result (Rose (E.faults err.old) (E.faults err.new)) }
-    ensures line { OnOk result (Appended (E.written err.old) (E.written err.new)
-        (what.now ++ name.now ++ codes "\n")) }
-{
-    say(err, what)?;
-    say_both(err, name, "\n")?;
+    for text in texts {
+        err.write_all(text.as_bytes())?;
+    }
     Ok(())
 }
 
 /// Writes the line of a file that is refused.
-#[tactic(auto, using(ux_base::proofs::Fronts::both_parts))]
 fn say_refusal<E: Sink>(err: &mut E, file: &str, reason: &Reason) -> Result<(), SinkError>
     ensures later { E.faults err.old ≤ E.faults err.new }
     ensures cause { OnErr result (Rose (E.faults err.old) (E.faults err.new)) }
     ensures line { OnOk result (Appended (E.written err.old) (E.written err.new)
-        (codes "refused: " ++ file.now ++ codes ": " ++ reason_text reason.now ++ codes "\n")) }
-{
-    say(err, "refused: ")?;
-    say_file_reason(err, file, reason)?;
-    Ok(())
-}
-
-/// Writes a file's name and its reason.
-#[tactic(auto, using(ux_base::proofs::Fronts::both_parts))]
-fn say_file_reason<E: Sink>(err: &mut E, file: &str, reason: &Reason) -> Result<(), SinkError>
-    ensures later { E.faults err.old ≤ E.faults err.new }
-    ensures cause { OnErr result (Rose (E.faults err.old) (E.faults err.new)) }
-    ensures line { OnOk result (Appended (E.written err.old) (E.written err.new)
-        (file.now ++ codes ": " ++ reason_text reason.now ++ codes "\n")) }
-{
-    say(err, file)?;
-    say_colon_reason(err, reason)?;
-    Ok(())
-}
-
-/// Writes a colon and a reason, and ends the line.
-#[tactic(auto, using(ux_base::proofs::Fronts::both_parts))]
-fn say_colon_reason<E: Sink>(err: &mut E, reason: &Reason) -> Result<(), SinkError>
-    ensures later { E.faults err.old ≤ E.faults err.new }
-    ensures cause { OnErr result (Rose (E.faults err.old) (E.faults err.new)) }
-    ensures line { OnOk result (Appended (E.written err.old) (E.written err.new)
-        (codes ": " ++ reason_text reason.now ++ codes "\n")) }
-{
-    say(err, ": ")?;
-    say_last(err, reason)?;
-    Ok(())
-}
-
-/// Writes a reason, and ends the line.
-#[tactic(auto, using(ux_base::proofs::Fronts::both_parts))]
-fn say_last<E: Sink>(err: &mut E, reason: &Reason) -> Result<(), SinkError>
-    ensures later { E.faults err.old ≤ E.faults err.new }
-    ensures cause { OnErr result (Rose (E.faults err.old) (E.faults err.new)) }
-    ensures line { OnOk result (Appended (E.written err.old) (E.written err.new)
-        (reason_text reason.now ++ codes "\n")) }
-{
-    say_reason(err, reason)?;
-    say(err, "\n")?;
-    Ok(())
-}
-
-/// Writes a name and a number, as in `BadLine line=3`.
-#[tactic(auto, using(ux_base::proofs::Fronts::both_parts))]
-fn say_number<E: Sink>(err: &mut E, what: &str, number: usize) -> Result<(), SinkError>
-    ensures later { E.faults err.old ≤ E.faults err.new }
-    ensures cause { OnErr result (Rose (E.faults err.old) (E.faults err.new)) }
-    ensures line { OnOk result (Appended (E.written err.old) (E.written err.new)
-        (what.now ++ decimal number)) }
-{
-    let mut buffer = Buffer::new();
-    say_both(err, what, buffer.format(number))
-}
-
-/// Writes a reason: its innermost name, and then its fields.
-fn say_reason<E: Sink>(err: &mut E, reason: &Reason) -> Result<(), SinkError>
-    ensures later { E.faults err.old ≤ E.faults err.new }
-    ensures cause { OnErr result (Rose (E.faults err.old) (E.faults err.new)) }
-    ensures line { OnOk result (Appended (E.written err.old) (E.written err.new)
-        (reason_text reason.now)) }
+        (refusal file.now (reason_of reason.now))) }
+    ensures front { OnErr result (AppendedFront (E.written err.old) (E.written err.new)
+        (refusal file.now (reason_of reason.now))) }
 {
     match reason {
-        Reason::NotYet => say(err, "NotYet"),
-        Reason::Alphabet(error) => say_alphabet_error(err, error),
-        Reason::Grf(error) => say_grf_error(err, error),
-        Reason::Net(error) => say_net_error(err, error),
-        Reason::Text(error) => say_text_error(err, error),
-        Reason::TooManyGraphs => say(err, "TooManyGraphs"),
+        Reason::Decode(error) => say_decode_error(err, file, error),
+        Reason::Alphabet(error) => say_alphabet_error(err, file, error),
+        Reason::Grf(error) => say_grf_error(err, file, error),
+        Reason::Net(error) => say_net_error(err, file, error),
+        Reason::Text(error) => say_text_error(err, file, error),
+        Reason::TooManyGraphs => say_name(err, file, "TooManyGraphs"),
     }
 }
 
-fn say_alphabet_error<E: Sink>(err: &mut E, error: &AlphabetError) -> Result<(), SinkError>
+/// Writes the line of a file that is refused by a name alone.
+fn say_name<E: Sink>(err: &mut E, file: &str, name: &str) -> Result<(), SinkError>
     ensures later { E.faults err.old ≤ E.faults err.new }
     ensures cause { OnErr result (Rose (E.faults err.old) (E.faults err.new)) }
     ensures line { OnOk result (Appended (E.written err.old) (E.written err.new)
-        (alphabet_reason error.now)) }
+        (refusal file.now (name.now ∷ []))) }
+    ensures front { OnErr result (AppendedFront (E.written err.old) (E.written err.new)
+        (refusal file.now (name.now ∷ []))) }
+{
+    say(err, &["refused: ", file, ": ", name, "\n"])
+}
+
+/// Writes the line of a file that is refused with a text, as in `MissingGraph name=np`.
+fn say_text<E: Sink>(err: &mut E, file: &str, what: &str, text: &str) -> Result<(), SinkError>
+    ensures later { E.faults err.old ≤ E.faults err.new }
+    ensures cause { OnErr result (Rose (E.faults err.old) (E.faults err.new)) }
+    ensures line { OnOk result (Appended (E.written err.old) (E.written err.new)
+        (refusal file.now (what.now ∷ text.now ∷ []))) }
+    ensures front { OnErr result (AppendedFront (E.written err.old) (E.written err.new)
+        (refusal file.now (what.now ∷ text.now ∷ []))) }
+{
+    say(err, &["refused: ", file, ": ", what, text, "\n"])
+}
+
+/// Writes the line of a file that is refused with a number, as in `BadLine line=3`.
+fn say_number<E: Sink>(err: &mut E, file: &str, what: &str, number: usize) -> Result<(), SinkError>
+    ensures later { E.faults err.old ≤ E.faults err.new }
+    ensures cause { OnErr result (Rose (E.faults err.old) (E.faults err.new)) }
+    ensures line { OnOk result (Appended (E.written err.old) (E.written err.new)
+        (refusal file.now (what.now ∷ decimal number ∷ []))) }
+    ensures front { OnErr result (AppendedFront (E.written err.old) (E.written err.new)
+        (refusal file.now (what.now ∷ decimal number ∷ []))) }
+{
+    let mut buffer = Buffer::new();
+    say_text(err, file, what, buffer.format(number))
+}
+
+/// Writes the line of a graph whose content is refused at a place.
+fn say_place<E: Sink>(err: &mut E, file: &str, node: u32, place: usize) -> Result<(), SinkError>
+    ensures later { E.faults err.old ≤ E.faults err.new }
+    ensures cause { OnErr result (Rose (E.faults err.old) (E.faults err.new)) }
+    ensures line { OnOk result (Appended (E.written err.old) (E.written err.new)
+        (refusal file.now (codes "BadContent node=" ∷ decimal node ∷ codes " place=" ∷ decimal place ∷ []))) }
+    ensures front { OnErr result (AppendedFront (E.written err.old) (E.written err.new)
+        (refusal file.now (codes "BadContent node=" ∷ decimal node ∷ codes " place=" ∷ decimal place ∷ []))) }
+{
+    let mut first = Buffer::new();
+    let mut second = Buffer::new();
+    let node = first.format(node);
+    let place = second.format(place);
+    say(
+        err,
+        &[
+            "refused: ",
+            file,
+            ": ",
+            "BadContent node=",
+            node,
+            " place=",
+            place,
+            "\n",
+        ],
+    )
+}
+
+/// Writes the line of a grammar that calls a graph which isn't there.
+fn say_missing<E: Sink>(err: &mut E, file: &str, name: &Txt) -> Result<(), SinkError>
+    ensures later { E.faults err.old ≤ E.faults err.new }
+    ensures cause { OnErr result (Rose (E.faults err.old) (E.faults err.new)) }
+    ensures line { OnOk result (Appended (E.written err.old) (E.written err.new)
+        (refusal file.now (codes "MissingGraph name=" ∷ name.now ∷ []))) }
+    ensures front { OnErr result (AppendedFront (E.written err.old) (E.written err.new)
+        (refusal file.now (codes "MissingGraph name=" ∷ name.now ∷ []))) }
+{
+    say_text(err, file, "MissingGraph name=", name.as_str())
+}
+
+/// Writes the line of a grammar that is refused at a node of a graph.
+fn say_node<E: Sink>(
+    err: &mut E,
+    file: &str,
+    what: &str,
+    graph: &Txt,
+    node: u32,
+) -> Result<(), SinkError>
+    ensures later { E.faults err.old ≤ E.faults err.new }
+    ensures cause { OnErr result (Rose (E.faults err.old) (E.faults err.new)) }
+    ensures line { OnOk result (Appended (E.written err.old) (E.written err.new)
+        (refusal file.now (at_node what.now graph.now node))) }
+    ensures front { OnErr result (AppendedFront (E.written err.old) (E.written err.new)
+        (refusal file.now (at_node what.now graph.now node))) }
+{
+    let mut buffer = Buffer::new();
+    say_at(err, file, what, graph.as_str(), buffer.format(node))
+}
+
+/// Writes the same by the node's digits.
+fn say_at<E: Sink>(
+    err: &mut E,
+    file: &str,
+    what: &str,
+    graph: &str,
+    node: &str,
+) -> Result<(), SinkError>
+    ensures later { E.faults err.old ≤ E.faults err.new }
+    ensures cause { OnErr result (Rose (E.faults err.old) (E.faults err.new)) }
+    ensures line { OnOk result (Appended (E.written err.old) (E.written err.new)
+        (refusal file.now (what.now ∷ graph.now ∷ codes " node=" ∷ node.now ∷ []))) }
+    ensures front { OnErr result (AppendedFront (E.written err.old) (E.written err.new)
+        (refusal file.now (what.now ∷ graph.now ∷ codes " node=" ∷ node.now ∷ []))) }
+{
+    say(
+        err,
+        &["refused: ", file, ": ", what, graph, " node=", node, "\n"],
+    )
+}
+
+/// Writes the line of a file that has no text.
+fn say_decode_error<E: Sink>(err: &mut E, file: &str, error: &DecodeError) -> Result<(), SinkError>
+    ensures later { E.faults err.old ≤ E.faults err.new }
+    ensures cause { OnErr result (Rose (E.faults err.old) (E.faults err.new)) }
+    ensures line { OnOk result (Appended (E.written err.old) (E.written err.new)
+        (refusal file.now (decode_reason error.now))) }
+    ensures front { OnErr result (AppendedFront (E.written err.old) (E.written err.new)
+        (refusal file.now (decode_reason error.now))) }
 {
     match error {
-        AlphabetError::BadLine { line } => say_number(err, "BadLine line=", *line),
-        AlphabetError::EmptyRange { line } => say_number(err, "EmptyRange line=", *line),
-        AlphabetError::NoMemory => say(err, "NoMemory"),
-    }
-}
-
-fn say_grf_error<E: Sink>(err: &mut E, error: &GrfError) -> Result<(), SinkError>
-    ensures later { E.faults err.old ≤ E.faults err.new }
-    ensures cause { OnErr result (Rose (E.faults err.old) (E.faults err.new)) }
-    ensures line { OnOk result (Appended (E.written err.old) (E.written err.new)
-        (grf_reason error.now)) }
-{
-    match error {
-        GrfError::NoHeader => say(err, "NoHeader"),
-        GrfError::BadCount => say(err, "BadCount"),
-        GrfError::BadBoxLine { node } => say_number(err, "BadBoxLine node=", *node as usize),
-        GrfError::BadTarget { node } => say_number(err, "BadTarget node=", *node as usize),
-        GrfError::BadContent { node, place } => say_place(err, *node, *place),
-        GrfError::NoMemory => say(err, "NoMemory"),
-    }
-}
-
-/// Writes the node and the place of a bad content.
-#[tactic(auto, using(ux_base::proofs::Fronts::both_parts))]
-fn say_place<E: Sink>(err: &mut E, node: u32, place: usize) -> Result<(), SinkError>
-    ensures later { E.faults err.old ≤ E.faults err.new }
-    ensures cause { OnErr result (Rose (E.faults err.old) (E.faults err.new)) }
-    ensures line { OnOk result (Appended (E.written err.old) (E.written err.new)
-        (codes "BadContent node=" ++ decimal node ++ codes " place=" ++ decimal place)) }
-{
-    say(err, "BadContent node=")?;
-    say_numbers(err, node as usize, place)?;
-    Ok(())
-}
-
-/// Writes a node and a place.
-#[tactic(auto, using(ux_base::proofs::Fronts::both_parts))]
-fn say_numbers<E: Sink>(err: &mut E, node: usize, place: usize) -> Result<(), SinkError>
-    ensures later { E.faults err.old ≤ E.faults err.new }
-    ensures cause { OnErr result (Rose (E.faults err.old) (E.faults err.new)) }
-    ensures line { OnOk result (Appended (E.written err.old) (E.written err.new)
-        (decimal node ++ codes " place=" ++ decimal place)) }
-{
-    say_number(err, "", node)?;
-    say_number(err, " place=", place)?;
-    Ok(())
-}
-
-fn say_net_error<E: Sink>(err: &mut E, error: &NetError) -> Result<(), SinkError>
-    ensures later { E.faults err.old ≤ E.faults err.new }
-    ensures cause { OnErr result (Rose (E.faults err.old) (E.faults err.new)) }
-    ensures line { OnOk result (Appended (E.written err.old) (E.written err.new)
-        (net_reason error.now)) }
-{
-    match error {
-        NetError::MissingGraph { name } => say_name(err, "MissingGraph name=", name),
-        NetError::NotYet { graph, node } => say_node(err, "NotYet graph=", graph, *node),
-        NetError::EmptyLoop { graph, node } => say_node(err, "EmptyLoop graph=", graph, *node),
-        NetError::LeftRecursion { graph, node } => {
-            say_node(err, "LeftRecursion graph=", graph, *node)
+        DecodeError::BadUtf8 { place } => say_number(err, file, "BadUtf8 place=", *place),
+        DecodeError::LoneSurrogate { place } => {
+            say_number(err, file, "LoneSurrogate place=", *place)
         },
-        NetError::NoMemory => say(err, "NoMemory"),
+        DecodeError::OddLength => say_name(err, file, "OddLength"),
+        DecodeError::NoMemory => say_name(err, file, "NoMemory"),
     }
 }
 
-/// Writes what happened and a name.
-fn say_name<E: Sink>(err: &mut E, what: &str, name: &Txt) -> Result<(), SinkError>
+/// Writes the line of an alphabet that is refused.
+fn say_alphabet_error<E: Sink>(
+    err: &mut E,
+    file: &str,
+    error: &AlphabetError,
+) -> Result<(), SinkError>
     ensures later { E.faults err.old ≤ E.faults err.new }
     ensures cause { OnErr result (Rose (E.faults err.old) (E.faults err.new)) }
     ensures line { OnOk result (Appended (E.written err.old) (E.written err.new)
-        (what.now ++ name.now)) }
-{
-    say_both(err, what, name.as_str())
-}
-
-/// Writes what happened, the graph and the node.
-#[tactic(auto, using(ux_base::proofs::Fronts::both_parts))]
-fn say_node<E: Sink>(err: &mut E, what: &str, graph: &Txt, node: u32) -> Result<(), SinkError>
-    ensures later { E.faults err.old ≤ E.faults err.new }
-    ensures cause { OnErr result (Rose (E.faults err.old) (E.faults err.new)) }
-    ensures line { OnOk result (Appended (E.written err.old) (E.written err.new)
-        (what.now ++ graph.now ++ codes " node=" ++ decimal node)) }
-{
-    say(err, what)?;
-    say_graph_node(err, graph, node)?;
-    Ok(())
-}
-
-/// Writes the graph and the node.
-#[tactic(auto, using(ux_base::proofs::Fronts::both_parts))]
-fn say_graph_node<E: Sink>(err: &mut E, graph: &Txt, node: u32) -> Result<(), SinkError>
-    ensures later { E.faults err.old ≤ E.faults err.new }
-    ensures cause { OnErr result (Rose (E.faults err.old) (E.faults err.new)) }
-    ensures line { OnOk result (Appended (E.written err.old) (E.written err.new)
-        (graph.now ++ codes " node=" ++ decimal node)) }
-{
-    say(err, graph.as_str())?;
-    say_number(err, " node=", node as usize)?;
-    Ok(())
-}
-
-fn say_text_error<E: Sink>(err: &mut E, error: &TextError) -> Result<(), SinkError>
-    ensures later { E.faults err.old ≤ E.faults err.new }
-    ensures cause { OnErr result (Rose (E.faults err.old) (E.faults err.new)) }
-    ensures line { OnOk result (Appended (E.written err.old) (E.written err.new)
-        (text_reason error.now)) }
+        (refusal file.now (alphabet_reason error.now))) }
+    ensures front { OnErr result (AppendedFront (E.written err.old) (E.written err.new)
+        (refusal file.now (alphabet_reason error.now))) }
 {
     match error {
-        TextError::TooManyTokens => say(err, "TooManyTokens"),
-        TextError::NotYet => say(err, "NotYet"),
-        TextError::NoMemory => say(err, "NoMemory"),
+        AlphabetError::BadLine { line } => say_number(err, file, "BadLine line=", *line),
+        AlphabetError::EmptyRange { line } => say_number(err, file, "EmptyRange line=", *line),
+        AlphabetError::NoMemory => say_name(err, file, "NoMemory"),
+    }
+}
+
+/// Writes the line of a graph that is refused.
+fn say_grf_error<E: Sink>(err: &mut E, file: &str, error: &GrfError) -> Result<(), SinkError>
+    ensures later { E.faults err.old ≤ E.faults err.new }
+    ensures cause { OnErr result (Rose (E.faults err.old) (E.faults err.new)) }
+    ensures line { OnOk result (Appended (E.written err.old) (E.written err.new)
+        (refusal file.now (grf_reason error.now))) }
+    ensures front { OnErr result (AppendedFront (E.written err.old) (E.written err.new)
+        (refusal file.now (grf_reason error.now))) }
+{
+    match error {
+        GrfError::NoHeader => say_name(err, file, "NoHeader"),
+        GrfError::BadCount => say_name(err, file, "BadCount"),
+        GrfError::BadBoxLine { node } => {
+            say_number(err, file, "BadBoxLine node=", *node as usize)
+        },
+        GrfError::BadTarget { node } => say_number(err, file, "BadTarget node=", *node as usize),
+        GrfError::BadContent { node, place } => say_place(err, file, *node, *place),
+        GrfError::NoMemory => say_name(err, file, "NoMemory"),
+    }
+}
+
+/// Writes the line of a grammar that is refused.
+fn say_net_error<E: Sink>(err: &mut E, file: &str, error: &NetError) -> Result<(), SinkError>
+    ensures later { E.faults err.old ≤ E.faults err.new }
+    ensures cause { OnErr result (Rose (E.faults err.old) (E.faults err.new)) }
+    ensures line { OnOk result (Appended (E.written err.old) (E.written err.new)
+        (refusal file.now (net_reason error.now))) }
+    ensures front { OnErr result (AppendedFront (E.written err.old) (E.written err.new)
+        (refusal file.now (net_reason error.now))) }
+{
+    match error {
+        NetError::MissingGraph { name } => say_missing(err, file, name),
+        NetError::NotYet { graph, node } => { say_node(err, file, "NotYet graph=", graph, *node) },
+        NetError::EmptyLoop { graph, node } => {
+            say_node(err, file, "EmptyLoop graph=", graph, *node)
+        },
+        NetError::LeftRecursion { graph, node } => {
+            say_node(err, file, "LeftRecursion graph=", graph, *node)
+        },
+        NetError::NoMemory => say_name(err, file, "NoMemory"),
+    }
+}
+
+/// Writes the line of a text that is refused.
+fn say_text_error<E: Sink>(err: &mut E, file: &str, error: &TextError) -> Result<(), SinkError>
+    ensures later { E.faults err.old ≤ E.faults err.new }
+    ensures cause { OnErr result (Rose (E.faults err.old) (E.faults err.new)) }
+    ensures line { OnOk result (Appended (E.written err.old) (E.written err.new)
+        (refusal file.now (text_reason error.now))) }
+    ensures front { OnErr result (AppendedFront (E.written err.old) (E.written err.new)
+        (refusal file.now (text_reason error.now))) }
+{
+    match error {
+        TextError::TooManyTokens => say_name(err, file, "TooManyTokens"),
+        TextError::NotYet => say_name(err, file, "NotYet"),
+        TextError::NoMemory => say_name(err, file, "NoMemory"),
     }
 }

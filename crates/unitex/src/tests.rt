@@ -1,8 +1,10 @@
 //! Rows of the top call over a folder and sinks in memory.
 
+mod encodings;
 mod fakes;
 mod grammars;
 mod plain;
 mod refusals;
+mod requests;
 mod rows;
 mod searches;

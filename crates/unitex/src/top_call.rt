@@ -1,21 +1,24 @@
 //! The top call: the words, the folder and the sinks in, a status out.
 
-ghost use Rattle.std.specs.Prelude.{◌≡◌, ◌≢◌, ◌⊎◌, ℕ, ◌<◌, ◌≤◌, List, None, IfOk, IfErr, map, length, string_bytes};
+ghost use Rattle.std.specs.Prelude.{◌≡◌, ◌≢◌, ◌⊎◌, ℕ, ◌<◌, ◌≤◌, List, None, true, IfOk, IfErr, map, length, string_bytes};
 ghost use Rattle.ux_base.specs.Outside.{Rose, Appended, AppendedFront};
 ghost use Rattle.ux_net.specs.Nets.{net_grammar};
 ghost use Rattle.unitex.specs.Hits.{IsHit};
 ghost use Rattle.unitex.specs.Index.{IsIndex};
 ghost use Rattle.unitex.specs.Statuses.{line_of};
-ghost use Rattle.unitex.specs.Running.{request_of, counts_of, IsAnswer, IsAnswerable, Denies, EndsBy, NoneFell, WritesNothing};
+ghost use Rattle.unitex.specs.Requests.{is_built, request_of};
+ghost use Rattle.unitex.specs.Running.{counts_of, Answers, IsAnswer, IsAnswerable, IsIndexOf, IsTokenFileOf, Denies, EndsBy, Explains, ExplainsSearch, ExplainsTokens, NoneFell, WritesNothing};
 
 use crate::index::index_text;
-use crate::reading::{Files, read_files};
-use crate::request::request_of;
+use crate::reading::{Files, read_files, read_tokens};
+use crate::request::read_request;
 use crate::searching::hits;
 use crate::status::Status;
 use crate::telling::tell;
 use std::alloc::Global;
 use ux_base::{Folder, Mem, Sink};
+use ux_tokens::print_tokens;
+use ux_words::{HELP, Request, Search, VERSION};
 
 /// Does what the words ask for. The result is built whole, and then written to `out`; where there
 /// is none, one line on `err` says why.
@@ -37,7 +40,7 @@ pub fn run<F: Folder, S: Sink, E: Sink>(
         (Rose (S.faults out.old) (S.faults out.new)
         ⊎ Rose (E.faults err.old) (E.faults err.new)) result }
     ensures usage { request_of (map string_bytes words.now) ≡ None →
-        (result ≡ Status.Usage)
+        (result ≡ Status.Usage) ⊎ (result ≡ Status.NoMemory)
         ⊎ ((result ≡ Status.WriteFault) × Rose (E.faults err.old) (E.faults err.new)) }
     // What was written: nothing, or a front of the result; and the line of the ending on `err`.
     ensures nothing { WritesNothing result → S.written out.new ≡ S.written out.old }
@@ -47,6 +50,17 @@ pub fn run<F: Folder, S: Sink, E: Sink>(
         × AppendedFront (S.written out.old) (S.written out.new) answer) }
     ensures line { WritesNothing result →
         Appended (E.written err.old) (E.written err.new) (line_of result) }
+    ensures write_line { result ≡ Status.WriteFault →
+        ¬ Rose (E.faults err.old) (E.faults err.new) →
+        Appended (E.written err.old) (E.written err.new) (line_of result) }
+    // Where a write to `err` failed, a front of the line of the ending that would have come.
+    ensures cut_line { result ≡ Status.WriteFault →
+        Rose (E.faults err.old) (E.faults err.new) → (status : Status)
+        × EndsBy (request_of (map string_bytes words.now)) (F.files folder.old)
+        (counts_of F.faults F.misses F.overlong folder.old)
+        (counts_of F.faults F.misses F.overlong folder.new)
+        (Rose (S.faults out.old) (S.faults out.new)) status
+        × AppendedFront (E.written err.old) (E.written err.new) (line_of status) }
     ensures no_line { result ≡ Status.Done → E.written err.new ≡ E.written err.old }
     ensures files { F.files folder.new ≡ F.files folder.old }
     // A request whose files are all accepted is answered, unless a read or a write failed or memory
@@ -68,7 +82,6 @@ pub fn run<F: Folder, S: Sink, E: Sink>(
 }
 
 /// The result that the words ask for, or how the run ends without one.
-#[tactic(auto, using(crate::proofs::Answering::answered))]
 fn answer<F: Folder>(alloc: Global, words: &[String], folder: &mut F) -> Result<String, Status>
     ensures ok { IfOk result (λ answer.
         IsAnswer (request_of (map string_bytes words.now)) (F.files folder.old)
@@ -81,12 +94,71 @@ fn answer<F: Folder>(alloc: Global, words: &[String], folder: &mut F) -> Result<
     ensures counts { NoneFell (counts_of F.faults F.misses F.overlong folder.old)
         (counts_of F.faults F.misses F.overlong folder.new) }
 {
-    let Some(request) = request_of(words) else {
-        return Err(Status::Usage);
-    };
-    let files = read_files(alloc, request, folder)?;
+    let request = read_request(alloc, words)?;
+    answer_to(alloc, &request, folder)
+}
+
+/// The answer to a request that is built, or how the run ends without one.
+fn answer_to<F: Folder>(alloc: Global, request: &Request, folder: &mut F) -> Result<String, Status>
+    requires { is_built request.now ≡ true }
+    ensures ok { IfOk result (λ answer.
+        Answers request.now (F.files folder.old) (string_bytes answer)) }
+    ensures err { IfErr result (Explains request.now (F.files folder.old)
+        (counts_of F.faults F.misses F.overlong folder.old)
+        (counts_of F.faults F.misses F.overlong folder.new)) }
+    ensures kept { F.files folder.new ≡ F.files folder.old }
+    ensures counts { NoneFell (counts_of F.faults F.misses F.overlong folder.old)
+        (counts_of F.faults F.misses F.overlong folder.new) }
+{
+    match request {
+        Request::Locate(search) => index(alloc, search, folder),
+        Request::Tokenize { text, alphabet } => {
+            token_file(alloc, text.as_str(), alphabet.as_str(), folder)
+        },
+        Request::Help => Ok(String::from_str(alloc, HELP)?),
+        Request::Version => Ok(String::from_str(alloc, VERSION)?),
+        _ => unreachable!(),
+    }
+}
+
+/// The index of a search.
+#[tactic(auto, using(crate::proofs::Answering::answered))]
+fn index<F: Folder>(alloc: Global, search: &Search, folder: &mut F) -> Result<String, Status>
+    ensures ok { IfOk result (λ answer.
+        IsIndexOf search.now (F.files folder.old) (string_bytes answer)) }
+    ensures err { IfErr result (ExplainsSearch search.now (F.files folder.old)
+        (counts_of F.faults F.misses F.overlong folder.old)
+        (counts_of F.faults F.misses F.overlong folder.new)) }
+    ensures kept { F.files folder.new ≡ F.files folder.old }
+    ensures counts { NoneFell (counts_of F.faults F.misses F.overlong folder.old)
+        (counts_of F.faults F.misses F.overlong folder.new) }
+{
+    let files = read_files(alloc, search, folder)?;
     match index_of(alloc, files) {
         Ok(index) => Ok(index),
+        Err(_) => Err(Status::NoMemory),
+    }
+}
+
+/// The token file of a text.
+fn token_file<F: Folder>(
+    alloc: Global,
+    text: &str,
+    alphabet: &str,
+    folder: &mut F,
+) -> Result<String, Status>
+    ensures ok { IfOk result (λ answer.
+        IsTokenFileOf (F.files folder.old) text.now alphabet.now (string_bytes answer)) }
+    ensures err { IfErr result (ExplainsTokens text.now alphabet.now (F.files folder.old)
+        (counts_of F.faults F.misses F.overlong folder.old)
+        (counts_of F.faults F.misses F.overlong folder.new)) }
+    ensures kept { F.files folder.new ≡ F.files folder.old }
+    ensures counts { NoneFell (counts_of F.faults F.misses F.overlong folder.old)
+        (counts_of F.faults F.misses F.overlong folder.new) }
+{
+    let tokens = read_tokens(alloc, text, alphabet, folder)?;
+    match print_tokens(alloc, &tokens) {
+        Ok(file) => Ok(file),
         Err(_) => Err(Status::NoMemory),
     }
 }
@@ -111,7 +183,8 @@ fn ended<E: Sink>(err: &mut E, status: Status) -> Status
     ensures later { E.faults err.old ≤ E.faults err.new }
     ensures status { ((result ≡ status)
         × Appended (E.written err.old) (E.written err.new) (line_of status))
-        ⊎ ((result ≡ Status.WriteFault) × Rose (E.faults err.old) (E.faults err.new)) }
+        ⊎ ((result ≡ Status.WriteFault) × Rose (E.faults err.old) (E.faults err.new)
+        × AppendedFront (E.written err.old) (E.written err.new) (line_of status)) }
 {
     match tell(err, &status) {
         Ok(()) => status,

@@ -2,7 +2,9 @@
 
 ghost use Rattle.std.specs.Prelude.{None};
 
-use crate::tests::rows::{LETTERS, Outcome, SEARCH, compare_given, given_by, sink, usual_files};
+use crate::tests::rows::{
+    LETTERS, Outcome, SEARCH, compare_given, files_of, given_by, sink, usual_files,
+};
 use std::alloc::Global;
 use std::test::Fail;
 use ux_base::{Folder, FolderError, Mem, MemFolder, MemSink};
@@ -73,22 +75,35 @@ fn given_cut(alloc: Global, taken: usize) -> Mem<Outcome> {
 }
 
 #[test]
-fn answers_write_faults(rt: HostRuntime) -> Result<(), Fail> {
-    const ROWS: &[(usize, &str)] = &[(0, ""), (3, "#I\n"), (99, "#I\n0 2 The cat\n")];
-    for row in ROWS {
-        let got = given_cut(rt.alloc(), row.0)?;
-        compare_given(&rt, row.1, &got, (row.1, "write fault\n", 5));
+fn cuts_the_index_where_a_write_fails(rt: HostRuntime) -> Result<(), Fail> {
+    const INDEX: &str = "#I\n0 2 The cat\n";
+    for taken in 0..=INDEX.len() {
+        let got = given_cut(rt.alloc(), taken)?;
+        let front = INDEX.get(..taken).unwrap_or("");
+        compare_given(&rt, front, &got, (front, "write fault\n", 5));
     }
     Ok(())
 }
 
+/// Searches in a text that isn't there, where so many bytes of the line on it can be written.
+fn given_no_text(alloc: Global, room: usize) -> Mem<Outcome> {
+    let files = files_of(
+        alloc,
+        &[("a.txt", LETTERS.as_bytes()), ("g.grf", GRAPH.as_bytes())],
+    )?;
+    let mut folder = MemFolder::new(files, Vec::new(alloc));
+    let sinks = (sink(alloc, 64)?, sink(alloc, room)?);
+    given_by(alloc, SEARCH, &mut folder, sinks)
+}
+
 #[test]
-fn answers_a_line_that_is_not_written(rt: HostRuntime) -> Result<(), Fail> {
-    let alloc = rt.alloc();
-    let mut folder = MemFolder::new(files(alloc)?, Vec::new(alloc));
-    let sinks = (sink(alloc, 64)?, sink(alloc, 7)?);
-    let got = given_by(alloc, &["locate"], &mut folder, sinks)?;
-    compare_given(&rt, "seven bytes", &got, ("", "usage: ", 5));
+fn cuts_the_line_where_a_write_fails(rt: HostRuntime) -> Result<(), Fail> {
+    const LINE: &str = "absent: t.txt\n";
+    for room in 0..LINE.len() {
+        let got = given_no_text(rt.alloc(), room)?;
+        let front = LINE.get(..room).unwrap_or("");
+        compare_given(&rt, front, &got, ("", front, 5));
+    }
     Ok(())
 }
 

@@ -56,36 +56,6 @@ fn check_refusals<R: Abort + AllocGlobal>(
 }
 
 #[test]
-fn answers_usage(rt: HostRuntime) -> Result<(), Fail> {
-    const ROWS: &[(&str, &[&str])] = &[
-        ("no word", &[]),
-        ("a graph alone", &["locate", "g.grf"]),
-        ("another command", &["find", "g.grf", "t.txt", "a.txt"]),
-        (
-            "a dictionary",
-            &["locate", "g.grf", "t.txt", "a.txt", "d.dic"],
-        ),
-        ("an empty graph", &["locate", "", "t.txt", "a.txt"]),
-        ("an empty text", &["locate", "g.grf", "", "a.txt"]),
-        ("an empty alphabet", &["locate", "g.grf", "t.txt", ""]),
-        ("an option", &["locate", "--all", "t.txt", "a.txt"]),
-        ("a hyphen", &["locate", "g.grf", "t.txt", "-"]),
-        (
-            "a compiled grammar",
-            &["locate", "g.fst2", "t.txt", "a.txt"],
-        ),
-    ];
-    let alloc = rt.alloc();
-    for row in ROWS {
-        let files = usual_files(alloc, LETTERS.as_bytes(), GRAPH, CATS)?;
-        let got = given(alloc, row.1, files)?;
-        let want = ("", "usage: unitex COMMAND ARGUMENTS\n", 1);
-        compare_given(&rt, row.0, &got, want);
-    }
-    Ok(())
-}
-
-#[test]
 fn names_the_first_absent_file(rt: HostRuntime) -> Result<(), Fail> {
     const ROWS: &[(&str, &[&str], &str)] = &[
         ("no file", &[], "absent: a.txt\n"),
@@ -113,11 +83,15 @@ fn refuses_alphabets(rt: HostRuntime) -> Result<(), Fail> {
             b"Aa\n\n#za\n",
             "refused: a.txt: EmptyRange line=3\n",
         ),
-        ("no text", b"Aa\n\xff\xfe", "refused: a.txt: NotYet\n"),
         (
-            "a byte order mark",
-            b"\xef\xbb\xbfAa\n",
-            "refused: a.txt: NotYet\n",
+            "no text",
+            b"Aa\n\xff\xfe",
+            "refused: a.txt: BadUtf8 place=3\n",
+        ),
+        (
+            "no text behind a mark",
+            b"\xef\xbb\xbfAa\n\xe9",
+            "refused: a.txt: BadUtf8 place=6\n",
         ),
     ];
     check_refusals(&rt, "a.txt", ROWS)
@@ -152,11 +126,15 @@ fn refuses_graphs(rt: HostRuntime) -> Result<(), Fail> {
             b"#Unigraph\n#\n2\n\"\" 0 0 1 2 \n\"\" 0 0 0 \n",
             "refused: g.grf: BadTarget node=0\n",
         ),
-        ("no text", b"#Unigraph\n\xc3", "refused: g.grf: NotYet\n"),
         (
-            "a byte order mark",
-            b"\xef\xbb\xbf#Unigraph\n",
-            "refused: g.grf: NotYet\n",
+            "no text",
+            b"#Unigraph\n\xc3",
+            "refused: g.grf: BadUtf8 place=10\n",
+        ),
+        (
+            "a surrogate alone",
+            b"\xfe\xff\0#\xdc\0\0\n",
+            "refused: g.grf: LoneSurrogate place=4\n",
         ),
     ];
     check_refusals(&rt, "g.grf", ROWS)
@@ -166,12 +144,8 @@ fn refuses_graphs(rt: HostRuntime) -> Result<(), Fail> {
 fn refuses_texts(rt: HostRuntime) -> Result<(), Fail> {
     const ROWS: &[Refusal] = &[
         ("a brace", b"a{S}b", "refused: t.txt: NotYet\n"),
-        ("no text", b"The c\xe9", "refused: t.txt: NotYet\n"),
-        (
-            "a byte order mark",
-            b"\xef\xbb\xbfThe cat",
-            "refused: t.txt: NotYet\n",
-        ),
+        ("no text", b"The c\xe9", "refused: t.txt: BadUtf8 place=5\n"),
+        ("half a unit", b"\xff\xfea", "refused: t.txt: OddLength\n"),
     ];
     check_refusals(&rt, "t.txt", ROWS)
 }

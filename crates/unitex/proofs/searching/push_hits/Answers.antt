@@ -1,9 +1,25 @@
-use Rattle.std.proofs.Common.{◌++◌, ◌∙◌, List, ℕ, map, subst, ap, arith, get_or}
+use Rattle.std.proofs.Common.{◌≡◌, ◌++◌, ◌∙◌, length, List, [], ℕ, map, subst, sym, ap, arith, get_or}
 use Rattle.std.specs.Prelude.{Contains}
-use Rattle.std.proofs.lemmas.List.{take_all}
+use Rattle.std.proofs.lemmas.Bool.Decides.{nat_tests}
+use Rattle.std.proofs.lemmas.List.{append-nil, take_all}
 use Rattle.unitex.specs.Searching.{span_to}
 use Rattle.unitex.proofs.Listing.{Contains-at}
 use Rattle.unitex.proofs.searching.push_hits.Goals as goal
+
+-- where nothing was found, no derivation ends
+pub returns-then-is_empty : goal.returns-then-is_empty
+returns-then-is_empty c =
+    let empty = sym c.is_empty.ensures ∙ c.if-is_empty.true in
+    let no_end : length c.args.found.now ≡ 0 = grind (arith, nat_tests) in
+    let none : List ℕ = [] in (
+      none,
+      sym (append-nil c.args.hits.now.items),
+      λ k lt. omega (arith, lt),
+      λ e. (
+        λ inside. absurd (omega (arith, inside.1)),
+        λ (one, inside, is). absurd (omega (arith, inside.1, no_end)),
+      ),
+    )
 
 pub overflow_sub-end : goal.overflow_sub-end
 overflow_sub-end c =

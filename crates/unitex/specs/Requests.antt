@@ -1,0 +1,52 @@
+-- Which requests the program answers: those that are built.
+use Rattle.std.specs.Prelude.{ℕ, ◌&&◌, ◌==◌, nat_eq, Bool, true, false, not, List, length, codes, if◌then◌else◌, Option, Some, None, option_and_then}
+use Rattle.std.specs.List.{ends_with}
+use Rattle.ux_base.specs.declared.settings.Mode.{Mode}
+use Rattle.ux_base.specs.declared.settings.Mode.TheVariants.{Ignore}
+use Rattle.ux_base.specs.declared.settings.NoVar.{NoVar}
+use Rattle.ux_base.specs.declared.settings.NoVar.TheVariants.{Nothing}
+use Rattle.ux_base.specs.declared.settings.Policy.{Policy}
+use Rattle.ux_base.specs.declared.settings.Policy.TheVariants.{All}
+use Rattle.ux_words.specs.Requests as asking
+use Rattle.ux_words.specs.declared.request.Request.{Request}
+use Rattle.ux_words.specs.declared.request.Request.TheVariants.{Locate, Tokenize, Help, Version}
+use Rattle.ux_words.specs.declared.request.Search.{Search}
+
+-- outputs are ignored
+abbrev pub is_ignore : Mode → Bool
+is_ignore Ignore = true
+is_ignore mode = false
+
+-- every hit is kept
+abbrev pub is_all : Policy → Bool
+is_all All = true
+is_all policy = false
+
+-- no hit is dropped for a variable without a value
+abbrev pub is_nothing : NoVar → Bool
+is_nothing Nothing = true
+is_nothing novar = false
+
+-- the graph is drawn, and no compiled one
+abbrev pub is_drawn : List ℕ → Bool
+is_drawn graph = not (ends_with nat_eq graph (codes ".fst2"))
+
+-- a search in the default mode and policy, by a graph that is drawn and no dictionary
+abbrev pub is_built_search : Search → Bool
+is_built_search search =
+    is_ignore search.mode && (is_all search.policy && (is_nothing search.novar
+    && (length search.dics == 0 && is_drawn search.graph)))
+
+abbrev pub is_built : Request → Bool
+is_built (Locate asked) = is_built_search asked
+is_built (Tokenize text alphabet) = true
+is_built Help = true
+is_built Version = true
+is_built request = false
+
+abbrev pub if_built : Request → Option Request
+if_built request = if is_built request then Some request else None
+
+-- what the words ask for, where that is built
+abbrev pub request_of : List (List ℕ) → Option Request
+request_of words = option_and_then if_built (asking.request_of words)

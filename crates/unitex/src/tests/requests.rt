@@ -1,0 +1,91 @@
+//! Words of the command line: what is answered, and what is no request.
+
+use crate::tests::rows::{LETTERS, compare_given, given, usual_files};
+use std::alloc::Global;
+use std::process::Abort;
+use std::test::Fail;
+use ux_words::{HELP, VERSION};
+
+const GRAPH: &str = "#Unigraph\n#\n3\n\"<E>\" 0 0 1 2 \n\"\" 0 0 0 \n\"the cat\" 0 0 1 1 \n";
+
+const CATS: &str = "The cat sat. The cats sat.";
+
+/// The index of the usual search.
+const FOUND: &str = "#I\n0 2 The cat\n";
+
+/// Gives the words with the usual files, and compares what is written to `out`.
+fn compare_words<R: Abort + AllocGlobal>(
+    rt: &R,
+    rows: &[(&[&str], &str)],
+    want: (&str, u8),
+) -> Result<(), Fail> {
+    let alloc: Global = rt.alloc();
+    for row in rows {
+        let files = usual_files(alloc, LETTERS.as_bytes(), GRAPH.as_bytes(), CATS.as_bytes())?;
+        let got = given(alloc, row.0, files)?;
+        compare_given(rt, row.1, &got, (row.1, want.0, want.1));
+    }
+    Ok(())
+}
+
+#[test]
+fn answers_requests(rt: HostRuntime) -> Result<(), Fail> {
+    const ROWS: &[(&[&str], &str)] = &[
+        (&["locate", "--", "g.grf", "t.txt", "a.txt"], FOUND),
+        (
+            &["locate", "g.grf", "--mode=ignore", "t.txt", "a.txt"],
+            FOUND,
+        ),
+        (
+            &["locate", "--policy", "all", "g.grf", "t.txt", "--", "a.txt"],
+            FOUND,
+        ),
+        (
+            &["tokenize", "t.txt", "a.txt"],
+            "6\nThe\n \ncat\nsat\n.\ncats\n",
+        ),
+        (&["--help"], HELP),
+        (&["--version"], VERSION),
+    ];
+    compare_words(&rt, ROWS, ("", 0))
+}
+
+#[test]
+fn answers_usage(rt: HostRuntime) -> Result<(), Fail> {
+    const ROWS: &[(&[&str], &str)] = &[
+        (&[], ""),
+        (&[""], ""),
+        (&["find", "g.grf", "t.txt", "a.txt"], ""),
+        (&["locate", "g.grf"], ""),
+        (&["locate", "", "t.txt", "a.txt"], ""),
+        (&["locate", "--all", "t.txt", "a.txt"], ""),
+        (
+            &[
+                "locate", "--mode", "ignore", "--mode", "ignore", "g.grf", "t.txt", "a.txt",
+            ],
+            "",
+        ),
+        (&["locate", "g.grf", "t.txt", "a.txt", "d.dic"], ""),
+        (&["locate", "g.fst2", "t.txt", "a.txt"], ""),
+        (&["locate", "--mode=merge", "g.grf", "t.txt", "a.txt"], ""),
+        (
+            &["locate", "--policy=longest", "g.grf", "t.txt", "a.txt"],
+            "",
+        ),
+        (&["locate", "--novar", "g.grf", "t.txt", "a.txt"], ""),
+        (&["concord", "g.grf", "t.txt", "a.txt"], ""),
+        (&["tokenize", "--x", "t.txt", "a.txt"], ""),
+        (&["tokenize", "t.txt", "a.txt", "a.txt"], ""),
+        (&["check", "d.dic"], ""),
+        (&["--help", "locate"], ""),
+    ];
+    compare_words(&rt, ROWS, ("usage: unitex COMMAND ARGUMENTS\n", 1))
+}
+
+#[test]
+fn names_the_first_file_that_is_not_accepted(rt: HostRuntime) -> Result<(), Fail> {
+    const ROWS: &[(&[&str], &str)] = &[(&["tokenize", "-", "a.txt"], "")];
+    compare_words(&rt, ROWS, ("absent: -\n", 2))?;
+    const SWAPPED: &[(&[&str], &str)] = &[(&["tokenize", "a.txt", "t.txt"], "")];
+    compare_words(&rt, SWAPPED, ("refused: t.txt: BadLine line=1\n", 3))
+}
