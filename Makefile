@@ -1,14 +1,23 @@
 # `make example` proves and builds the program, and searches the text of examples/ by its graphs.
-# `make bench` times searches beside GNU grep.
+# `make install PREFIX=DIR` puts the built program and its manual page under DIR.
+# `make bench` times searches beside GNU grep, and the tokens of a text beside a C program.
 
-.PHONY: example bench gate
+PREFIX ?= /usr/local
+
+.PHONY: example install bench gate
 
 example:
 	@cd crates/unitex && rt run -- locate ../../examples/time.grf ../../examples/text.txt ../../examples/alphabet.txt
 
+install:
+	@test -x crates/unitex/out/unitex || { echo 'build the program first: make example' >&2; exit 1; }
+	install -D -m 755 crates/unitex/out/unitex $(DESTDIR)$(PREFIX)/bin/unitex
+	install -D -m 644 docs/unitex.1 $(DESTDIR)$(PREFIX)/share/man/man1/unitex.1
+
 bench:
 	@bench/locate_word.sh
 	@bench/grammars.py
+	@bench/tokenize.py
 
 gate:
 	@rt ci
