@@ -24,3 +24,5 @@ mod net;
 mod tokens;
 #[cfg(test)]
 mod walk;
+#[cfg(test)]
+mod words;

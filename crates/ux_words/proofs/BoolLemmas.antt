@@ -1,5 +1,6 @@
--- Tests that are joined.
-use Rattle.std.proofs.Common.{◌≡◌, ◌∙◌, sym, refl, Bool, true, false, Option, None, if◌then◌else◌, ◌&&◌}
+-- Tests.
+use Rattle.std.proofs.Common.{arith, ◌≡◌, ◌∙◌, sym, refl, ℕ, suc, Bool, true, false, ◌==◌, Option, Some, None, is_some, if◌then◌else◌, ◌&&◌}
+use Rattle.std.proofs.lemmas.Bool.Decides.{nat_tests}
 
 pub and_left : (a b : Bool) → (a && b) ≡ true → a ≡ true
 and_left true b e = refl
@@ -17,3 +18,15 @@ none_unless false x fails = refl
 
 pub differ : (test : Bool) → test ≡ true → test ≡ false → ⊥
 differ test holds fails = let wrong : true ≡ false = sym holds ∙ fails in cc
+
+pub and_false : (b : Bool) → (b && false) ≡ false
+and_false true = refl
+and_false false = refl
+
+pub not_empty : (n : ℕ) → (suc n == 0) ≡ false
+not_empty n = grind (arith, nat_tests)
+
+-- what isn't some is none
+pub not_some : {T : Type 0} (x : Option T) → is_some x ≡ false → x ≡ None
+not_some None e = refl
+not_some (Some x) e = let wrong : true ≡ false = e in cc

@@ -1,12 +1,26 @@
 -- Names and settings put behind what is given.
-use Rattle.std.proofs.Common.{◌≡◌, ℕ, drop, List, [], ◌∷◌, ◌++◌, refl, ap, sym, ◌∙◌, Bool, true, false, Option, Some, None, option_map}
+use Rattle.std.proofs.Common.{◌≡◌, ℕ, drop, List, [], ◌∷◌, ◌++◌, refl, Bool, true, false, Option, Some, None, option_map}
 use Rattle.std.specs.List.{list_any}
-use Rattle.ux_words.specs.declared.setting.Setting.{Setting}
+use Rattle.ux_words.specs.Settings.{Setting}
 use Rattle.ux_words.specs.declared.command.Command.{Command}
 use Rattle.ux_words.specs.declared.command.OptionName.{OptionName}
-use Rattle.ux_words.specs.declared.word.Word.TheVariants as word
-use Rattle.ux_words.specs.Arguments.{word_of, given_of, first_setting, Given, is_empty, with_name, with_setting, with_all, names_of}
+use Rattle.ux_words.specs.Words as word
+use Rattle.ux_words.specs.Arguments.{word_of, given_of, Given, is_empty, with_name, with_setting, names_of}
+use Rattle.ux_words.specs.Tables.{setting_of}
 use Rattle.std.proofs.lemmas.List.{append_assoc}
+
+-- what is given first, and then what follows
+abbrev pub both : Given → Given → Given
+both first later =
+    record { settings = first.settings ++ later.settings; files = first.files ++ later.files }
+
+abbrev pub with_all : Given → Option Given → Option Given
+with_all first = option_map (both first)
+
+-- the setting of an option to the first of the words
+abbrev pub first_setting : OptionName → List (List ℕ) → Option Setting
+first_setting option [] = None
+first_setting option (value ∷ words) = setting_of option value
 
 -- a name in front of what follows is one behind what is given first
 pub with_all-name : (first : Given) (name : List ℕ) (later : Option Given) →
@@ -55,32 +69,3 @@ module _ (command : Command) (text : List ℕ) where
       ≡ option_map (with_setting setting) (given_of command (drop 1 words))
   given_of-value option setting [] is found = let wrong : None ≡ Some setting = found in cc
   given_of-value option setting (value ∷ words) is found = rw (is, found) refl
-
--- ONE WORD MORE
-
-module _ (command : Command) (text : List ℕ) (words : List (List ℕ)) (first new : Given) where
-  pub adds_name : word_of command text ≡ word.FileName →
-      new ≡ record first { files = first.files ++ text ∷ [] } →
-      with_all first (given_of command (text ∷ words)) ≡ with_all new (given_of command words)
-  adds_name is added = ap (with_all first) (given_of-name command text words is)
-      ∙ (with_all-name first text (given_of command words)
-      ∙ ap (λ g. with_all g (given_of command words)) (sym added))
-
-  pub adds_setting : (setting : Setting) → word_of command text ≡ word.Setting setting →
-      new ≡ record first { settings = first.settings ++ setting ∷ [] } →
-      with_all first (given_of command (text ∷ words)) ≡ with_all new (given_of command words)
-  adds_setting setting is added =
-      ap (with_all first) (given_of-setting command text setting words is)
-      ∙ (with_all-setting first setting (given_of command words)
-      ∙ ap (λ g. with_all g (given_of command words)) (sym added))
-
-  pub adds_value : (option : OptionName) (setting : Setting) (later : List (List ℕ)) →
-      word_of command text ≡ word.AwaitsValue option → first_setting option words ≡ Some setting →
-      later ≡ drop 1 words →
-      new ≡ record first { settings = first.settings ++ setting ∷ [] } →
-      with_all first (given_of command (text ∷ words)) ≡ with_all new (given_of command later)
-  adds_value option setting later is found rest added =
-      ap (with_all first) (given_of-value command text option setting words is found)
-      ∙ (with_all-setting first setting (given_of command (drop 1 words))
-      ∙ (ap (λ g. with_all g (given_of command (drop 1 words))) (sym added)
-      ∙ ap (λ l. with_all new (given_of command l)) (sym rest)))

@@ -1,16 +1,14 @@
 -- The options of settings, one setting after the other.
-use Rattle.std.proofs.Common.{arith, suc, ◌+◌, take, drop, get_or, subst, ◌≡◌, ◌≤◌, ℕ, ◌<◌, List, [], ◌∷◌, ◌++◌, refl, ap, sym, ◌∙◌, true, false, Option, Some, None, IsSome, option_to_list, filter_map, length, nat_le}
+use Rattle.std.proofs.Common.{arith, suc, ◌≡◌, ℕ, List, [], ◌∷◌, ◌++◌, refl, sym, ◌∙◌, true, false, Option, Some, None, IsSome, option_to_list, filter_map, length, nat_le}
 use Rattle.std.proofs.lemmas.Bool.Decides.{nat_tests}
-use Rattle.std.proofs.Math.Seq.{drop-cons}
-use Rattle.std.proofs.lemmas.List.{take-append-drop, take_more, take_all}
 use Rattle.std.proofs.lemmas.List.Elements.{filter_map-append}
 use Rattle.ux_base.specs.declared.settings.NoVar.TheVariants.{Drop}
 use Rattle.ux_words.proofs.BoolLemmas.{and_left, and_right, none_unless, differ}
 use Rattle.ux_words.specs.Requests.{mode_in, policy_in, novar_in, left_in, right_in, sort_in, delas_in, is_once, is_each_once, value_of, options_of}
-use Rattle.ux_words.specs.Filling.{Fills, IsSetBy, Repeats, AreFilledBy}
+use Rattle.ux_words.proofs.Filling.{Fills, IsSetBy, Repeats, AreFilledBy}
 use Rattle.ux_words.specs.declared.options.Options.{Options}
-use Rattle.ux_words.specs.declared.setting.Setting.{Setting}
-use Rattle.ux_words.specs.declared.setting.Setting.TheVariants as setting
+use Rattle.ux_words.specs.Settings.{Setting}
+use Rattle.ux_words.specs.Settings as setting
 
 one_of : {T : Type 0} (pick : Setting → Option T) (setting : Setting) (given : Option T) →
     pick setting ≡ given → filter_map pick (setting ∷ []) ≡ option_to_list given
@@ -133,30 +131,3 @@ module _ (settings later : List Setting) (options : Options)
   options_of-repeated setting.Delas some = refused setting.Delas (λ once.
       differ _ once.delas (twice delas_in settings setting.Delas later true
       options.delas filled.delas some refl))
-
--- ONE SETTING AFTER THE OTHER
-
-module _ (settings : List Setting) (i : ℕ) (default : Setting) (options : Options) where
-  -- one more setting
-  pub filled_at : (new : Options) → i < length settings → AreFilledBy (take i settings) options →
-      IsSetBy (get_or settings i default) options new → AreFilledBy (take (i + 1) settings) new
-  filled_at new inside filled here =
-      rw (take_more settings i default inside)
-      (AreFilledBy-more (take i settings) (get_or settings i default) options new filled here)
-
-  -- a setting that repeats one before it
-  pub repeated_at : i < length settings → AreFilledBy (take i settings) options →
-      Repeats (get_or settings i default) options → options_of settings ≡ None
-  repeated_at inside filled here =
-      let whole : settings ≡ take i settings ++ get_or settings i default ∷ drop (suc i) settings =
-      sym (take-append-drop i settings)
-      ∙ ap (λ l. take i settings ++ l) (drop-cons settings i default inside) in
-      subst (λ (s : List Setting). options_of s ≡ None) (sym whole)
-      (options_of-repeated (take i settings) (drop (suc i) settings) options filled
-      (get_or settings i default) here)
-
--- all settings
-pub filled_by_all : (settings : List Setting) (i : ℕ) (options : Options) → length settings ≤ i →
-    AreFilledBy (take i settings) options → options_of settings ≡ Some options
-filled_by_all settings i options end filled = options_of-filled settings options
-    (subst (λ (s : List Setting). AreFilledBy s options) (take_all i settings end) filled)

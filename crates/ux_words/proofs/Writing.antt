@@ -1,32 +1,18 @@
 -- What is written is read back: the grammar of words and their reading agree.
-use Rattle.std.proofs.Common.{arith, ◌≡◌, ◌==◌, ◌∙◌, ℕ, Bool, true, false, List, [], ◌∷◌, ◌++◌, suc, length, codes, Some, None, option_map, refl, ap, subst}
+use Rattle.std.proofs.Common.{◌≡◌, ◌∙◌, ℕ, Bool, true, false, List, [], ◌∷◌, ◌++◌, length, codes, Some, None, option_map, refl, ap, subst}
 use Rattle.std.specs.List.{list_any}
 use Rattle.std.specs.Str.{bytes_eq}
 use Rattle.std.proofs.lemmas.Slice.Eq.{bytes_eq-Decides}
-use Rattle.std.proofs.lemmas.Bool.Decides.{nat_tests}
 use Rattle.ux_words.specs.declared.command.Command.{Command}
 use Rattle.ux_words.specs.declared.command.OptionName.{OptionName}
 use Rattle.ux_words.specs.declared.command.OptionName.TheVariants as option
-use Rattle.ux_words.specs.declared.setting.Setting.{Setting}
-use Rattle.ux_words.specs.declared.word.Word.TheVariants as word
-use Rattle.ux_words.specs.Tables.{word_of_option, setting_of, flag_of}
+use Rattle.ux_words.specs.Words as word
+use Rattle.ux_words.specs.Tables.{word_of_option}
 use Rattle.ux_words.specs.Arguments.{EQUALS, Given, given_of, is_empty, is_name, word_of, said_by, with_name, with_setting}
 use Rattle.ux_words.specs.Writing.{Writes, nothing, behind_end, file, flag, spaced, joined}
+use Rattle.ux_words.proofs.BoolLemmas.{not_empty}
+use Rattle.ux_words.proofs.FlagLemmas.{value_no_flag}
 use Rattle.ux_words.proofs.GivenLemmas.{given_of-name, given_of-setting, given_of-value}
-
-not_empty : (n : ℕ) → (suc n == 0) ≡ false
-not_empty n = grind (arith, nat_tests)
-
--- an option takes no value where it is a flag
-no_flag : (option : OptionName) (value : List ℕ) (setting : Setting) →
-    setting_of option value ≡ Some setting → flag_of option ≡ None
-no_flag option.Mode value setting e = refl
-no_flag option.Policy value setting e = refl
-no_flag option.NoVar value setting e = let wrong : None ≡ Some setting = e in cc
-no_flag option.Left value setting e = refl
-no_flag option.Right value setting e = refl
-no_flag option.Sort value setting e = refl
-no_flag option.Delas value setting e = let wrong : None ≡ Some setting = e in cc
 
 module _ (command : Command) where
   -- a name of a file isn't `--`
@@ -88,7 +74,7 @@ module _ (command : Command) where
       ∙ ap (option_map (with_setting setting)) (given_of-Writes later)
   given_of-Writes (spaced {value = value} {words = words} option setting has is later) =
       given_of-value command (word_of_option option) option setting (value ∷ words)
-      (word_of-option option ∙ rw (has, no_flag option value setting is) refl) is
+      (word_of-option option ∙ rw (has, value_no_flag option value setting is) refl) is
       ∙ ap (option_map (with_setting setting)) (given_of-Writes later)
   given_of-Writes (joined {words = words} option value setting has is later) =
       given_of-setting command (word_of_option option ++ EQUALS ∷ value) setting words

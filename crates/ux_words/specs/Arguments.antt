@@ -1,13 +1,13 @@
 -- How the words behind a command are read.
-use Rattle.std.specs.Prelude.{ℕ, ◌||◌, ◌==◌, Bool, false, not, List, [], ◌∷◌, ◌++◌, length, codes, if◌then◌else◌, Option, Some, None, option_map, option_and_then}
+use Rattle.std.specs.Prelude.{ℕ, ◌||◌, ◌==◌, Bool, false, not, List, [], ◌∷◌, length, codes, if◌then◌else◌, Option, Some, None, option_map, option_and_then}
 use Rattle.std.specs.List.{list_any, before_first, after_first}
 use Rattle.std.specs.Option.{option_map_or}
 use Rattle.std.specs.Str.{bytes_eq}
 use Rattle.ux_words.specs.declared.command.Command.{Command}
 use Rattle.ux_words.specs.declared.command.OptionName.{OptionName}
-use Rattle.ux_words.specs.declared.setting.Setting.{Setting}
-use Rattle.ux_words.specs.declared.word.Word.{Word}
-use Rattle.ux_words.specs.declared.word.Word.TheVariants as word
+use Rattle.ux_words.specs.Settings.{Setting}
+use Rattle.ux_words.specs.Words.{Word}
+use Rattle.ux_words.specs.Words as word
 use Rattle.ux_words.specs.Tables.{option_named, setting_of, flag_of}
 
 abbrev pub HYPHEN : ℕ
@@ -97,18 +97,3 @@ given_of command (text ∷ []) =
 given_of command (text ∷ value ∷ rest) =
     said_with (word_of command text) text (value ∷ rest) (given_of command (value ∷ rest))
     (λ option. with_value option value (given_of command rest))
-
--- READING ON
-
--- what is given first, and then what follows
-abbrev pub both : Given → Given → Given
-both first later =
-    record { settings = first.settings ++ later.settings; files = first.files ++ later.files }
-
-abbrev pub with_all : Given → Option Given → Option Given
-with_all first = option_map (both first)
-
--- the setting of an option to the first of the words
-abbrev pub first_setting : OptionName → List (List ℕ) → Option Setting
-first_setting option [] = None
-first_setting option (value ∷ words) = setting_of option value

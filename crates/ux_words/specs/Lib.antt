@@ -1,5 +1,7 @@
+pub mod Settings
+pub mod Words
 pub mod Tables
 pub mod Arguments
 pub mod Requests
-pub mod Filling
 pub mod Writing
+pub mod Matching

@@ -11,8 +11,8 @@ use Rattle.ux_base.specs.declared.settings.Sort.{Sort}
 use Rattle.ux_base.specs.declared.settings.Sort.TheVariants.{TO}
 use Rattle.ux_words.specs.declared.command.Command.{Command}
 use Rattle.ux_words.specs.declared.command.Command.TheVariants.{Locate, Concord, Tokenize, Check, Dico, Fst2, Inflect, Compress, Tfst, Elag, Bench}
-use Rattle.ux_words.specs.declared.setting.Setting.{Setting}
-use Rattle.ux_words.specs.declared.setting.Setting.TheVariants as setting
+use Rattle.ux_words.specs.Settings.{Setting}
+use Rattle.ux_words.specs.Settings as setting
 use Rattle.ux_words.specs.declared.options.Options.{Options}
 use Rattle.ux_words.specs.declared.request.Request.{Request}
 use Rattle.ux_words.specs.declared.request.Request.TheVariants as request

@@ -13,8 +13,8 @@ use Rattle.ux_words.specs.declared.command.Command.{Command}
 use Rattle.ux_words.specs.declared.command.Command.TheVariants.{Locate, Concord, Tokenize, Check, Dico, Fst2, Inflect, Compress, Tfst, Elag, Bench}
 use Rattle.ux_words.specs.declared.command.OptionName.{OptionName}
 use Rattle.ux_words.specs.declared.command.OptionName.TheVariants as option
-use Rattle.ux_words.specs.declared.setting.Setting.{Setting}
-use Rattle.ux_words.specs.declared.setting.Setting.TheVariants as setting
+use Rattle.ux_words.specs.Settings.{Setting}
+use Rattle.ux_words.specs.Settings as setting
 
 abbrev pub Word : Type 0
 Word = List ℕ

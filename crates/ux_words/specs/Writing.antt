@@ -3,7 +3,7 @@ use Rattle.std.specs.Prelude.{◌≡◌, ℕ, true, false, List, [], ◌∷◌, 
 use Rattle.std.specs.List.{list_any}
 use Rattle.ux_words.specs.declared.command.Command.{Command}
 use Rattle.ux_words.specs.declared.command.OptionName.{OptionName}
-use Rattle.ux_words.specs.declared.setting.Setting.{Setting}
+use Rattle.ux_words.specs.Settings.{Setting}
 use Rattle.ux_words.specs.Tables.{option_named, word_of_option, setting_of, flag_of}
 use Rattle.ux_words.specs.Arguments.{EQUALS, Given, NOTHING, is_empty, is_name, with_name, with_setting}
 

@@ -1,10 +1,11 @@
 //! The commands, by their words, and the options that each takes.
 
 ghost use Rattle.std.specs.Prelude.{◌≡◌};
-ghost use Rattle.ux_words.specs.Tables.{command_named, option_named, option_among, SEARCH_OPTIONS, CONCORD_OPTIONS, CHECK_OPTIONS};
+ghost use Rattle.ux_words.specs.Tables.{command_named, options_of};
+ghost use Rattle.ux_words.specs.Matching.{id_of};
 
 /// What the program is asked to do.
-#[derive(Clone, Copy, Debug, PartialEq, Eq)]
+#[derive(Clone, Copy)]
 pub enum Command {
     /// Lists the places where a graph is found.
     Locate,
@@ -31,7 +32,7 @@ pub enum Command {
 }
 
 /// An option, by its name.
-#[derive(Clone, Copy, Debug, PartialEq, Eq)]
+#[derive(Clone, Copy)]
 pub enum OptionName {
     /// `--mode`: what becomes of outputs.
     Mode,
@@ -70,14 +71,14 @@ impl Command {
         }
     }
 
-    /// The option of the command with this name, which isn't shortened.
-    pub fn option(self, name: &str) -> Option<OptionName>
-        ensures { result ≡ option_named self name.now }
+    /// The options that the command takes.
+    pub fn options(self) -> &'static [OptionName]
+        ensures { result.now ≡ options_of self }
     {
         match self {
-            Command::Locate => search_option(name),
-            Command::Concord => concord_option(name),
-            Command::Check => check_option(name),
+            Command::Locate => SEARCH_OPTIONS.as_slice(),
+            Command::Concord => CONCORD_OPTIONS.as_slice(),
+            Command::Check => CHECK_OPTIONS.as_slice(),
             Command::Tokenize
             | Command::Dico
             | Command::Fst2
@@ -85,38 +86,37 @@ impl Command {
             | Command::Compress
             | Command::Tfst
             | Command::Elag
-            | Command::Bench => None,
+            | Command::Bench => &[],
         }
     }
 }
 
-fn search_option(name: &str) -> Option<OptionName>
-    ensures { result ≡ option_among SEARCH_OPTIONS name.now }
-{
-    match name {
-        "--mode" => Some(OptionName::Mode),
-        "--policy" => Some(OptionName::Policy),
-        "--novar" => Some(OptionName::NoVar),
-        _ => None,
-    }
-}
+static SEARCH_OPTIONS: [OptionName; 3] = [OptionName::Mode, OptionName::Policy, OptionName::NoVar];
 
-fn concord_option(name: &str) -> Option<OptionName>
-    ensures { result ≡ option_among CONCORD_OPTIONS name.now }
-{
-    match name {
-        "--left" => Some(OptionName::Left),
-        "--right" => Some(OptionName::Right),
-        "--sort" => Some(OptionName::Sort),
-        _ => search_option(name),
-    }
-}
+static CONCORD_OPTIONS: [OptionName; 6] = [
+    OptionName::Left,
+    OptionName::Right,
+    OptionName::Sort,
+    OptionName::Mode,
+    OptionName::Policy,
+    OptionName::NoVar,
+];
 
-fn check_option(name: &str) -> Option<OptionName>
-    ensures { result ≡ option_among CHECK_OPTIONS name.now }
-{
-    match name {
-        "--delas" => Some(OptionName::Delas),
-        _ => None,
+static CHECK_OPTIONS: [OptionName; 1] = [OptionName::Delas];
+
+impl OptionName {
+    /// The option's name, without the hyphens in front of it.
+    pub fn name<'a>(self) -> &'a str
+        ensures { result.now ≡ id_of self }
+    {
+        match self {
+            OptionName::Mode => "mode",
+            OptionName::Policy => "policy",
+            OptionName::NoVar => "novar",
+            OptionName::Left => "left",
+            OptionName::Right => "right",
+            OptionName::Sort => "sort",
+            OptionName::Delas => "delas",
+        }
     }
 }

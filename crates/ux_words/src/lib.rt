@@ -3,8 +3,8 @@
 //! `Request::of` reads the words behind the program's name, for every command. The tables of the
 //! commands, their options and the options' values stand in `specs/Tables.antt`, how words are
 //! written in `specs/Arguments.antt`, and which request they are in `specs/Requests.antt`. Inside,
-//! `word` tells what a word is by itself, `arguments` reads the words behind the command, `options`
-//! takes each setting once, and `building` makes the request.
+//! `command` names the commands and their options, `arguments` has clap read the words behind the
+//! command, `options` and `names` take what it found, and `building` makes the request.
 //!
 //! ```text
 //! Request::of(alloc, &words)?     // locate --mode=merge g.grf t.txt a.txt d.dic
@@ -14,17 +14,13 @@
 mod arguments;
 mod building;
 mod command;
-mod cursor;
 pub mod error;
 pub mod help;
 mod names;
 mod number;
 mod options;
 pub mod request;
-mod setting;
-#[cfg(test)]
-mod tests;
-mod word;
+mod values;
 
 pub use error::WordsError;
 pub use help::{HELP, VERSION};

@@ -2,11 +2,13 @@
 //!
 //! Contracts see `Names` as the names that are left.
 
-ghost use Rattle.std.specs.Prelude.{◌≡◌, ◌≢◌, ◌↔◌, ◌∷◌, [], OnOk, IfOk, IfErr, IsTrue};
+ghost use Rattle.std.specs.Prelude.{◌≡◌, ◌≢◌, ◌↔◌, ◌∷◌, [], map, OnOk, IfOk, IfErr, IsTrue};
+ghost use Rattle.ux_words.specs.Matching.{files_in, matched};
 ghost use Rattle.std.specs.Vec.Iter.{into_iter_items};
 ghost use Rattle.ux_words.specs.declared.error.WordsError.TheVariants.{Usage, NoMemory};
 
 use crate::error::WordsError;
+use clap::ArgMatches;
 use std::alloc::{AllocError, Global};
 use std::marker::Model;
 use std::vec::IntoIter;
@@ -28,13 +30,18 @@ impl Model for Names {
 }
 
 impl Names {
-    /// All of the names.
-    pub fn new(files: Vec<Txt>) -> Names
-        ensures { result ≡ files.items }
+    /// The names that clap found.
+    pub fn of(alloc: Global, matches: &ArgMatches<'_>) -> Result<Names, AllocError>
+        ensures { IfOk result (λ names. names ≡ files_in (matched matches.now)) }
     {
-        Names {
-            files: files.into_iter(),
+        let names = matches.get_strs("files").unwrap_or(&[]);
+        let mut files = Vec::new(alloc);
+        for name in names {
+            files.push(Txt::from_str(alloc, name)?)?;
         }
+        Ok(Names {
+            files: files.into_iter(),
+        })
     }
 
     /// The next name, which has to be there.

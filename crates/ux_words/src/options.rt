@@ -1,14 +1,15 @@
-//! The settings of a command, each option at most once.
+//! The options that clap found, with their values.
 
-ghost use Rattle.std.specs.Prelude.{◌≡◌, None, Some, IsSome, IsTrue, false};
-ghost use Rattle.ux_words.specs.Requests.{options_of};
-ghost use Rattle.ux_words.specs.Filling.{IsSetBy, Repeats};
+ghost use Rattle.std.specs.Prelude.{◌≡◌, codes, option_map};
+ghost use Rattle.ux_words.specs.Matching.{matched, options_in, first_in, value_if_given, is_set_in};
+ghost use Rattle.ux_words.specs.Tables.{mode_named, policy_named, sort_named, width_of};
 
-use crate::setting::Setting;
+use crate::values::{mode, policy, sort, width};
+use clap::ArgMatches;
 use ux_base::{Mode, NoVar, Policy, Sort};
 
 /// What the options are set to; none of an option that isn't given.
-#[derive(Clone, Copy, Debug, PartialEq, Eq)]
+#[derive(Clone, Copy)]
 pub struct Options {
     /// What becomes of outputs.
     pub mode: Option<Mode>,
@@ -27,55 +28,72 @@ pub struct Options {
 }
 
 impl Options {
-    const NONE: Options = Options {
-        mode: None,
-        policy: None,
-        novar: None,
-        left: None,
-        right: None,
-        sort: None,
-        delas: None,
-    };
-
-    /// The options that the settings give, if none is given twice.
-    pub fn of(settings: &[Setting]) -> Option<Options>
-        ensures { result ≡ options_of settings.now }
+    /// The options that are found, if each value is one of its option's.
+    pub fn of(matches: &ArgMatches<'_>) -> Option<Options>
+        ensures { result ≡ options_in (matched matches.now) }
     {
-        let mut options = Options::NONE;
-        for setting in settings {
-            if !options.set(*setting) {
-                return None;
-            }
-        }
-        Some(options)
-    }
-
-    /// Sets an option; whether it wasn't set before.
-    fn set(&mut self, setting: Setting) -> bool
-        ensures yes { IsTrue result → IsSetBy setting self.old self.new }
-        ensures no { result ≡ false → Repeats setting self.old }
-    {
-        match setting {
-            Setting::Mode(mode) => fill(&mut self.mode, mode),
-            Setting::Policy(policy) => fill(&mut self.policy, policy),
-            Setting::NoVar => fill(&mut self.novar, NoVar::Drop),
-            Setting::Left(left) => fill(&mut self.left, left),
-            Setting::Right(right) => fill(&mut self.right, right),
-            Setting::Sort(sort) => fill(&mut self.sort, sort),
-            Setting::Delas => fill(&mut self.delas, true),
-        }
+        Some(Options {
+            mode: mode_in(matches)?,
+            policy: policy_in(matches)?,
+            novar: is_given(matches, "novar").then_some(NoVar::Drop),
+            left: width_in(matches, "left")?,
+            right: width_in(matches, "right")?,
+            sort: sort_in(matches)?,
+            delas: is_given(matches, "delas").then_some(true),
+        })
     }
 }
 
-/// Fills a place; whether it was empty.
-fn fill<T: Copy>(place: &mut Option<T>, value: T) -> bool
-    ensures empty { IsTrue result → place.old ≡ None }
-    ensures filled { IsTrue result → place.new ≡ Some value }
-    ensures full { result ≡ false → IsSome place.old }
+fn mode_in(matches: &ArgMatches<'_>) -> Option<Option<Mode>>
+    ensures { result ≡ value_if_given mode_named (first_in (codes "mode") (matched matches.now)) }
 {
-    if place.is_some() {
-        return false;
+    match value_in(matches, "mode") {
+        Some(value) => Some(Some(mode(value)?)),
+        None => Some(None),
     }
-    *place = Some(value);
-    true
+}
+
+fn policy_in(matches: &ArgMatches<'_>) -> Option<Option<Policy>>
+    ensures { result
+        ≡ value_if_given policy_named (first_in (codes "policy") (matched matches.now)) }
+{
+    match value_in(matches, "policy") {
+        Some(value) => Some(Some(policy(value)?)),
+        None => Some(None),
+    }
+}
+
+fn width_in(matches: &ArgMatches<'_>, id: &str) -> Option<Option<u32>>
+    ensures { result ≡ value_if_given width_of (first_in id.now (matched matches.now)) }
+{
+    match value_in(matches, id) {
+        Some(value) => Some(Some(width(value)?)),
+        None => Some(None),
+    }
+}
+
+fn sort_in(matches: &ArgMatches<'_>) -> Option<Option<Sort>>
+    ensures { result ≡ value_if_given sort_named (first_in (codes "sort") (matched matches.now)) }
+{
+    match value_in(matches, "sort") {
+        Some(value) => Some(Some(sort(value)?)),
+        None => Some(None),
+    }
+}
+
+/// Whether a flag is given.
+fn is_given(matches: &ArgMatches<'_>, id: &str) -> bool
+    ensures { result ≡ is_set_in id.now (matched matches.now) }
+{
+    match value_in(matches, id) {
+        Some(value) => value == "true",
+        None => false,
+    }
+}
+
+/// The value that was found first under an id.
+fn value_in<'a>(matches: &ArgMatches<'a>, id: &str) -> Option<&'a str>
+    ensures { option_map (λ value. value.now) result ≡ first_in id.now (matched matches.now) }
+{
+    matches.get_str(id)
 }

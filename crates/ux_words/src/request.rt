@@ -4,12 +4,10 @@ ghost use Rattle.std.specs.Prelude.{◌≡◌, map, string_bytes, Some, None, On
 ghost use Rattle.ux_words.specs.Requests.{request_of, command_request, question_of};
 ghost use Rattle.ux_words.specs.declared.error.WordsError.TheVariants.{Usage};
 
-use crate::arguments::Arguments;
+use crate::arguments::read;
 use crate::building::build;
 use crate::command::Command;
 use crate::error::WordsError;
-use crate::names::Names;
-use crate::options::Options;
 use std::alloc::Global;
 use ux_base::{Lst, Mode, NoVar, Policy, Sort, Txt};
 
@@ -131,7 +129,6 @@ fn command_request(alloc: Global, name: &str, words: &[String]) -> Result<Reques
         command_request name.now (map string_bytes words.now) ≡ None }
 {
     let command = Command::named(name).ok_or(WordsError::Usage)?;
-    let arguments = Arguments::read(alloc, command, words)?;
-    let options = Options::of(&arguments.settings).ok_or(WordsError::Usage)?;
-    build(alloc, command, &options, Names::new(arguments.files))
+    let (options, names) = read(alloc, command, words)?;
+    build(alloc, command, &options, names)
 }

@@ -1,7 +1,7 @@
 -- How the options are filled, one setting after the other.
 use Rattle.std.specs.Prelude.{◌≡◌, List, ◌++◌, Option, IsSome, option_to_list, filter_map}
-use Rattle.ux_words.specs.declared.setting.Setting.{Setting}
-use Rattle.ux_words.specs.declared.setting.Setting.TheVariants as setting
+use Rattle.ux_words.specs.Settings.{Setting}
+use Rattle.ux_words.specs.Settings as setting
 use Rattle.ux_words.specs.declared.options.Options.{Options}
 use Rattle.ux_words.specs.Requests.{mode_in, policy_in, novar_in, left_in, right_in, sort_in, delas_in}
 

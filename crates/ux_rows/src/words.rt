@@ -1,10 +1,9 @@
 //! Rows of words, with `|` between them.
 
-use crate::error::WordsError;
-use crate::request::Request;
 use std::alloc::Global;
 use std::process::Abort;
 use std::test::Fail;
+use ux_words::{Request, WordsError};
 
 fn read(alloc: Global, line: &str) -> Result<Result<Request, WordsError>, Fail> {
     let mut words = Vec::new(alloc);
@@ -78,14 +77,16 @@ fn reads_each_command(rt: HostRuntime) -> Result<(), Fail> {
 /// Words, and others that ask for the same; none where they are no request.
 type Row = (&'static str, &'static str);
 
-fn check(rt: &impl Abort, alloc: Global, row: &Row) -> Result<(), Fail> {
-    let got = read(alloc, row.0)?;
-    let want = if row.1.is_empty() {
-        Err(WordsError::Usage)
-    } else {
-        Ok(read(alloc, row.1)??)
-    };
-    assert_eq!(rt; got, want, "{}", row.0);
+fn check<R: Abort + AllocGlobal>(rt: &R, rows: &[Row]) -> Result<(), Fail> {
+    for (words, same) in rows {
+        let got = read(rt.alloc(), words)?;
+        let want = if same.is_empty() {
+            Err(WordsError::Usage)
+        } else {
+            Ok(read(rt.alloc(), same)??)
+        };
+        assert_eq!(rt; got, want, "{words}");
+    }
     Ok(())
 }
 
@@ -152,10 +153,7 @@ fn reads_every_form_of_an_option(rt: HostRuntime) -> Result<(), Fail> {
         ("bench|x", ""),
         ("bench|--|5", "bench|5"),
     ];
-    for row in ROWS {
-        check(&rt, rt.alloc(), row)?;
-    }
-    Ok(())
+    check(&rt, ROWS)
 }
 
 #[test]
@@ -208,10 +206,7 @@ fn reads_names_of_files(rt: HostRuntime) -> Result<(), Fail> {
         ("--help=", ""),
         ("-h", ""),
     ];
-    for row in ROWS {
-        check(&rt, rt.alloc(), row)?;
-    }
-    Ok(())
+    check(&rt, ROWS)
 }
 
 #[test]
@@ -227,10 +222,7 @@ fn takes_no_option_where_a_command_has_none(rt: HostRuntime) -> Result<(), Fail>
         ("bench|--right|5|6", ""),
         ("check|--mode=merge|d", ""),
     ];
-    for row in ROWS {
-        check(&rt, rt.alloc(), row)?;
-    }
-    Ok(())
+    check(&rt, ROWS)
 }
 
 #[test]

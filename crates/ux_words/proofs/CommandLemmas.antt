@@ -1,0 +1,177 @@
+-- What clap makes of a command with these options: its rules as built, when it fails, and what it
+-- finds.
+use Rattle.std.proofs.Common.{◌≡◌, ◌∙◌, refl, sym, ap, Bool, true, false, not, ◌&&◌, ◌||◌, List, [], ◌∷◌, ◌++◌, map, fold, append_assoc, append-nil, Option, Some, None, is_some, count_by, codes, if◌then◌else◌}
+use Rattle.std.specs.List.{list_all, list_any}
+use Rattle.clap.specs.Kinds.{Kinds, or_else}
+use Rattle.clap.specs.Faults.{default_fault, defaults_fault, settle_fault, turn_fault, walk_fault, is_simple_and_free}
+use Rattle.clap.specs.Takes.{is_given}
+use Rattle.clap.specs.Walk.{Row, Rule, Text, Walk, has_row, is_early_multiple, settled, walked, with_default, with_values}
+use Rattle.clap.specs.declared.builder.value_parser.Reading.TheVariants.{AsWritten}
+use Rattle.clap.specs.declared.parser.matches.ValueSource.TheVariants.{DefaultValue}
+use Rattle.clap.specs.Simple.{App, built, filled_from, with_rule, on_top, is_simple}
+use Rattle.ux_words.specs.declared.command.OptionName.{OptionName}
+use Rattle.ux_words.specs.declared.command.OptionName.TheVariants as option
+use Rattle.ux_words.specs.Matching.{option_rule, files_rule, BARE, FILES, app_with, Found, found_in, read_in}
+use Rattle.ux_words.proofs.BoolLemmas.{not_some}
+use Rattle.ux_words.proofs.Uses.{built_option, rules_with, is_none}
+use Rattle.ux_words.proofs.RowLemmas.{put, has_row-found, found-used}
+use Rattle.ux_words.proofs.Walks.{shape_with, rows_at_end}
+
+-- AS BUILT
+
+abbrev pub with_rules : List Rule → App → App
+with_rules rules app = on_top (λ s. record s { rules = rules }) app
+
+pub rules_more : (options : List OptionName) (app : App) →
+    fold (λ app option. with_rule app (option_rule option)) app options
+    ≡ with_rules (app.top.rules ++ map option_rule options) app
+rules_more [] app = ap (λ rules. with_rules rules app) (sym (append-nil app.top.rules))
+rules_more (option ∷ options) app = rules_more options (with_rule app (option_rule option))
+    ∙ ap (λ rules. with_rules rules app)
+    (append_assoc app.top.rules (option_rule option ∷ []) (map option_rule options))
+
+built_from : (options : List OptionName) →
+    filled_from 1 (map option_rule options ++ files_rule ∷ []) ≡ rules_with options
+built_from [] = refl
+built_from (option ∷ options) = ap (λ rules. built_option option ∷ rules) (built_from options)
+
+-- the command as it is built
+pub app_built : (options : List OptionName) →
+    built (app_with options) ≡ record { top = shape_with options; subs = [] }
+app_built options = rw (rules_more options BARE) (rw (built_from options) refl)
+
+-- SIMPLE
+
+simple_options : (options : List OptionName) →
+    list_all (λ (a : Rule). a.is_simple) (map option_rule options ++ files_rule ∷ []) ≡ true
+simple_options [] = refl
+simple_options (option ∷ options) = simple_options options
+
+simple_rules : (options : List OptionName) →
+    list_all (λ (a : Rule). a.is_simple) (rules_with options) ≡ true
+simple_rules [] = refl
+simple_rules (option ∷ options) = simple_rules options
+
+free_rules : (options : List OptionName) →
+    list_all (λ (a : Rule). a.is_free) (rules_with options) ≡ true
+free_rules [] = refl
+free_rules (option ∷ options) = free_rules options
+
+one_positional : (options : List OptionName) →
+    count_by (λ (a : Rule). is_some a.index) (rules_with options) ≡ 1
+one_positional [] = refl
+one_positional (option ∷ options) = one_positional options
+
+in_order : (options : List OptionName) →
+    list_any (is_early_multiple 1) (rules_with options) ≡ false
+in_order [] = refl
+in_order (option ∷ options) = in_order options
+
+pub app_simple : (options : List OptionName) → is_simple (app_with options) ≡ true
+app_simple options = rw (app_built options, rules_more options BARE, simple_options options)
+    (rw (simple_rules options, one_positional options) (rw (in_order options) refl))
+
+pub app_simple_and_free : (options : List OptionName) →
+    is_simple_and_free (app_with options) ≡ true
+app_simple_and_free options = rw (app_simple options, app_built options, free_rules options) refl
+
+-- AT THE END
+
+pub none_required : (options : List OptionName) (rows : List Row) →
+    list_any (λ (a : Rule). a.required && not (is_given a.id rows)) (rules_with options) ≡ false
+none_required [] rows = refl
+none_required (option ∷ options) rows = none_required options rows
+
+-- DEFAULTS
+
+never_checked : (given : Bool) (kinds : Kinds) → (if given || true then [] else kinds) ≡ []
+never_checked true kinds = refl
+never_checked false kinds = refl
+
+fine_default : (given : Bool) → ◌≡◌ {A = Kinds} (if given || false then [] else []) []
+fine_default true = refl
+fine_default false = refl
+
+default_passes : (option : OptionName) (rows : List Row) →
+    default_fault rows (built_option option) ≡ []
+default_passes option.Mode rows = never_checked (has_row (codes "mode") rows) _
+default_passes option.Policy rows = never_checked (has_row (codes "policy") rows) _
+default_passes option.NoVar rows = fine_default (has_row (codes "novar") rows)
+default_passes option.Left rows = never_checked (has_row (codes "left") rows) _
+default_passes option.Right rows = never_checked (has_row (codes "right") rows) _
+default_passes option.Sort rows = never_checked (has_row (codes "sort") rows) _
+default_passes option.Delas rows = fine_default (has_row (codes "delas") rows)
+
+pub defaults_pass : (options : List OptionName) (rows : List Row) →
+    defaults_fault rows (rules_with options) ≡ []
+unfolding defaults_fault
+defaults_pass [] rows = rw (never_checked (has_row FILES rows) _) refl
+defaults_pass (option ∷ options) rows = rw (default_passes option rows)
+    (defaults_pass options (with_default rows (built_option option)))
+
+either_way : {T : Type 0} (b : Bool) (x : T) → (if b then x else x) ≡ x
+either_way true x = refl
+either_way false x = refl
+
+-- a default changes nothing of what is read
+not_set : (found : Found) → found (codes "novar") ≡ None →
+    read_in (put (codes "novar") (codes "false" ∷ []) found) ≡ read_in found
+not_set found none = rw none refl
+
+not_stems : (found : Found) → found (codes "delas") ≡ None →
+    read_in (put (codes "delas") (codes "false" ∷ []) found) ≡ read_in found
+not_stems found none = rw none refl
+
+flag_default : (id : Text) (rows : List Row) → ((found : Found) → found id ≡ None →
+    read_in (put id (codes "false" ∷ []) found) ≡ read_in found) → (given : Bool) →
+    has_row id rows ≡ given →
+    read_in (found_in (if given then rows
+    else with_values id AsWritten DefaultValue (codes "false" ∷ []) rows)) ≡ read_in (found_in rows)
+flag_default id rows alike true e = refl
+flag_default id rows alike false e =
+    ap read_in (found-used id AsWritten DefaultValue (codes "false" ∷ []) rows)
+    ∙ alike (found_in rows) (not_some (found_in rows id) (sym (has_row-found id rows) ∙ e))
+
+read-default : (option : OptionName) (rows : List Row) →
+    read_in (found_in (with_default rows (built_option option))) ≡ read_in (found_in rows)
+read-default option.Mode rows = rw (either_way (has_row (codes "mode") rows) rows) refl
+read-default option.Policy rows = rw (either_way (has_row (codes "policy") rows) rows) refl
+read-default option.NoVar rows =
+    flag_default (codes "novar") rows not_set (has_row (codes "novar") rows) refl
+read-default option.Left rows = rw (either_way (has_row (codes "left") rows) rows) refl
+read-default option.Right rows = rw (either_way (has_row (codes "right") rows) rows) refl
+read-default option.Sort rows = rw (either_way (has_row (codes "sort") rows) rows) refl
+read-default option.Delas rows =
+    flag_default (codes "delas") rows not_stems (has_row (codes "delas") rows) refl
+
+pub read-defaults : (options : List OptionName) (rows : List Row) →
+    read_in (found_in (fold with_default rows (rules_with options))) ≡ read_in (found_in rows)
+read-defaults [] rows = rw (either_way (has_row FILES rows) rows) refl
+read-defaults (option ∷ options) rows =
+    read-defaults options (with_default rows (built_option option)) ∙ read-default option rows
+
+-- ALL OF THE WALK
+
+first_then : (turn later last : Kinds) (end next : Option (List Row)) →
+    next ≡ (if is_none (or_else later last) then end else None) →
+    (if is_none turn then next else None)
+    ≡ (if is_none (or_else (or_else turn later) last) then end else None)
+first_then [] later last end next is = is
+first_then (kind ∷ kinds) later last end next is = refl
+
+-- the end of the walk, as clap tells it
+pub rows_at_end-is : (options : List OptionName) (words : List Text) (start : Walk) →
+    rows_at_end options start words
+    ≡ (if is_none (or_else (walk_fault (shape_with options) [] start words)
+    (settle_fault (rules_with options) false
+    (fold (walked (rules_with options) []) start words).held))
+    then Some (settled (rules_with options)
+    (fold (walked (rules_with options) []) start words).held).rows else None)
+unfolding walk_fault walked
+rows_at_end-is options [] start = refl
+rows_at_end-is options (text ∷ words) start = first_then
+    (turn_fault (shape_with options) [] start text)
+    (walk_fault (shape_with options) [] (walked (rules_with options) [] start text) words)
+    (settle_fault (rules_with options) false
+    (fold (walked (rules_with options) []) (walked (rules_with options) [] start text) words).held)
+    _ _ (rows_at_end-is options words (walked (rules_with options) [] start text))

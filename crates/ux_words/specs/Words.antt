@@ -1,0 +1,12 @@
+-- What a word is that stands before `--`.
+use Rattle.ux_words.specs.declared.command.OptionName.{OptionName}
+use Rattle.ux_words.specs.Settings.{Setting as OptionSetting}
+
+-- `--`, behind which all words are names of files; such a name; a flag, or an option with its
+-- value; an option whose value is the next word; or none of these
+pub data Word : Type 0 where
+  OptionsEnd : Word
+  FileName : Word
+  Setting : OptionSetting → Word
+  AwaitsValue : OptionName → Word
+  Unknown : Word
