@@ -20,7 +20,7 @@ use Rattle.ux_net.specs.declared.error.NetError.{NetError}
 use Rattle.ux_net.specs.declared.error.NetError.TheVariants as net_error
 use Rattle.ux_net.proofs.RefusingLemmas.{compilable_not_refused}
 use Rattle.ux_tokens.specs.Tokens.{AreTokens, Token}
-use Rattle.ux_tokens.specs.Reading.{OPENING_BRACE}
+use Rattle.ux_tokens.specs.Reading.{HasOpenBrace}
 use Rattle.ux_tokens.proofs.UniqueLemmas.{tokens_unique}
 use Rattle.unitex.specs.declared.status.Status.{Status}
 use Rattle.unitex.specs.declared.status.Status.TheVariants.{Done, Usage, Absent, Refused, ReadFault, WriteFault, TooLarge, NoMemory}
@@ -119,7 +119,7 @@ text_taken told name alphabet tokens has (Decode error) refused =
 text_taken told name alphabet tokens has (Alphabet error) refused = refused
 text_taken told name alphabet tokens has (Grf error) refused = refused
 text_taken told name alphabet tokens has (Text error) refused =
-    has.no_brace (subst (λ (t : List ℕ). Contains t OPENING_BRACE)
+    has.no_open_brace (subst HasOpenBrace
     (same_text told name has.text has.has refused.0 refused.1) refused.3)
 text_taken told name alphabet tokens has (Net error) refused = refused
 text_taken told name alphabet tokens has TooManyGraphs refused = refused

@@ -9,6 +9,7 @@ pub mod IndexLemmas
 pub mod Indexing
 pub mod Listing
 pub mod NamingLemmas
+pub mod OneHit
 pub mod Rendering
 pub mod RunningExamples
 pub mod Sets

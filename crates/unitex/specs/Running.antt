@@ -1,5 +1,5 @@
 -- What a run has to answer, and why it may end otherwise.
-use Rattle.std.specs.Prelude.{◌≡◌, ◌≢◌, ◌⊎◌, ⊤, ℕ, ◌<◌, ◌≤◌, if◌then◌else◌, List, Contains, length, Option, Some, None, IfSome, IsSome, IsSomeAnd, Ok, Err, slice_get, take}
+use Rattle.std.specs.Prelude.{◌≡◌, ◌≢◌, ◌⊎◌, ⊤, ℕ, ◌<◌, ◌≤◌, if◌then◌else◌, List, length, Option, Some, None, IfSome, IsSome, IsSomeAnd, Ok, Err, slice_get, take}
 use Rattle.std.specs.Str.{bytes_eq}
 use Rattle.ux_base.specs.Outside.{Files, file_named, MAX, Rose}
 use Rattle.ux_base.specs.declared.counts.Counts.{Counts}
@@ -18,10 +18,11 @@ use Rattle.ux_net.specs.Refusing.{IsCompilable}
 use Rattle.ux_net.specs.declared.error.NetError.{NetError}
 use Rattle.ux_net.specs.declared.error.NetError.TheVariants as net_error
 use Rattle.ux_tokens.specs.Tokens.{Token, AreTokens}
-use Rattle.ux_tokens.specs.Reading.{OPENING_BRACE}
+use Rattle.ux_tokens.specs.Reading.{HasOpenBrace}
 use Rattle.ux_tokens.specs.Reading as reading
 use Rattle.ux_tokens.specs.TokenFile.{token_file}
 use Rattle.ux_tokens.specs.declared.cutting.TheConstants.{MAX_TOKENS}
+use Rattle.ux_tokens.specs.declared.text_error.TextError.{TextError}
 use Rattle.ux_tokens.specs.declared.text_error.TextError.TheVariants as text_error
 use Rattle.ux_words.specs.declared.help.TheConstants.{HELP, VERSION}
 use Rattle.ux_words.specs.declared.request.Request.{Request}
@@ -82,7 +83,7 @@ pub record HasTokens (told : Option Files) (name : List ℕ) (alphabet : List Li
     (tokens : List Token) : Type 0 where
   pub text : List ℕ
   pub has : HasText told name text
-  pub no_brace : ¬ Contains text OPENING_BRACE
+  pub no_open_brace : ¬ HasOpenBrace text
   pub are : AreTokens alphabet text tokens
   pub few : length tokens ≤ MAX_TOKENS
 
@@ -200,7 +201,7 @@ RefusesText file (Decode error) = IsNoText file error
 RefusesText file (Alphabet error) = ⊥
 RefusesText file (Grf error) = ⊥
 RefusesText file (Text error) = (text : List ℕ) × IsTextOf file text
-    × (error ≡ text_error.NotYet) × Contains text OPENING_BRACE
+    × (error ≡ text_error.NotYet) × HasOpenBrace text
 RefusesText file (Net error) = ⊥
 RefusesText file TooManyGraphs = ⊥
 
@@ -208,7 +209,7 @@ RefusesText file TooManyGraphs = ⊥
 pub record HasTooManyTokens (alphabet : List Line) (file : List ℕ) : Type 0 where
   pub text : List ℕ
   pub is : IsTextOf file text
-  pub no_brace : ¬ Contains text OPENING_BRACE
+  pub no_open_brace : ¬ HasOpenBrace text
   pub more : reading.HasTooManyTokens alphabet text
 
 -- any bytes
@@ -263,6 +264,12 @@ Stops format name told old new (ReadFault named) = (named ≡ name) × Rose old.
 Stops format name told old new WriteFault = ⊥
 Stops format name told old new (TooLarge named) = (named ≡ name) × IsLong format name told old new
 Stops format name told old new NoMemory = ⊤
+
+-- a text that is refused so stops the reading so, wherever it is read from
+abbrev pub StopsText : List ℕ → TextError → Status → Type 0
+StopsText name error status = (told : Option Files) → (old new : Counts) → (alphabet : List Line) →
+    (text : List ℕ) → HasText told name text → reading.Refuses alphabet text error →
+    Stops (text_format alphabet) name told old new status
 
 -- the file of a graph that is behind those that were read stops the reading
 pub record StopsGrammar (told : Option Files) (word : List ℕ) (old new : Counts)

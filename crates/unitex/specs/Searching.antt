@@ -1,5 +1,6 @@
 -- What a search collects, and what it lists.
-use Rattle.std.specs.Prelude.{◌≡◌, ℕ, ◌+◌, ◌-◌, ◌<◌, List, Contains, Some, slice_get, ◌↔◌, ◌⊎◌}
+use Rattle.std.specs.Prelude.{◌≡◌, ℕ, ◌+◌, ◌-◌, ◌<◌, List, ◌++◌, Contains, Some, map, slice_get, ◌↔◌, ◌⊎◌}
+use Rattle.std.specs.List.Sorted.{IsStrictlyIncreasing}
 use Rattle.ux_outputs.specs.declared.event.Event.{Event}
 use Rattle.unitex.specs.declared.searching.Span.{Span}
 
@@ -20,6 +21,11 @@ EndsAt all start end = (found : ℕ × List Event) × Contains all found × IsEn
 -- the span from a start up to a position behind it
 abbrev pub span_to : ℕ → ℕ → Span
 span_to start end = record { first = start; last = end - 1 }
+
+-- the hits from a start were added, one for each position behind it at which a derivation ends
+abbrev pub AddsHits : (start : ℕ) → List (ℕ × List Event) → (old new : List Span) → Type 0
+AddsHits start found old new = (ends : List ℕ) × (new ≡ old ++ map (span_to start) ends)
+    × IsStrictlyIncreasing ends × ((e : ℕ) → Contains ends e ↔ EndsAt found start e)
 
 -- one span stands before another: by its first token, then by its last
 abbrev pub Precedes : Span → Span → Type 0

@@ -8,8 +8,10 @@ ghost use Rattle.ux_alphabet.specs.declared.line.Line.{Line};
 ghost use Rattle.ux_decode.specs.Decoding.{IsTextOf};
 ghost use Rattle.ux_decode.specs.declared.error.DecodeError.{DecodeError};
 ghost use Rattle.ux_base.specs.Outside.{MAX};
+ghost use Rattle.ux_tokens.specs.TokenFile.{token_file};
+ghost use Rattle.ux_tokens.specs.Tokens.{Token};
 ghost use Rattle.unitex.specs.Reading.{AreFiles, HasNet, StopsBefore};
-ghost use Rattle.unitex.specs.Running.{AreTokensOf, counts_of, HasBytes, HasText, HasAlphabet, HasTokens, IsNoText, NoneFell, Stops, ExplainsSearch, ExplainsTokens, alphabet_format, text_format, bytes_format, file_format};
+ghost use Rattle.unitex.specs.Running.{counts_of, HasBytes, HasText, HasAlphabet, HasTokens, IsNoText, IsTokenFileOf, NoneFell, Stops, StopsText, ExplainsSearch, ExplainsTokens, alphabet_format, text_format, bytes_format, file_format};
 
 use crate::graphs::{compile, read_graphs};
 use crate::status::{Reason, Status};
@@ -18,11 +20,11 @@ use ux_alphabet::{Alphabet, AlphabetError};
 use ux_base::{Folder, FolderError, Txt};
 use ux_decode::{DecodeError, decode};
 use ux_net::Net;
-use ux_tokens::{Text, TextError};
+use ux_tokens::{Text, TextError, token_file_of};
 use ux_words::Search;
 
 /// A search's files, each as its reader gives it.
-#[derive(Debug, Drop)]
+#[derive(Drop)]
 pub struct Files {
     /// The letters.
     pub alphabet: Alphabet,
@@ -59,24 +61,24 @@ pub fn read_files<F: Folder>(
     })
 }
 
-/// Reads a text and its letters, and gives the text's tokens, or says how the run ends.
-pub fn read_tokens<F: Folder>(
+/// Reads a text and its letters, and gives the token file of the text, or says how the run ends.
+pub fn read_token_file<F: Folder>(
     alloc: Global,
     text: &str,
     alphabet: &str,
     folder: &mut F,
-) -> Result<Text, Status>
+) -> Result<String, Status>
     ensures kept { F.files folder.new ≡ F.files folder.old }
     ensures counts { NoneFell (counts_of F.faults F.misses F.overlong folder.old)
         (counts_of F.faults F.misses F.overlong folder.new) }
-    ensures ok { IfOk result (λ tokens. (lines : List Line)
-        × AreTokensOf (F.files folder.old) text.now alphabet.now lines tokens) }
+    ensures ok { IfOk result (λ file.
+        IsTokenFileOf (F.files folder.old) text.now alphabet.now (string_bytes file)) }
     ensures err { IfErr result (ExplainsTokens text.now alphabet.now (F.files folder.old)
         (counts_of F.faults F.misses F.overlong folder.old)
         (counts_of F.faults F.misses F.overlong folder.new)) }
 {
     let alphabet = read_alphabet(alloc, alphabet, folder)?;
-    read_text(alloc, text, &alphabet, folder)
+    list_tokens(alloc, text, &alphabet, folder)
 }
 
 /// Reads the alphabet's file.
@@ -134,9 +136,42 @@ fn read_text<F: Folder>(
     let text = read_decoded(alloc, name, folder)?;
     match Text::read(alloc, text, alphabet) {
         Ok(text) => Ok(text),
-        Err(TextError::NoMemory) => Err(Status::NoMemory),
-        Err(TextError::TooManyTokens) => Err(too_large(alloc, name)),
-        Err(TextError::NotYet) => Err(refused(alloc, name, Reason::Text(TextError::NotYet))),
+        Err(error) => Err(no_tokens(alloc, name, error)),
+    }
+}
+
+/// Reads the text's file, and lists its different tokens.
+fn list_tokens<F: Folder>(
+    alloc: Global,
+    name: &str,
+    alphabet: &Alphabet,
+    folder: &mut F,
+) -> Result<String, Status>
+    ensures kept { F.files folder.new ≡ F.files folder.old }
+    ensures counts { NoneFell (counts_of F.faults F.misses F.overlong folder.old)
+        (counts_of F.faults F.misses F.overlong folder.new) }
+    ensures ok { IfOk result (λ file. (tokens : List Token)
+        × HasTokens (F.files folder.old) name.now alphabet.now tokens
+        × (string_bytes file ≡ token_file tokens)) }
+    ensures err { IfErr result (Stops (text_format alphabet.now) name.now (F.files folder.old)
+        (counts_of F.faults F.misses F.overlong folder.old)
+        (counts_of F.faults F.misses F.overlong folder.new)) }
+{
+    let text = read_decoded(alloc, name, folder)?;
+    match token_file_of(alloc, text, alphabet) {
+        Ok(file) => Ok(file),
+        Err(error) => Err(no_tokens(alloc, name, error)),
+    }
+}
+
+/// The ending that names a text which has no tokens here.
+fn no_tokens(alloc: Global, name: &str, error: TextError) -> Status
+    ensures { StopsText name.now error result }
+{
+    match error {
+        TextError::NoMemory => Status::NoMemory,
+        TextError::TooManyTokens => too_large(alloc, name),
+        TextError::NotYet => refused(alloc, name, Reason::Text(TextError::NotYet)),
     }
 }
 

@@ -3,11 +3,11 @@
 //! The main graph is walked from each token that is no space. What a walk finds from one start ends
 //! at some positions behind it, and each of them is a hit: its text is that of the tokens between.
 
-ghost use Rattle.std.specs.Prelude.{◌≡◌, ◌<◌, ◌↔◌, ◌++◌, ℕ, List, Contains, IsTrue, IfOk, OnOk, length, map};
+ghost use Rattle.std.specs.Prelude.{◌≡◌, ◌<◌, ◌≤◌, ◌↔◌, ◌++◌, ◌∷◌, [], ℕ, List, Contains, IsTrue, IfOk, OnOk, length};
 ghost use Rattle.std.specs.List.Sorted.{IsStrictlyIncreasing};
 ghost use Rattle.ux_net.specs.Nets.{net_grammar};
 ghost use Rattle.unitex.specs.Hits.{IsStart};
-ghost use Rattle.unitex.specs.Searching.{EndsAt, Includes, IsEndOf, ListsSpans, span_to};
+ghost use Rattle.unitex.specs.Searching.{AddsHits, EndsAt, Includes, IsEndOf, ListsSpans, span_to};
 ghost use Rattle.unitex.specs.Spans.{IsSpan};
 
 use std::alloc::{AllocError, Global};
@@ -20,7 +20,7 @@ use ux_tokens::{Kind, Text};
 use ux_walk::{Fronts, LookUps, walk_with};
 
 /// A hit by its first and last token.
-#[derive(Clone, Copy, Debug, PartialEq, Eq)]
+#[derive(Clone, Copy)]
 pub struct Span {
     /// The number of the first token in the text.
     pub first: usize,
@@ -70,15 +70,40 @@ fn push_hits(
     found: &[(usize, Lst<Event>)],
     hits: &mut Vec<Span>,
 ) -> Mem<()>
-    ensures { OnOk result ((ends : List ℕ)
-        × (hits.new.items ≡ hits.old.items ++ map (span_to start) ends)
-        × IsStrictlyIncreasing ends
-        × ((e : ℕ) → Contains ends e ↔ EndsAt found.now start e)) }
+    ensures { OnOk result (AddsHits start found.now hits.old.items hits.new.items) }
 {
-    // From nearly every start nothing is found.
-    if found.is_empty() {
-        return Ok(());
+    // From nearly every start nothing is found, and from most others one derivation.
+    match found {
+        [] => Ok(()),
+        [only] => push_hit(start, only.0, hits),
+        _ => push_ends(alloc, start, found, hits),
     }
+}
+
+/// Adds the hit from a start to a position, where that lies behind it.
+fn push_hit(start: usize, end: usize, hits: &mut Vec<Span>) -> Mem<()>
+    ensures some { OnOk result (start < end →
+        hits.new.items ≡ hits.old.items ++ span_to start end ∷ []) }
+    ensures none { OnOk result (end ≤ start → hits.new.items ≡ hits.old.items) }
+{
+    if start < end {
+        hits.push(Span {
+            first: start,
+            last: end - 1,
+        })?;
+    }
+    Ok(())
+}
+
+/// Adds the hits from a start, whatever was found.
+fn push_ends(
+    alloc: Global,
+    start: usize,
+    found: &[(usize, Lst<Event>)],
+    hits: &mut Vec<Span>,
+) -> Mem<()>
+    ensures { OnOk result (AddsHits start found.now hits.old.items hits.new.items) }
+{
     let ends = end_positions(alloc, start, found)?;
     for end in &ends {
         hits.push(Span {

@@ -7,17 +7,16 @@ ghost use Rattle.unitex.specs.Hits.{IsHit};
 ghost use Rattle.unitex.specs.Index.{IsIndex};
 ghost use Rattle.unitex.specs.Statuses.{line_of};
 ghost use Rattle.unitex.specs.Requests.{is_built, request_of};
-ghost use Rattle.unitex.specs.Running.{counts_of, Answers, IsAnswer, IsAnswerable, IsIndexOf, IsTokenFileOf, Denies, EndsBy, Explains, ExplainsSearch, ExplainsTokens, NoneFell, WritesNothing};
+ghost use Rattle.unitex.specs.Running.{counts_of, Answers, IsAnswer, IsAnswerable, IsIndexOf, Denies, EndsBy, Explains, ExplainsSearch, ExplainsTokens, NoneFell, WritesNothing};
 
 use crate::index::index_text;
-use crate::reading::{Files, read_files, read_tokens};
+use crate::reading::{Files, read_files, read_token_file};
 use crate::request::read_request;
 use crate::searching::hits;
 use crate::status::Status;
 use crate::telling::tell;
 use std::alloc::Global;
 use ux_base::{Folder, Mem, Sink};
-use ux_tokens::print_tokens;
 use ux_words::{HELP, Request, Search, VERSION};
 
 /// Does what the words ask for. The result is built whole, and then written to `out`; where there
@@ -113,7 +112,7 @@ fn answer_to<F: Folder>(alloc: Global, request: &Request, folder: &mut F) -> Res
     match request {
         Request::Locate(search) => index(alloc, search, folder),
         Request::Tokenize { text, alphabet } => {
-            token_file(alloc, text.as_str(), alphabet.as_str(), folder)
+            read_token_file(alloc, text.as_str(), alphabet.as_str(), folder)
         },
         Request::Help => Ok(String::from_str(alloc, HELP)?),
         Request::Version => Ok(String::from_str(alloc, VERSION)?),
@@ -136,29 +135,6 @@ fn index<F: Folder>(alloc: Global, search: &Search, folder: &mut F) -> Result<St
     let files = read_files(alloc, search, folder)?;
     match index_of(alloc, files) {
         Ok(index) => Ok(index),
-        Err(_) => Err(Status::NoMemory),
-    }
-}
-
-/// The token file of a text.
-fn token_file<F: Folder>(
-    alloc: Global,
-    text: &str,
-    alphabet: &str,
-    folder: &mut F,
-) -> Result<String, Status>
-    ensures ok { IfOk result (λ answer.
-        IsTokenFileOf (F.files folder.old) text.now alphabet.now (string_bytes answer)) }
-    ensures err { IfErr result (ExplainsTokens text.now alphabet.now (F.files folder.old)
-        (counts_of F.faults F.misses F.overlong folder.old)
-        (counts_of F.faults F.misses F.overlong folder.new)) }
-    ensures kept { F.files folder.new ≡ F.files folder.old }
-    ensures counts { NoneFell (counts_of F.faults F.misses F.overlong folder.old)
-        (counts_of F.faults F.misses F.overlong folder.new) }
-{
-    let tokens = read_tokens(alloc, text, alphabet, folder)?;
-    match print_tokens(alloc, &tokens) {
-        Ok(file) => Ok(file),
         Err(_) => Err(Status::NoMemory),
     }
 }

@@ -13,7 +13,7 @@ use crate::line::Line;
 use std::alloc::{AllocError, Global};
 
 /// The characters from the first to the last.
-#[derive(Clone, Copy, Debug)]
+#[derive(Clone, Copy)]
 pub(crate) struct Span {
     pub(crate) first: char,
     pub(crate) last: char,

@@ -1,13 +1,13 @@
 //! The folder of the system's files.
 
-ghost use Rattle.std.specs.Prelude.{◌≡◌, ◌↔◌, ◌⊎◌, ◌+◌, ◌<◌, ◌≤◌, None, OnOk, IfOk, IfSome, IsErrOf, length, take, drop, vec_len, ⊤};
+ghost use Rattle.std.specs.Prelude.{◌≡◌, ◌↔◌, ◌⊎◌, ◌+◌, ◌++◌, ◌<◌, ◌≤◌, None, IfOk, IfSome, IsErrOf, length, take, vec_len, ⊤};
 ghost use Rattle.std.specs.Io.KnownBytes.{Consumes, IsAtEnd};
 ghost use Rattle.std.specs.IoError.{error_kind};
 ghost use Rattle.ux_base.specs.Outside.{MAX, NO_COUNTS, HasCause, counts_after};
 
 use crate::counts::Counts;
 use crate::folder::{Folder, FolderError, MAX_BYTES};
-use std::alloc::{AllocError, Global};
+use std::alloc::Global;
 use std::io::{ErrorKind, Read};
 use std::marker::Model;
 use std::rt::Files;
@@ -40,18 +40,9 @@ impl<'a, R> RealFolder<'a, R> {
     }
 }
 
-/// The room of a buffer before the first read.
-const FIRST_ROOM: usize = 65_536;
-
-/// The room that a full buffer of this length grows to: twice as much, but no more than it takes to
-/// see that a file is too long.
-fn room_after(len: usize) -> usize
-    requires { len ≤ MAX }
-    ensures more { len < result }
-    ensures bound { result ≤ MAX + 1 }
-{
-    (2 * len).max(FIRST_ROOM).min(MAX_BYTES + 1)
-}
+/// How many bytes are read at once. They stay in the near memory of a processor, so that they are
+/// copied behind the others fast.
+const CHUNK: usize = 65_536;
 
 /// Why an open file can't be read on.
 fn reading_failed(error: &io::Error) -> FolderError
@@ -79,55 +70,45 @@ fn opening_failed(error: &io::Error) -> FolderError
     }
 }
 
-/// Makes the buffer longer than this length.
-fn make_room(buffer: &mut Vec<u8>, len: usize) -> Result<(), AllocError>
-    requires within { len ≤ vec_len buffer.old }
-    requires bound { (len ≤ MAX) × (vec_len buffer.old ≤ MAX + 1) }
-    ensures front { take len buffer.new.items ≡ take len buffer.old.items }
-    ensures room { OnOk result (len < vec_len buffer.new) }
-    ensures bound { vec_len buffer.new ≤ MAX + 1 }
-{
-    if len < buffer.len() {
-        return Ok(());
-    }
-    buffer.resize(room_after(len), 0)
-}
-
-/// One read into the buffer, from this place on.
-fn read_at<F: Read>(file: &mut F, buffer: &mut [u8], at: usize) -> Result<usize, FolderError>
-    requires { at < length buffer.old }
-    ensures front { take at buffer.new ≡ take at buffer.old }
-    ensures len { length buffer.new ≡ length buffer.old }
-    ensures within { IfOk result (λ count. at + count ≤ length buffer.new) }
+/// One read into the chunk.
+fn read_chunk<F: Read>(file: &mut F, chunk: &mut [u8]) -> Result<usize, FolderError>
+    requires { 0 < length chunk.old }
+    ensures len { length chunk.new ≡ length chunk.old }
+    ensures within { IfOk result (λ count. count ≤ length chunk.new) }
     ensures bytes { IfOk result (λ count. Consumes (F.remaining file.old) (F.remaining file.new)
-        (take count (drop at buffer.new))) }
+        (take count chunk.new)) }
     ensures end { IfOk result (λ count. count ≡ 0 → IsAtEnd (F.remaining file.new)) }
     ensures err { ¬ IsErrOf result FolderError.Absent × ¬ IsErrOf result FolderError.TooLong }
 {
-    match file.read(&mut buffer[at..]) {
+    match file.read(chunk) {
         Ok(count) => Ok(count),
         Err(error) => Err(reading_failed(&error)),
     }
 }
 
-/// One read into the buffer, from this place on, after room is made for it.
-fn read_more<F: Read>(file: &mut F, buffer: &mut Vec<u8>, at: usize) -> Result<usize, FolderError>
-    requires within { at ≤ vec_len buffer.old }
-    requires bound { (at ≤ MAX) × (vec_len buffer.old ≤ MAX + 1) }
-    ensures front { take at buffer.new.items ≡ take at buffer.old.items }
-    ensures within { IfOk result (λ count. at + count ≤ vec_len buffer.new) }
-    ensures bound { vec_len buffer.new ≤ MAX + 1 }
-    ensures bytes { IfOk result (λ count. Consumes (F.remaining file.old) (F.remaining file.new)
-        (take count (drop at buffer.new.items))) }
+/// One read by way of the chunk, which puts what was read behind the bytes. Answers how much it is.
+fn read_more<F: Read>(
+    file: &mut F,
+    chunk: &mut [u8],
+    bytes: &mut Vec<u8>,
+) -> Result<usize, FolderError>
+    requires { 0 < length chunk.old }
+    ensures len { length chunk.new ≡ length chunk.old }
+    ensures bytes { IfOk result (λ count.
+        bytes.new.items ≡ bytes.old.items ++ take count chunk.new) }
+    ensures taken { IfOk result (λ count. Consumes (F.remaining file.old) (F.remaining file.new)
+        (take count chunk.new)) }
+    ensures grown { IfOk result (λ count. vec_len bytes.new ≡ vec_len bytes.old + count) }
     ensures end { IfOk result (λ count. count ≡ 0 → IsAtEnd (F.remaining file.new)) }
     ensures err { ¬ IsErrOf result FolderError.Absent × ¬ IsErrOf result FolderError.TooLong }
 {
-    make_room(buffer, at)?;
-    read_at(file, buffer.as_mut_slice(), at)
+    let count = read_chunk(file, chunk)?;
+    bytes.extend_from_slice(&chunk[..count])?;
+    Ok(count)
 }
 
-/// The bytes that are left of a file, unless they are too many. The room doubles, and each turn
-/// reads at least one byte or is the last.
+/// The bytes that are left of a file, unless they are too many. Each turn reads at least one byte
+/// or is the last, and the room for the bytes doubles where it is full.
 fn rest_of<F: Read>(alloc: Global, file: &mut F) -> Result<Vec<u8>, FolderError>
     ensures short { IfOk result (λ bytes. length bytes.items ≤ MAX) }
     ensures whole { IfOk result (λ bytes.
@@ -136,15 +117,13 @@ fn rest_of<F: Read>(alloc: Global, file: &mut F) -> Result<Vec<u8>, FolderError>
         IfSome (F.remaining file.old) (λ left. MAX < length left) }
     ensures err { ¬ IsErrOf result FolderError.Absent }
 {
+    let mut chunk = vec![in alloc; 0u8; CHUNK]?;
     let mut bytes = Vec::new(alloc);
-    let mut len = 0;
-    while len <= MAX_BYTES {
-        let count = read_more(file, &mut bytes, len)?;
+    while bytes.len() <= MAX_BYTES {
+        let count = read_more(file, &mut chunk, &mut bytes)?;
         if count == 0 {
-            bytes.truncate(len);
             return Ok(bytes);
         }
-        len += count;
     }
     Err(FolderError::TooLong)
 }

@@ -4,7 +4,7 @@ ghost use Rattle.std.specs.Prelude.{◌≡◌};
 ghost use Rattle.ux_decode.specs.Encoding.{encoding_of};
 
 /// Which byte of a unit comes first.
-#[derive(Clone, Copy, Debug, PartialEq, Eq)]
+#[derive(Clone, Copy)]
 pub(crate) enum Order {
     /// The less significant byte.
     Little,
@@ -13,7 +13,7 @@ pub(crate) enum Order {
 }
 
 /// How a file spells its text.
-#[derive(Clone, Copy, Debug, PartialEq, Eq)]
+#[derive(Clone, Copy)]
 pub(crate) enum Encoding {
     /// UTF-8 without a mark.
     Utf8,

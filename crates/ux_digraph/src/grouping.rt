@@ -29,7 +29,7 @@ use std::alloc::{AllocError, Global};
 use ux_base::{Lst, Mem};
 
 /// How far the search has come with a node.
-#[derive(Debug, Clone, Copy)]
+#[derive(Clone, Copy)]
 pub enum Mark {
     /// It wasn't met.
     New,
@@ -40,7 +40,7 @@ pub enum Mark {
 }
 
 /// Open nodes that lead to each other: those from a place on, up to the next group.
-#[derive(Debug, Clone, Copy)]
+#[derive(Clone, Copy)]
 pub struct Group {
     /// The place of the first node among the open nodes.
     pub first: usize,

@@ -11,7 +11,7 @@ use crate::words::{Gap, before, behind, words};
 use std::alloc::{AllocError, Global};
 
 /// What a box line says.
-#[derive(Debug, Drop)]
+#[derive(Drop)]
 pub struct BoxLine<'a> {
     /// What stands between the quotation marks.
     pub content: &'a str,

@@ -16,7 +16,7 @@ use std::alloc::{AllocError, AllocFailed, Global};
 use ux_base::Lst;
 
 /// Why a content isn't read.
-#[derive(Clone, Copy, Debug, PartialEq, Eq)]
+#[derive(Clone, Copy)]
 pub enum Fault<'a> {
     /// It is bad, and this stands from the first fault on.
     At(&'a str),
@@ -47,7 +47,7 @@ impl<'a, T: Drop> From<AllocFailed<T>> for Fault<'a> {
 }
 
 /// The items of a line.
-#[derive(Debug, Drop)]
+#[derive(Drop)]
 pub struct Line<'a> {
     /// The items.
     pub items: Vec<Item>,
@@ -56,7 +56,7 @@ pub struct Line<'a> {
 }
 
 /// The lines of a content.
-#[derive(Debug, Drop)]
+#[derive(Drop)]
 pub struct Parts<'a> {
     /// The lines.
     pub lines: Vec<Lst<Item>>,

@@ -10,7 +10,7 @@ use crate::words::{before, behind};
 use std::alloc::{AllocError, Global};
 
 /// The signs at which a part of a text ends.
-#[derive(Clone, Copy, Debug, PartialEq, Eq)]
+#[derive(Clone, Copy)]
 pub enum Stop {
     /// A quotation mark.
     Mark,
@@ -23,7 +23,7 @@ pub enum Stop {
 }
 
 /// Whose backslashes protect.
-#[derive(Clone, Copy, Debug, PartialEq, Eq)]
+#[derive(Clone, Copy)]
 pub enum Layer {
     /// Those that the file needs between quotation marks.
     File,

@@ -16,7 +16,7 @@ use std::alloc::{AllocError, Global};
 use ux_base::Txt;
 
 /// The sign at a place of a line.
-#[derive(Clone, Copy, Debug, PartialEq, Eq)]
+#[derive(Clone, Copy, PartialEq, Eq)]
 pub enum Sign {
     /// The content is over.
     Nothing,
@@ -39,7 +39,7 @@ pub enum Sign {
 }
 
 /// What begins at a place of a line.
-#[derive(Debug, Drop)]
+#[derive(Drop)]
 pub enum Start<'a> {
     /// Nothing: the line is over.
     Over,

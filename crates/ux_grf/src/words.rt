@@ -8,7 +8,7 @@ ghost use Rattle.ux_grf.specs.Words.{is_gap, word_in, words_of, HasNoGapBefore, 
 use std::alloc::{AllocError, Global};
 
 /// What stands between words.
-#[derive(Clone, Copy, Debug, PartialEq, Eq)]
+#[derive(Clone, Copy)]
 pub enum Gap {
     /// Spaces.
     Spaces,

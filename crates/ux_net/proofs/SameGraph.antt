@@ -4,7 +4,7 @@ use Rattle.std.specs.Prelude.{Contains}
 use Rattle.std.specs.List.{AllZip}
 use Rattle.ux_alphabet.specs.declared.line.Line.{Line}
 use Rattle.ux_tokens.specs.Tokens.{Token}
-use Rattle.ux_tokens.proofs.UniqueLemmas.{tokens_unique}
+use Rattle.ux_tokens.proofs.UniqueLemmas.{plain_unique}
 use Rattle.ux_grf.specs.declared.graph.GrfBox.{GrfBox}
 use Rattle.ux_grf.specs.declared.item.Item.{Item}
 use Rattle.ux_grf.specs.declared.item.Item.TheVariants.{Literal, Quoted, Mask, Brace, Glue, Empty, Call, Begin, End, Positive, Negative, ContextEnd, Cut}
@@ -44,7 +44,7 @@ module _ (alphabet : List Line) (names : List (List ℕ)) (once : StandOnce name
       IsCut alphabet label_of text v → IsCut alphabet label_of text w → v ≡ w
   cut_same label_of text v w a b =
       a.2 ∙ (ap (λ tokens. map (λ (token : Token). label_of token.kind token.text) tokens)
-      (tokens_unique alphabet text a.0 b.0 a.1 b.1) ∙ sym b.2)
+      (plain_unique alphabet text a.0 b.0 a.1 b.1) ∙ sym b.2)
 
   -- an item is split in one way, since no name stands twice
   split_same : (item : Item) (v w : List Label) → IsSplit alphabet names item v →

@@ -50,8 +50,8 @@ token_some alphabet kind.Other text t =
     let len = ap (λ (l : List ℕ). length l) t.1 ∙ length-encode t.0 in
     let some = (len_utf8_bounds t.0).0 in
     omega (arith, len, some)
-token_some alphabet kind.Sentence text t = absurd t
-token_some alphabet kind.Stop text t = absurd t
+token_some alphabet kind.Sentence text t = rw t (omega arith)
+token_some alphabet kind.Stop text t = rw t (omega arith)
 token_some alphabet kind.Tag text t = absurd t
 
 -- a text has no more tokens than bytes

@@ -1,12 +1,13 @@
 -- Lines, lists of lines and literals are split one piece after another.
-use Rattle.std.proofs.Common.{◌≡◌, ℕ, ◌+◌, ◌<◌, List, [], ◌∷◌, ◌++◌, refl, sym, ◌∙◌, ap, subst, append_assoc, length, map, take, drop, get_or}
+use Rattle.std.proofs.Common.{◌≡◌, ℕ, ◌+◌, ◌<◌, List, [], ◌∷◌, ◌++◌, All, refl, sym, ◌∙◌, ap, subst, append_assoc, length, map, take, drop, get_or}
 use Rattle.std.specs.List.{AllZip}
 use Rattle.std.specs.Str.{IsCharBoundary, IsUtf8}
 use Rattle.std.proofs.lemmas.Str.{IsUtf8-take}
 use Rattle.std.proofs.lemmas.List.{append-nil, map-append, take-append-drop, take_more}
+use Rattle.std.proofs.lemmas.List.Elements.{All-nil, All-push}
 use Rattle.ux_alphabet.specs.declared.line.Line.{Line}
 use Rattle.ux_tokens.specs.declared.kind.Kind.{Kind}
-use Rattle.ux_tokens.specs.Tokens.{Token}
+use Rattle.ux_tokens.specs.Tokens.{Token, IsPlain}
 use Rattle.ux_tokens.specs.First.{IsFirstToken}
 use Rattle.ux_tokens.specs.Cutting.{IsCut as IsCutUpTo}
 use Rattle.ux_tokens.proofs.CutLemmas.{cut_start, cut_more}
@@ -84,23 +85,31 @@ module _ (alphabet : List Line) (comparison : Comparison) (text : List ℕ) (bef
     pub record IsCutInto (rest : List ℕ) (labels : List Label) : Type 0 where
       pub tokens : List Token
       pub cut : IsCutUpTo alphabet text rest tokens
+      pub plain : All (λ token. IsPlain token.kind) tokens
       pub are : labels ≡ before ++ labels_of comparison tokens
 
     pub cut_into_start : IsCutInto text before
     cut_into_start =
-        record { tokens = []; cut = cut_start alphabet text; are = sym (append-nil before) }
+        record {
+          tokens = [];
+          cut = cut_start alphabet text;
+          plain = All-nil (λ (token : Token). IsPlain token.kind);
+          are = sym (append-nil before);
+        }
 
     -- the token at the front of the rest is the next
     pub cut_into_more : (rest after : List ℕ) (labels : List Label) (kind : Kind) (len : ℕ) →
         IsUtf8 rest → IsCharBoundary rest len → IsFirstToken alphabet rest kind len →
-        after ≡ drop len rest → IsCutInto rest labels →
+        IsPlain kind → after ≡ drop len rest → IsCutInto rest labels →
         IsCutInto after (labels ++ label_by comparison kind (take len rest) ∷ [])
-    cut_into_more rest after labels kind len utf8 boundary first is so_far = record {
+    cut_into_more rest after labels kind len utf8 boundary first plain is so_far = record {
       tokens = so_far.tokens ++ token ∷ [];
       cut = subst (λ (l : List ℕ). IsCutUpTo alphabet text l (so_far.tokens ++ token ∷ [])) (sym is)
           (cut_more alphabet text rest (drop len rest) so_far.tokens token so_far.cut
           (IsUtf8-take rest len utf8 boundary) (sym (take-append-drop len rest))
           first.is first.longest);
+      plain =
+          All-push (λ (token : Token). IsPlain token.kind) so_far.tokens token so_far.plain plain;
       are =
           ap (λ (l : List Label). l ++ label_by comparison kind token.text ∷ []) so_far.are
           ∙ append_assoc before (labels_of comparison so_far.tokens) (label_by comparison kind

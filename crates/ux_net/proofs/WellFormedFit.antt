@@ -10,7 +10,7 @@ use Rattle.ux_alphabet.specs.declared.line.Line.{Line}
 use Rattle.ux_alphabet.specs.Letters.{is_separator}
 use Rattle.ux_tokens.specs.declared.kind.Kind.{Kind}
 use Rattle.ux_tokens.specs.declared.kind.Kind.TheVariants as kind
-use Rattle.ux_tokens.specs.Tokens.{Token, AreTokens, with_single_spaces, begins_with_separator}
+use Rattle.ux_tokens.specs.Tokens.{Token, ArePlainTokens, with_single_spaces, begins_with_separator}
 use Rattle.ux_grf.specs.declared.graph.Graph.{Graph}
 use Rattle.ux_grf.specs.declared.graph.GrfBox.{GrfBox}
 use Rattle.ux_grf.specs.declared.item.Item.{Item}
@@ -44,7 +44,7 @@ cut_some : (alphabet : List Line) (label_of : Kind → List ℕ → Label) (text
     0 < length labels
 cut_some alphabet label_of text labels some (tokens, are, is) = go tokens are is
   where
-    go : (tokens : List Token) → AreTokens alphabet text tokens →
+    go : (tokens : List Token) → ArePlainTokens alphabet text tokens →
         labels ≡ map (λ (token : Token). label_of token.kind token.text) tokens →
         0 < length labels
     go [] are is =

@@ -3,7 +3,7 @@ use Rattle.std.specs.Prelude.{◌≡◌, ◌≢◌, ℕ, zero, suc, ◌+◌, Lis
 use Rattle.ux_alphabet.specs.declared.line.Line.{Line}
 use Rattle.ux_tokens.specs.declared.kind.Kind.{Kind}
 use Rattle.ux_tokens.specs.declared.kind.Kind.TheVariants as kind
-use Rattle.ux_tokens.specs.Tokens.{Token, AreTokens}
+use Rattle.ux_tokens.specs.Tokens.{Token, ArePlainTokens}
 use Rattle.ux_grf.specs.declared.graph.GrfBox.{GrfBox}
 use Rattle.ux_grf.specs.declared.item.Item.{Item}
 use Rattle.ux_grf.specs.declared.item.Item.TheVariants as item
@@ -34,10 +34,10 @@ exact_label kind.Sentence text = Exact text
 exact_label kind.Stop text = Exact text
 exact_label kind.Tag text = Exact text
 
--- a text is cut as a corpus is cut into tokens, each of which is a label
+-- a text is cut into tokens, in which a brace is a character as any other, and each is a label
 abbrev pub IsCut : List Line → (Kind → List ℕ → Label) → List ℕ → List Label → Type 0
 IsCut alphabet label_of text labels =
-    (tokens : List Token) × AreTokens alphabet text tokens
+    (tokens : List Token) × ArePlainTokens alphabet text tokens
     × (labels ≡ map (λ token. label_of token.kind token.text) tokens)
 
 -- an item as labels; a call by the number of its graph; no labels are there yet for other items

@@ -24,7 +24,7 @@ use std::alloc::{AllocError, Global};
 use ux_base::{Lst, NoMemory};
 
 /// What an admissible grammar has: in a row for each graph, with an entry for each place.
-#[derive(Debug, Drop)]
+#[derive(Drop)]
 pub struct Admission {
     /// A rank, which falls along each step that may take nothing, and to each start that is called.
     pub ranks: Vec<Lst<usize>>,
@@ -33,7 +33,7 @@ pub struct Admission {
 }
 
 /// Why a grammar is refused. Graphs are counted from 1.
-#[derive(Clone, Copy, Debug, PartialEq, Eq)]
+#[derive(Clone, Copy)]
 pub enum AdmissionError {
     /// A loop through this node takes nothing.
     EmptyLoop { graph: usize, node: usize },

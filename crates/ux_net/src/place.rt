@@ -4,7 +4,7 @@ use crate::label::Label;
 use ux_base::Lst;
 
 /// A box: the labels of its lines, and where it leads.
-#[derive(Debug, Drop)]
+#[derive(Drop)]
 pub struct Place {
     /// Whether a path from box 0 leads here without passing box 1.
     pub reached: bool,

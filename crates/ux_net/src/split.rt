@@ -20,7 +20,7 @@ use ux_grf::{Graph, GrfBox, Item};
 use ux_tokens::{Kind, first_token, single_spaced};
 
 /// How a piece of a text is compared with a token.
-#[derive(Clone, Copy, Debug, PartialEq, Eq)]
+#[derive(Clone, Copy)]
 pub enum Comparison {
     /// Each character has to fit.
     Folded,

@@ -2,7 +2,7 @@
 
 /// A step whose line takes nothing, or is one call. Places are numbered in their graph, and through
 /// all graphs, one after another.
-#[derive(Clone, Copy, Debug, PartialEq, Eq)]
+#[derive(Clone, Copy)]
 pub struct Way {
     /// The graph, counted from 1.
     pub graph: usize,

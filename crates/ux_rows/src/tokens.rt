@@ -4,7 +4,7 @@ use std::alloc::{AllocError, Global};
 use std::process::Abort;
 use std::test::Fail;
 use ux_alphabet::Alphabet;
-use ux_tokens::{Text, TextError, print_tokens};
+use ux_tokens::{Text, TextError, print_tokens, token_file_of};
 
 /// Reads a text over the letters from a to z.
 fn read(alloc: Global, text: &str) -> Result<Result<Text, TextError>, Fail> {
@@ -61,6 +61,17 @@ fn cuts_words_spaces_and_others(rt: HostRuntime) -> Result<(), Fail> {
             "Word0[n]Other1[é]",
         ),
         ("letters of both cases", "A a", "Word0[A]Space1[ ]Word2[a]"),
+        (
+            "marks beside letters and digits",
+            "a{S}b{STOP}1{S}S",
+            "Word0[a]Sentence1[{S}]Word2[b]Stop3[{STOP}]Other4[1]Sentence1[{S}]Word5[S]",
+        ),
+        ("marks alone", "{STOP}{S}", "Stop0[{STOP}]Sentence1[{S}]"),
+        (
+            "marks between spaces, and a closing brace",
+            " {S}\n}",
+            "Space0[ ]Sentence1[{S}]Space0[ ]Other2[}]",
+        ),
     ];
     for row in ROWS {
         check(&rt, rt.alloc(), row)?;
@@ -69,8 +80,16 @@ fn cuts_words_spaces_and_others(rt: HostRuntime) -> Result<(), Fail> {
 }
 
 #[test]
-fn refuses_a_brace(rt: HostRuntime) -> Result<(), Fail> {
-    const TEXTS: &[&str] = &["{", "The cat {S} sat", "{{{"];
+fn refuses_a_brace_without_a_mark(rt: HostRuntime) -> Result<(), Fail> {
+    const TEXTS: &[&str] = &[
+        "{",
+        "The {S} cat {",
+        "{{S}",
+        "{s}",
+        "{ S}",
+        "{STOP",
+        "{S{STOP}",
+    ];
     for text in TEXTS {
         let refused = matches!(read(rt.alloc(), text)?, Err(TextError::NotYet));
         assert!(rt; refused, "{text}");
@@ -89,8 +108,13 @@ fn joins_neighbours_and_counts_different_tokens(rt: HostRuntime) -> Result<(), F
 
 #[test]
 fn prints_the_token_file(rt: HostRuntime) -> Result<(), Fail> {
-    let text = read(rt.alloc(), "a  b\ta")??;
-    let file = print_tokens(rt.alloc(), &text)?;
-    assert_eq!(rt; file.as_str(), "3\na\n \nb\n");
+    const WANT: &str = "4\na\n \n{S}\nb\n";
+    let alloc = rt.alloc();
+    let text = read(alloc, "a  {S}b\ta{S}")??;
+    let file = print_tokens(alloc, &text)?;
+    assert_eq!(rt; file.as_str(), WANT);
+    let alphabet = Alphabet::read(alloc, "#az\n")?;
+    let file = token_file_of(alloc, String::from_str(alloc, "a  {S}b\ta{S}")?, &alphabet)?;
+    assert_eq!(rt; file.as_str(), WANT);
     Ok(())
 }

@@ -1,7 +1,18 @@
 -- The definitions on small texts.
-use Rattle.std.proofs.Common.{◌≡◌, ℕ, [], ◌∷◌, refl}
-use Rattle.ux_tokens.specs.declared.kind.Kind.TheVariants.{Word, Space}
-use Rattle.ux_tokens.specs.Tokens.{Token, with_single_spaces, joined}
+use Rattle.std.proofs.Common.{◌≡◌, ◌≢◌, inl, inr, ℕ, zero, suc, ◌+◌, ◌<◌, List, [], ◌∷◌, Some, get_or, drop, length, refl, ◌∙◌, ap, arith}
+use Rattle.std.specs.Fmt.{digits}
+use Rattle.std.specs.List.{slice_get}
+use Rattle.std.specs.Str.{IsAscii, chars}
+use Rattle.std.proofs.lemmas.Str.{IsUtf8-from_ascii}
+use Rattle.std.proofs.lemmas.List.Elements.{All-nil, All-cons, All-same}
+use Rattle.std.proofs.lemmas.Option.{none-some, same_Some}
+use Rattle.ux_alphabet.specs.declared.line.Line.{Line}
+use Rattle.ux_alphabet.specs.declared.line.Line.TheVariants.{Pair}
+use Rattle.ux_alphabet.specs.Letters.{IsLetter}
+use Rattle.ux_tokens.specs.TokenFile.{token_file}
+use Rattle.std.specs.Prelude.{codes}
+use Rattle.ux_tokens.specs.declared.kind.Kind.TheVariants.{Word, Space, Sentence}
+use Rattle.ux_tokens.specs.Tokens.{Token, SENTENCE, OPENING_BRACE, IsTokenText, AreTokens, BeginsWithMark, HasBareBrace, with_single_spaces, joined}
 use Rattle.ux_tokens.specs.Numbers.{different_texts}
 use Rattle.ux_tokens.specs.Pieces.{tokens_from}
 
@@ -31,3 +42,99 @@ kept : tokens_from (97 ∷ 32 ∷ []) 0 (record { end = 1; number = 0; kind = Wo
     { end = 2; number = 1; kind = Space } ∷ [])
     ≡ word 97 ∷ space ∷ []
 kept = refl
+
+abbrev sentence : Token
+sentence = record { kind = Sentence; text = SENTENCE }
+
+-- the alphabet of `Aa` and `Bb`
+abbrev letters : List Line
+letters = Pair 65 97 ∷ Pair 66 98 ∷ []
+
+-- the tokens of `a{S}b`: a word, a mark and a word
+abbrev marked : List Token
+marked = word 97 ∷ sentence ∷ word 98 ∷ []
+
+is_word : (letter : ℕ) → letter < 128 → chars (letter ∷ []) ≡ letter ∷ [] →
+    IsLetter letters letter → IsTokenText letters Word (letter ∷ [])
+is_word letter ascii char is = (
+  λ none. let one = ap length none in omega (arith, one),
+  IsUtf8-from_ascii (letter ∷ []) (is_ascii letter ascii),
+  All-same (IsLetter letters) (chars (letter ∷ [])) (letter ∷ []) char
+      (All-cons (IsLetter letters) letter [] is (All-nil (IsLetter letters))),
+)
+  where
+    is_ascii : (byte : ℕ) → byte < 128 → IsAscii (byte ∷ [])
+    is_ascii byte small zero = small
+    is_ascii byte small (suc k) = omega arith
+
+word_a : IsTokenText letters Word (97 ∷ [])
+unfolding chars
+word_a = is_word 97 (omega arith) refl
+    (inr (refl, (0, Pair 65 97, omega arith, refl, refl)))
+
+word_b : IsTokenText letters Word (98 ∷ [])
+unfolding chars
+word_b = is_word 98 (omega arith) refl
+    (inr (refl, (1, Pair 66 98, omega arith, refl, refl)))
+
+abbrev IsText : Token → Type 0
+IsText token = IsTokenText letters token.kind token.text
+
+marked_tokens : AreTokens letters (codes "a{S}b") marked
+marked_tokens = record {
+  whole = refl;
+  each =
+      All-cons IsText (word 97) (sentence ∷ word 98 ∷ []) word_a
+      (All-cons IsText sentence (word 98 ∷ []) refl
+      (All-cons IsText (word 98) [] word_b (All-nil IsText)));
+  apart = apart;
+  marks = marks;
+}
+  where
+    -- of two neighbours one is the mark
+    apart : (k : ℕ) (a b : Token) → slice_get marked k ≡ Some a →
+        slice_get marked (k + 1) ≡ Some b → a.kind ≡ Word → b.kind ≢ Word
+    apart zero a b first second is = λ also.
+        let kind : Sentence ≡ Word = ap (λ (t : Token). t.kind) (same_Some sentence b second) ∙ also
+        in cc
+    apart (suc zero) a b first second is = λ also.
+        let kind : Sentence ≡ Word = ap (λ (t : Token). t.kind) (same_Some sentence a first) ∙ is
+        in cc
+    apart (suc (suc zero)) a b first second is = absurd (none-some b second)
+    apart (suc (suc (suc k))) a b first second is = absurd (none-some a first)
+
+    -- and none is a brace
+    marks : (k : ℕ) (a : Token) → slice_get marked k ≡ Some a → a.text ≡ OPENING_BRACE ∷ [] →
+        BeginsWithMark (joined (drop k marked)) → ⊥
+    marks zero a at brace begins =
+        let byte : 97 ≡ 123 = ap (λ (l : List ℕ). get_or l 0 0)
+        (ap (λ (t : Token). t.text) (same_Some (word 97) a at) ∙ brace) in
+        omega (arith, byte)
+    marks (suc zero) a at brace begins =
+        let bytes : 3 ≡ 1 =
+        ap length (ap (λ (t : Token). t.text) (same_Some sentence a at) ∙ brace) in
+        omega (arith, bytes)
+    marks (suc (suc zero)) a at brace begins =
+        let byte : 98 ≡ 123 = ap (λ (l : List ℕ). get_or l 0 0)
+        (ap (λ (t : Token). t.text) (same_Some (word 98) a at) ∙ brace) in
+        omega (arith, byte)
+    marks (suc (suc (suc k))) a at brace begins = none-some a at
+
+-- their token file
+marked_file : token_file marked ≡ codes "3\na\n{S}\nb\n"
+unfolding digits
+marked_file = refl
+
+-- at `{S}b` a mark begins
+mark : BeginsWithMark (codes "{S}b")
+mark = (codes "b", inl refl)
+
+-- no mark begins at `{S b`, so `a{S b` is refused
+no_mark : BeginsWithMark (codes "{S b") → ⊥
+no_mark (rest, inl is) =
+    let third : 32 ≡ 125 = ap (λ (l : List ℕ). get_or l 2 0) is in omega (arith, third)
+no_mark (rest, inr is) =
+    let third : 32 ≡ 84 = ap (λ (l : List ℕ). get_or l 2 0) is in omega (arith, third)
+
+bare : HasBareBrace (codes "a{S b")
+bare = (codes "a", codes "S b", refl, no_mark)

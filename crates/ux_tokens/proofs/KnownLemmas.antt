@@ -10,14 +10,14 @@ use Rattle.ux_tokens.specs.Known.{AreKnown, HasNumber}
 use Rattle.ux_tokens.specs.Numbers.{IsSpaceNumber, with_text}
 use Rattle.ux_tokens.proofs.NumbersLemmas.{with_text-keeps}
 
-pow_bytes : (k : ℕ) → 256 ^ k ≡ 2 ^ (8 * k)
+pub pow_bytes : (k : ℕ) → 256 ^ k ≡ 2 ^ (8 * k)
 pow_bytes zero = refl
 pow_bytes (suc k) =
     let next : 8 * k + 8 ≡ 8 * suc k = omega arith in
     pow-suc 256 k ∙ ap (λ (n : ℕ). n * 256) (pow_bytes k) ∙ sym (pow-add 2 (8 * k) 8)
     ∙ ap (λ (n : ℕ). 2 ^ n) next
 
-byte_at_is : (k n : ℕ) → byte_at k n ≡ n / 2 ^ (8 * k) % 256
+pub byte_at_is : (k n : ℕ) → byte_at k n ≡ n / 2 ^ (8 * k) % 256
 byte_at_is zero n =
     let whole : n / 1 ≡ n = omega arith in
     ap (λ (q : ℕ). q % 256) (sym whole)

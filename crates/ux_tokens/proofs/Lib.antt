@@ -1,14 +1,21 @@
 mod Examples
+pub mod AsciiLemmas
+pub mod BytesLemmas
 pub mod ColumnsLemmas
 pub mod CutLemmas
 pub mod CuttingLemmas
 pub mod DistinctLemmas
 pub mod FirstLemmas
 pub mod KnownLemmas
+pub mod ListingLemmas
+pub mod MarksLemmas
+pub mod MovedLemmas
 pub mod NumbersLemmas
 pub mod PiecesLemmas
 pub mod PlacesLemmas
 pub mod PrintingLemmas
+pub mod ReadingLemmas
+pub mod SpacedLemmas
 pub mod SpacesLemmas
 pub mod UniqueLemmas
 pub mod WholeLemmas

@@ -5,13 +5,25 @@ use Rattle.std.specs.Str.{bytes_eq}
 use Rattle.std.specs.Cmp.Lexicographic.{same_text}
 use Rattle.std.proofs.lemmas.Slice.Eq.{bytes_eq-Decides}
 use Rattle.std.proofs.lemmas.Map.Views.{any-filter_same}
-use Rattle.std.proofs.lemmas.List.{map-append, append-nil}
+use Rattle.std.proofs.lemmas.List.{map-append, append-nil, drop_all, length-map}
 use Rattle.std.proofs.lemmas.Bool.{false_from_ne_true}
 use Rattle.std.proofs.lemmas.List.Elements.{filter-append}
 use Rattle.std.proofs.lemmas.List.Folds.{list_any-from_Any}
 use Rattle.std.proofs.lemmas.Option.{none-some, slice_get_within, get_or_from_slice_get}
-use Rattle.indexmap.specs.IndexSet.{insert_key}
-use Rattle.ux_tokens.specs.Numbers.{each_once, with_text}
+use Rattle.indexmap.specs.IndexSet.{IndexSet, insert_key}
+use Rattle.ux_tokens.specs.Numbers.{each_once, with_text, texts_in}
+
+-- a table has as many texts as keys
+pub length-texts_in : {S : Type 0} (numbers : IndexSet (Bor (List ℕ)) S) →
+    length (texts_in numbers) ≡ length numbers.keys
+length-texts_in numbers = length-map numbers.keys (λ (s : Bor (List ℕ)). s.now)
+
+-- an empty one has none
+pub no_texts : {S : Type 0} (numbers : IndexSet (Bor (List ℕ)) S) → length numbers.keys ≡ 0 →
+    texts_in numbers ≡ []
+no_texts numbers none =
+    let empty : numbers.keys ≡ [] = drop_all 0 numbers.keys (omega (arith, none)) in
+    ap (λ (keys : List (Bor (List ℕ))). map (λ (s : Bor (List ℕ)). s.now) keys) empty
 
 -- the text is not the one that a test tells apart
 abbrev pub differs : List ℕ → List ℕ → Bool

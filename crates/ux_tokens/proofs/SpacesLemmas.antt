@@ -1,18 +1,16 @@
--- The text with single spaces, made front by front: what stays as it is, and then one space for the
--- white space behind it.
-use Rattle.std.proofs.Common.{◌≡◌, inl, inr, ℕ, ◌<◌, ◌≤◌, ◌+◌, zero, suc, true, false, List, [], ◌∷◌, ◌++◌, length, get_or, take, drop, refl, sym, ◌∙◌, ap, subst, append_assoc, arith}
+-- The text with single spaces, made front by front: what stays as it is is moved down, and then one
+-- space stands for the white space behind it.
+use Rattle.std.proofs.Common.{◌≡◌, inl, inr, ℕ, ◌<◌, ◌+◌, zero, suc, true, false, List, [], ◌∷◌, ◌++◌, length, set, take, drop, refl, sym, ◌∙◌, ap, subst, append_assoc, arith}
 use Rattle.std.specs.List.{prefix_len, slice_index}
-use Rattle.std.specs.Str.{IsCharBoundary, IsUtf8}
-use Rattle.std.proofs.lemmas.Str.{IsCharBoundary-after_ascii, IsCharBoundary-start}
-use Rattle.std.proofs.lemmas.List.{length-drop, drop-drop, get_or-take}
+use Rattle.std.proofs.lemmas.List.{length-drop, length-set, drop-drop, drop-set-lt, get_or-take, take_more_set}
 use Rattle.std.proofs.Math.Seq.{take-add}
-use Rattle.std.proofs.lemmas.List.Sums.{prefix_len_passes, prefix_len-le-length}
+use Rattle.std.proofs.lemmas.List.Sums.{prefix_len-le-length}
 use Rattle.std.proofs.lemmas.Bool.Decides.{nat_tests}
 use Rattle.ux_alphabet.specs.Letters.{is_separator}
-use Rattle.ux_tokens.specs.Spaces.{FirstStay, IsCutAtRun, Stays}
+use Rattle.ux_tokens.specs.Spaces.{FirstStay, IsJoined, Stays}
 use Rattle.ux_tokens.specs.Tokens.{with_single_spaces, begins_with_separator, SPACE}
 
-separator_is_ascii : (b : ℕ) → is_separator b ≡ true → b < 128
+pub separator_is_ascii : (b : ℕ) → is_separator b ≡ true → b < 128
 separator_is_ascii b white = grind (arith, nat_tests)
 
 -- how many separators stand at the front
@@ -46,30 +44,38 @@ run_is_space (b ∷ text) begins =
       | false ↦ λ last. rw begins (rw last (rw (no_run text last) refl))
     ] refl
 
--- a text may be cut behind separators
-pub cut_behind : (text : List ℕ) (len : ℕ) → IsUtf8 text → len ≤ run_len text →
-    IsCharBoundary text len
-cut_behind text zero utf8 within = IsCharBoundary-start text utf8
-cut_behind text (suc place) utf8 within =
-    let white = prefix_len_passes is_separator text place 0 (omega (arith, within)) in
-    let inside = prefix_len-le-length is_separator text in
-    let next : place + 1 ≡ suc place = omega arith in
-    subst (IsCharBoundary text) next
-    (IsCharBoundary-after_ascii text place utf8 (omega (arith, within, inside))
-    (separator_is_ascii (get_or text place 0) white))
-
--- the front up to white space, and what stands behind that
-pub is_cut_at_run : (text : List ℕ) (len : ℕ) → len < length text →
-    with_single_spaces text ≡ take len text ++ with_single_spaces (drop len text) →
-    begins_with_separator (drop len text) ≡ true →
-    IsCutAtRun text (take len text) (drop (run_len (drop len text)) (drop len text))
-is_cut_at_run text len within stays begins =
-    let run = drop len text in
-    let some = some_run run begins in
+-- a space is put for the white space at a place
+pub joined_run : (text old : List ℕ) (joined place : ℕ) → IsJoined text old joined place →
+    begins_with_separator (drop place old) ≡ true →
+    IsJoined text (set old joined SPACE) (joined + 1) (place + run_len (drop place old))
+joined_run text old joined place before begins =
+    let rest = drop place old in
+    let some = some_run rest begins in
+    let fits = prefix_len-le-length is_separator rest in
+    let room : joined < length old =
+    omega (arith, before.in_order, some, fits, length-drop place old) in
+    let behind : drop (run_len rest) rest ≡ drop (place + run_len rest) (set old joined SPACE) =
+    drop-drop (run_len rest) place old
+    ∙ sym (drop-set-lt (place + run_len rest) old joined SPACE
+    (omega (arith, before.in_order, some))) in
     record {
-      spaced = stays ∙ ap (λ (l : List ℕ). take len text ++ l) (run_is_space run begins);
-      shorter =
-          omega (arith, some, within, length-drop len text, length-drop (run_len run) run);
+      in_order = omega (arith, before.in_order, some);
+      within =
+          omega (
+            arith,
+            before.within,
+            fits,
+            length-drop place old,
+            length-set old joined SPACE,
+          );
+      spaced =
+          before.spaced
+          ∙ ap (λ (l : List ℕ). take joined old ++ l) (run_is_space rest begins)
+          ∙ sym (append_assoc (take joined old) (SPACE ∷ []) _)
+          ∙ ap (λ (l : List ℕ). l ++ with_single_spaces (drop (run_len rest) rest))
+          (sym (take_more_set old joined SPACE room))
+          ∙ ap (λ (l : List ℕ). take (joined + 1) (set old joined SPACE) ++ with_single_spaces l)
+          behind;
     }
 
 -- a byte that stays as it is before the next one

@@ -1,17 +1,16 @@
 -- A text has one list of tokens at most.
-use Rattle.std.proofs.Common.{arith, ◌≡◌, ◌≢◌, ℕ, suc, ◌+◌, ◌≤◌, List, [], ◌∷◌, ◌++◌, refl, sym, ◌∙◌, ap, subst, append_assoc, append-nil, length, length-append, inl, inr}
+use Rattle.std.proofs.Common.{arith, ◌≡◌, ◌≢◌, ◌⊎◌, ℕ, suc, ◌+◌, List, [], ◌∷◌, ◌++◌, refl, sym, ◌∙◌, ap, subst, append_assoc, get_or, drop, length, length-append, inl, inr}
 use Rattle.std.specs.Prelude.{All, Some, slice_get, encode_utf8, encode_utf8_all}
 use Rattle.std.proofs.lemmas.Str.{encode_same, encode_ascii, length-encode, len_utf8_bounds, chars-encodes}
 use Rattle.std.specs.Str.{chars}
+use Rattle.std.proofs.lemmas.List.{append_cancel_left}
 use Rattle.std.proofs.lemmas.Bool.{false≢true}
 use Rattle.ux_alphabet.specs.declared.line.Line.{Line}
 use Rattle.ux_alphabet.specs.Letters.{IsLetter}
 use Rattle.ux_tokens.specs.declared.kind.Kind.{Kind}
 use Rattle.ux_tokens.specs.declared.kind.Kind.TheVariants.{Word, Space, Other, Sentence, Stop, Tag}
-use Rattle.ux_tokens.specs.Tokens.{Token, SPACE, IsTokenText, AreTokens, joined, with_single_spaces}
-use Rattle.ux_tokens.specs.Cutting.{IsCut}
-use Rattle.ux_tokens.specs.Reading.{HasTooManyTokens}
-use Rattle.ux_tokens.specs.declared.cutting.TheConstants.{MAX_TOKENS}
+use Rattle.ux_tokens.specs.Tokens.{Token, SPACE, OPENING_BRACE, SENTENCE, STOP, BeginsWithMark, IsPlain, IsTokenText, AreTokens, ArePlainTokens, joined}
+use Rattle.ux_tokens.proofs.MarksLemmas.{brace_is_none}
 
 module _ (lines : List Line) where
   -- a space is no letter
@@ -31,6 +30,9 @@ module _ (lines : List Line) where
     length-encode c,
     (len_utf8_bounds c).0,
   )
+
+  brace_text : (rest : List ℕ) → OPENING_BRACE ∷ rest ≡ encode_utf8 OPENING_BRACE ++ rest
+  brace_text rest = ap (λ x. x ++ rest) (sym (encode_ascii OPENING_BRACE (omega arith)))
 
   space_text : (rest : List ℕ) → SPACE ∷ rest ≡ encode_utf8 SPACE ++ rest
   space_text rest = ap (λ x. x ++ rest) (sym (encode_ascii SPACE (omega arith)))
@@ -80,6 +82,12 @@ module _ (lines : List Line) where
       none c (encode_utf8_all cs ++ r) (append_assoc (encode_utf8 c) (encode_utf8_all cs) r)
       (all 0 c (omega arith))
 
+  -- a brace is no letter, so none stands at the front
+  behind_brace : (rest : List ℕ) → BeginsWithNone (OPENING_BRACE ∷ rest)
+  behind_brace rest c more e letter =
+      let h = encode_same OPENING_BRACE c rest more (sym (brace_text rest) ∙ e) in
+      brace_is_none lines (subst (IsLetter lines) (sym h.0) letter)
+
   -- the front of a token that is no word
   front_is_none : (kind : Kind) (text r : List ℕ) → kind ≢ Word → IsTokenText lines kind text →
       BeginsWithNone (text ++ r)
@@ -90,8 +98,10 @@ module _ (lines : List Line) where
   front_is_none Other text r other is = λ c rest e letter.
       let h = encode_same is.0 c r rest (ap (λ x. x ++ r) (sym is.1) ∙ e) in
       is.2 (subst (IsLetter lines) (sym h.0) letter)
-  front_is_none Sentence text r other is = absurd is
-  front_is_none Stop text r other is = absurd is
+  front_is_none Sentence text r other is = λ c rest e letter.
+      behind_brace (83 ∷ 125 ∷ r) c rest (ap (λ x. x ++ r) (sym is) ∙ e) letter
+  front_is_none Stop text r other is = λ c rest e letter.
+      behind_brace (83 ∷ 84 ∷ 79 ∷ 80 ∷ 125 ∷ r) c rest (ap (λ x. x ++ r) (sym is) ∙ e) letter
   front_is_none Tag text r other is = absurd is
 
   -- no token is empty
@@ -107,91 +117,141 @@ module _ (lines : List Line) where
           (e ∙ append_assoc (encode_utf8 c) (encode_utf8_all cs) r)
   token_some Space text r is e = some_byte SPACE r (e ∙ (ap (λ x. x ++ r) is ∙ space_text r))
   token_some Other text r is e = some_byte is.0 r (e ∙ ap (λ x. x ++ r) is.1)
-  token_some Sentence text r is e = is
-  token_some Stop text r is e = is
+  token_some Sentence text r is e =
+      let short = ap length (e ∙ ap (λ x. x ++ r) is) in absurd (omega (arith, short))
+  token_some Stop text r is e =
+      let short = ap length (e ∙ ap (λ x. x ++ r) is) in absurd (omega (arith, short))
   token_some Tag text r is e = is
 
-  -- two tokens at the front of one text
+  -- a word and another token
+  word_or_other : (l : Kind) (x y r t : List ℕ) → IsTokenText lines Word x → l ≢ Word →
+      IsTokenText lines l y → x ++ r ≡ y ++ t → ⊥
+  word_or_other l x y r t a other b e =
+      let v = word_letters x a in
+      begins_with_letter v.0 r v.1.some v.1.each
+      (λ c rest e'. front_is_none l y t other b c rest
+      (sym e ∙ (ap (λ z. z ++ r) v.1.bytes ∙ e')))
+
+  -- a space and another character
+  space_or_other : (x y r t : List ℕ) → IsTokenText lines Space x → IsTokenText lines Other y →
+      x ++ r ≡ y ++ t → ⊥
+  space_or_other x y r t a b e =
+      let h = encode_same SPACE b.0 r t (sym (space_text r) ∙
+      (ap (λ z. z ++ r) (sym a) ∙ (e ∙ ap (λ z. z ++ t) b.1))) in
+      b.3 (sym h.0)
+
+  -- another character at a brace is the brace
+  brace_alone : (y rest t : List ℕ) → IsTokenText lines Other y →
+      OPENING_BRACE ∷ rest ≡ y ++ t → y ≡ OPENING_BRACE ∷ []
+  brace_alone y rest t b e =
+      let h = encode_same OPENING_BRACE b.0 rest t
+      (sym (brace_text rest) ∙ (e ∙ ap (λ z. z ++ t) b.1)) in
+      b.1 ∙ (ap encode_utf8 (sym h.0) ∙ encode_ascii OPENING_BRACE (omega arith))
+
+  -- a mark is not cut behind its brace
+  sentence_or_other : (x y r t : List ℕ) → IsTokenText lines Sentence x →
+      IsTokenText lines Other y →
+      (y ≡ OPENING_BRACE ∷ [] → BeginsWithMark (y ++ t) → ⊥) → x ++ r ≡ y ++ t → ⊥
+  sentence_or_other x y r t a b marks e =
+      let whole : SENTENCE ++ r ≡ y ++ t = ap (λ z. z ++ r) (sym a) ∙ e in
+      marks (brace_alone y (drop 1 SENTENCE ++ r) t b whole) (r, inl (sym whole))
+
+  stop_or_other : (x y r t : List ℕ) → IsTokenText lines Stop x → IsTokenText lines Other y →
+      (y ≡ OPENING_BRACE ∷ [] → BeginsWithMark (y ++ t) → ⊥) → x ++ r ≡ y ++ t → ⊥
+  stop_or_other x y r t a b marks e =
+      let whole : STOP ++ r ≡ y ++ t = ap (λ z. z ++ r) (sym a) ∙ e in
+      marks (brace_alone y (drop 1 STOP ++ r) t b whole) (r, inr (sym whole))
+
+  -- the byte at a place of two equal texts
+  byte_same : (i : ℕ) (x y r t m n : List ℕ) → x ≡ m → y ≡ n → x ++ r ≡ y ++ t →
+      get_or (m ++ r) i 0 ≡ get_or (n ++ t) i 0
+  byte_same i x y r t m n a b e =
+      ap (λ (l : List ℕ). get_or l i 0) (ap (λ z. z ++ r) (sym a) ∙ (e ∙ ap (λ z. z ++ t) b))
+
+  sentence_or_stop : (x y r t : List ℕ) → IsTokenText lines Sentence x →
+      IsTokenText lines Stop y → x ++ r ≡ y ++ t → ⊥
+  sentence_or_stop x y r t a b e =
+      let third : 125 ≡ 84 = byte_same 2 x y r t SENTENCE STOP a b e in
+      omega (arith, third)
+
+  space_or_sentence : (x y r t : List ℕ) → IsTokenText lines Space x →
+      IsTokenText lines Sentence y → x ++ r ≡ y ++ t → ⊥
+  space_or_sentence x y r t a b e =
+      let first : SPACE ≡ OPENING_BRACE = byte_same 0 x y r t (SPACE ∷ []) SENTENCE a b e in
+      omega (arith, first)
+
+  space_or_stop : (x y r t : List ℕ) → IsTokenText lines Space x → IsTokenText lines Stop y →
+      x ++ r ≡ y ++ t → ⊥
+  space_or_stop x y r t a b e =
+      let first : SPACE ≡ OPENING_BRACE = byte_same 0 x y r t (SPACE ∷ []) STOP a b e in
+      omega (arith, first)
+
+  -- what stands behind one text is the same
+  behind_same : (m x y r t : List ℕ) → x ≡ m → y ≡ m → x ++ r ≡ y ++ t → (x ≡ y) × (r ≡ t)
+  behind_same m x y r t a b e = (
+    a ∙ sym b,
+    append_cancel_left m r t (ap (λ z. z ++ r) (sym a) ∙ (e ∙ ap (λ z. z ++ t) b)),
+  )
+
+  -- two tokens at the front of one text, of which none is a mark's brace where the other is a mark
   first_same : (k l : Kind) (x y r t : List ℕ) → IsTokenText lines k x → IsTokenText lines l y →
-      (k ≡ Word → BeginsWithNone r) → (l ≡ Word → BeginsWithNone t) → x ++ r ≡ y ++ t →
+      (k ≡ Word → BeginsWithNone r) → (l ≡ Word → BeginsWithNone t) →
+      ((IsPlain l → ⊥) → x ≡ OPENING_BRACE ∷ [] → BeginsWithMark (x ++ r) → ⊥) →
+      ((IsPlain k → ⊥) → y ≡ OPENING_BRACE ∷ [] → BeginsWithMark (y ++ t) → ⊥) → x ++ r ≡ y ++ t →
       (k ≡ l) × (x ≡ y) × (r ≡ t)
-  first_same Word Word x y r t a b n m e =
+  first_same Word Word x y r t a b n m p q e =
       let v = word_letters x a in
       let w = word_letters y b in
       let h = letters_same v.0 w.0 r t v.1.each w.1.each (n refl) (m refl)
       (ap (λ z. z ++ r) (sym v.1.bytes) ∙ (e ∙ ap (λ z. z ++ t) w.1.bytes)) in
       (refl, v.1.bytes ∙ (ap encode_utf8_all h.0 ∙ sym w.1.bytes), h.1)
-  first_same Space Space x y r t a b n m e =
-      let h = encode_same SPACE SPACE r t (sym (space_text r) ∙
-      (ap (λ z. z ++ r) (sym a) ∙ (e ∙ (ap (λ z. z ++ t) b ∙ space_text t)))) in
-      (refl, a ∙ sym b, h.1)
-  first_same Other Other x y r t a b n m e =
+  first_same Space Space x y r t a b n m p q e =
+      let h = behind_same (SPACE ∷ []) x y r t a b e in (refl, h.0, h.1)
+  first_same Sentence Sentence x y r t a b n m p q e =
+      let h = behind_same SENTENCE x y r t a b e in (refl, h.0, h.1)
+  first_same Stop Stop x y r t a b n m p q e =
+      let h = behind_same STOP x y r t a b e in (refl, h.0, h.1)
+  first_same Other Other x y r t a b n m p q e =
       let h = encode_same a.0 b.0 r t (ap (λ z. z ++ r) (sym a.1) ∙ (e ∙ ap (λ z. z ++ t) b.1)) in
       (refl, a.1 ∙ (ap encode_utf8 h.0 ∙ sym b.1), h.1)
-  first_same Space Other x y r t a b n m e =
-      let h = encode_same SPACE b.0 r t (sym (space_text r) ∙
-      (ap (λ z. z ++ r) (sym a) ∙ (e ∙ ap (λ z. z ++ t) b.1))) in
-      absurd (b.3 (sym h.0))
-  first_same Other Space x y r t a b n m e =
-      let h = encode_same a.0 SPACE r t (ap (λ z. z ++ r) (sym a.1) ∙
-      (e ∙ (ap (λ z. z ++ t) b ∙ space_text t))) in
-      absurd (a.3 h.0)
-  first_same Word Space x y r t a b n m e =
-      let v = word_letters x a in
-      absurd (begins_with_letter v.0 r v.1.some v.1.each
-      (λ c rest e'. front_is_none Space y t (λ q. cc) b c rest
-      (sym e ∙ (ap (λ z. z ++ r) v.1.bytes ∙ e'))))
-  first_same Word Other x y r t a b n m e =
-      let v = word_letters x a in
-      absurd (begins_with_letter v.0 r v.1.some v.1.each
-      (λ c rest e'. front_is_none Other y t (λ q. cc) b c rest
-      (sym e ∙ (ap (λ z. z ++ r) v.1.bytes ∙ e'))))
-  first_same Space Word x y r t a b n m e =
-      let v = word_letters y b in
-      absurd (begins_with_letter v.0 t v.1.some v.1.each
-      (λ c rest e'. front_is_none Space x r (λ q. cc) a c rest
-      (e ∙ (ap (λ z. z ++ t) v.1.bytes ∙ e'))))
-  first_same Other Word x y r t a b n m e =
-      let v = word_letters y b in
-      absurd (begins_with_letter v.0 t v.1.some v.1.each
-      (λ c rest e'. front_is_none Other x r (λ q. cc) a c rest
-      (e ∙ (ap (λ z. z ++ t) v.1.bytes ∙ e'))))
-  first_same Sentence l x y r t a b n m e = absurd a
-  first_same Stop l x y r t a b n m e = absurd a
-  first_same Tag l x y r t a b n m e = absurd a
-  first_same Word Sentence x y r t a b n m e = absurd b
-  first_same Word Stop x y r t a b n m e = absurd b
-  first_same Word Tag x y r t a b n m e = absurd b
-  first_same Space Sentence x y r t a b n m e = absurd b
-  first_same Space Stop x y r t a b n m e = absurd b
-  first_same Space Tag x y r t a b n m e = absurd b
-  first_same Other Sentence x y r t a b n m e = absurd b
-  first_same Other Stop x y r t a b n m e = absurd b
-  first_same Other Tag x y r t a b n m e = absurd b
-
-  -- each is the text of a token, and no two words stand side by side
-  pub record AreCut (tokens : List Token) : Type 0 where
-    pub each : All (λ token. IsTokenText lines token.kind token.text) tokens
-    pub apart : (k : ℕ) (a b : Token) → slice_get tokens k ≡ Some a → slice_get tokens (k + 1) ≡
-        Some b → a.kind ≡ Word → b.kind ≢ Word
-
-  rest_cut : (t : Token) (ts : List Token) → AreCut (t ∷ ts) → AreCut ts
-  rest_cut t ts c = record {
-    each = λ k d lt. c.each (suc k) d (omega arith);
-    apart = λ k a b first second. c.apart (suc k) a b first
-        (subst (λ n. slice_get (t ∷ ts) n ≡ Some b) (next k) second);
-  }
-    where
-      next : (k : ℕ) → suc (k + 1) ≡ suc k + 1
-      next k = omega arith
-
-  -- behind a word no letter stands
-  behind_word : (t : Token) (ts : List Token) → AreCut (t ∷ ts) → t.kind ≡ Word → BeginsWithNone
-      (joined ts)
-  behind_word t [] c word = λ d rest e letter. some_byte d rest e
-  behind_word t (u ∷ ts) c word =
-      front_is_none u.kind u.text (joined ts) (c.apart 0 t u refl refl word)
-      (c.each 1 u (omega arith))
+  first_same Word Space x y r t a b n m p q e =
+      absurd (word_or_other Space x y r t a (λ same. cc) b e)
+  first_same Word Other x y r t a b n m p q e =
+      absurd (word_or_other Other x y r t a (λ same. cc) b e)
+  first_same Word Sentence x y r t a b n m p q e =
+      absurd (word_or_other Sentence x y r t a (λ same. cc) b e)
+  first_same Word Stop x y r t a b n m p q e =
+      absurd (word_or_other Stop x y r t a (λ same. cc) b e)
+  first_same Space Word x y r t a b n m p q e =
+      absurd (word_or_other Space y x t r b (λ same. cc) a (sym e))
+  first_same Other Word x y r t a b n m p q e =
+      absurd (word_or_other Other y x t r b (λ same. cc) a (sym e))
+  first_same Sentence Word x y r t a b n m p q e =
+      absurd (word_or_other Sentence y x t r b (λ same. cc) a (sym e))
+  first_same Stop Word x y r t a b n m p q e =
+      absurd (word_or_other Stop y x t r b (λ same. cc) a (sym e))
+  first_same Space Other x y r t a b n m p q e = absurd (space_or_other x y r t a b e)
+  first_same Other Space x y r t a b n m p q e = absurd (space_or_other y x t r b a (sym e))
+  first_same Space Sentence x y r t a b n m p q e = absurd (space_or_sentence x y r t a b e)
+  first_same Sentence Space x y r t a b n m p q e = absurd (space_or_sentence y x t r b a (sym e))
+  first_same Space Stop x y r t a b n m p q e = absurd (space_or_stop x y r t a b e)
+  first_same Stop Space x y r t a b n m p q e = absurd (space_or_stop y x t r b a (sym e))
+  first_same Sentence Other x y r t a b n m p q e =
+      absurd (sentence_or_other x y r t a b (q (λ plain. plain)) e)
+  first_same Other Sentence x y r t a b n m p q e =
+      absurd (sentence_or_other y x t r b a (p (λ plain. plain)) (sym e))
+  first_same Stop Other x y r t a b n m p q e =
+      absurd (stop_or_other x y r t a b (q (λ plain. plain)) e)
+  first_same Other Stop x y r t a b n m p q e =
+      absurd (stop_or_other y x t r b a (p (λ plain. plain)) (sym e))
+  first_same Sentence Stop x y r t a b n m p q e = absurd (sentence_or_stop x y r t a b e)
+  first_same Stop Sentence x y r t a b n m p q e = absurd (sentence_or_stop y x t r b a (sym e))
+  first_same Tag l x y r t a b n m p q e = absurd a
+  first_same Word Tag x y r t a b n m p q e = absurd b
+  first_same Space Tag x y r t a b n m p q e = absurd b
+  first_same Other Tag x y r t a b n m p q e = absurd b
+  first_same Sentence Tag x y r t a b n m p q e = absurd b
+  first_same Stop Tag x y r t a b n m p q e = absurd b
 
   token_same : (t u : Token) → t.kind ≡ u.kind → t.text ≡ u.text → t ≡ u
   token_same t u e f =
@@ -199,37 +259,83 @@ module _ (lines : List Line) where
       (λ k. record { kind = k; text = t.text }) e in
       first ∙ ap (λ x. record { kind = u.kind; text = x }) f
 
-  no_empty : (t : Token) (ts : List Token) → AreCut (t ∷ ts) → let none : List ℕ = [] in none ≡
-      t.text ++ joined ts → ⊥
-  no_empty t ts c e = token_some t.kind t.text (joined ts) (c.each 0 t (omega arith)) e
+  -- where marks count, none is cut behind its brace, and where they don't, no token is one
+  module _ (MarksCount : Type 0) where
+    record AreCut (tokens : List Token) : Type 0 where
+      pub each : All (λ token. IsTokenText lines token.kind token.text) tokens
+      pub apart : (k : ℕ) (a b : Token) → slice_get tokens k ≡ Some a →
+          slice_get tokens (k + 1) ≡ Some b → a.kind ≡ Word → b.kind ≢ Word
+      pub marks : (k : ℕ) (a : Token) → slice_get tokens k ≡ Some a → a.text ≡ OPENING_BRACE ∷ [] →
+          BeginsWithMark (joined (drop k tokens)) → MarksCount → ⊥
+      pub kinds : All (λ token. IsPlain token.kind ⊎ MarksCount) tokens
 
-  pub cut_same : (ts us : List Token) → AreCut ts → AreCut us → joined ts ≡ joined us → ts ≡ us
-  cut_same [] [] a b e = refl
-  cut_same [] (u ∷ us) a b e = absurd (no_empty u us b e)
-  cut_same (t ∷ ts) [] a b e = absurd (no_empty t ts a (sym e))
-  cut_same (t ∷ ts) (u ∷ us) a b e =
-      let h = first_same t.kind u.kind t.text u.text (joined ts) (joined us)
-      (a.each 0 t (omega arith)) (b.each 0 u (omega arith))
-      (behind_word t ts a) (behind_word u us b) e in
-      ap (λ x. x ∷ ts) (token_same t u h.0 h.1) ∙ ap (λ xs. u ∷ xs)
-      (cut_same ts us (rest_cut t ts a) (rest_cut u us b) h.2)
+    rest_cut : (t : Token) (ts : List Token) → AreCut (t ∷ ts) → AreCut ts
+    rest_cut t ts c = record {
+      each = λ k d lt. c.each (suc k) d (omega arith);
+      apart = λ k a b first second. c.apart (suc k) a b first
+          (subst (λ n. slice_get (t ∷ ts) n ≡ Some b) (next k) second);
+      marks = λ k a at brace begins count. c.marks (suc k) a at brace begins count;
+      kinds = λ k d lt. c.kinds (suc k) d (omega arith);
+    }
+      where
+        next : (k : ℕ) → suc (k + 1) ≡ suc k + 1
+        next k = omega arith
+
+    -- behind a word no letter stands
+    behind_word : (t : Token) (ts : List Token) → AreCut (t ∷ ts) → t.kind ≡ Word → BeginsWithNone
+        (joined ts)
+    behind_word t [] c word = λ d rest e letter. some_byte d rest e
+    behind_word t (u ∷ ts) c word =
+        front_is_none u.kind u.text (joined ts) (c.apart 0 t u refl refl word)
+        (c.each 1 u (omega arith))
+
+    no_empty : (t : Token) (ts : List Token) → AreCut (t ∷ ts) → let none : List ℕ = [] in none ≡
+        t.text ++ joined ts → ⊥
+    no_empty t ts c e = token_some t.kind t.text (joined ts) (c.each 0 t (omega arith)) e
+
+    -- beside a mark marks count
+    beside_mark : (kind : Kind) → IsPlain kind ⊎ MarksCount → (IsPlain kind → ⊥) → MarksCount
+    beside_mark kind (inl plain) mark = absurd (mark plain)
+    beside_mark kind (inr count) mark = count
+
+    cut_same : (ts us : List Token) → AreCut ts → AreCut us → joined ts ≡ joined us → ts ≡ us
+    cut_same [] [] a b e = refl
+    cut_same [] (u ∷ us) a b e = absurd (no_empty u us b e)
+    cut_same (t ∷ ts) [] a b e = absurd (no_empty t ts a (sym e))
+    cut_same (t ∷ ts) (u ∷ us) a b e =
+        let h = first_same t.kind u.kind t.text u.text (joined ts) (joined us)
+        (a.each 0 t (omega arith)) (b.each 0 u (omega arith))
+        (behind_word t ts a) (behind_word u us b)
+        (λ mark brace begins.
+        a.marks 0 t refl brace begins (beside_mark u.kind (b.kinds 0 u (omega arith)) mark))
+        (λ mark brace begins.
+        b.marks 0 u refl brace begins (beside_mark t.kind (a.kinds 0 t (omega arith)) mark)) e in
+        ap (λ x. x ∷ ts) (token_same t u h.0 h.1) ∙ ap (λ xs. u ∷ xs)
+        (cut_same ts us (rest_cut t ts a) (rest_cut u us b) h.2)
 
   -- the list of tokens of a text is the only one
   pub tokens_unique : (text : List ℕ) (ts us : List Token) → AreTokens lines text ts → AreTokens
       lines text us → ts ≡ us
   tokens_unique text ts us a b =
-      cut_same ts us (record { each = a.each; apart = a.apart })
-      (record { each = b.each; apart = b.apart }) (a.whole ∙ sym b.whole)
+      cut_same (Unit {0}) ts us (cut ts a) (cut us b) (a.whole ∙ sym b.whole)
+    where
+      cut : (tokens : List Token) → AreTokens lines text tokens → AreCut (Unit {0}) tokens
+      cut tokens are = record {
+        each = are.each;
+        apart = are.apart;
+        marks = λ k a at brace begins count. are.marks k a at brace begins;
+        kinds = λ k d lt. inr tt;
+      }
 
-  -- a text with a list that is short enough has no longer one
-  pub no_longer : (text spaced : List ℕ) (tokens : List Token) → spaced ≡ with_single_spaces text →
-      IsCut lines spaced [] tokens → length tokens ≤ MAX_TOKENS → HasTooManyTokens lines text → ⊥
-  no_longer text spaced tokens is cut few many =
-      let are : AreTokens lines text tokens = record {
-        whole = sym (append-nil (joined tokens)) ∙ cut.whole ∙ is;
-        each = cut.each;
-        apart = cut.apart;
-      } in
-      let same : tokens ≡ many.0 = tokens_unique text tokens many.0 are many.1 in
-      let long : length tokens ≡ length many.0 = ap length same in
-      omega (arith, many.2)
+  -- and so is its list where a brace is a character as any other
+  pub plain_unique : (text : List ℕ) (ts us : List Token) → ArePlainTokens lines text ts →
+      ArePlainTokens lines text us → ts ≡ us
+  plain_unique text ts us a b = cut_same ⊥ ts us (cut ts a) (cut us b) (a.whole ∙ sym b.whole)
+    where
+      cut : (tokens : List Token) → ArePlainTokens lines text tokens → AreCut ⊥ tokens
+      cut tokens are = record {
+        each = are.each;
+        apart = are.apart;
+        marks = λ k a at brace begins count. count;
+        kinds = λ k d lt. inl (are.plain k d lt);
+      }

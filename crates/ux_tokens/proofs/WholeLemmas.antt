@@ -1,21 +1,23 @@
 -- Each text has a list of tokens: what is cut so far can be cut to its end.
-use Rattle.std.proofs.Common.{◌≡◌, ◌⊎◌, inl, inr, ℕ, zero, suc, ◌+◌, ◌<◌, ◌≤◌, Bool, true, false, ◌&&◌, List, [], ◌∷◌, ◌++◌, All, length, get_or, encode_utf8, refl, sym, ◌∙◌, ap, subst, arith}
+use Rattle.std.proofs.Common.{◌≡◌, ◌≢◌, take, drop, ◌⊎◌, inl, inr, ℕ, zero, suc, ◌+◌, ◌<◌, ◌≤◌, Bool, true, false, ◌&&◌, List, [], ◌∷◌, ◌++◌, All, length, get_or, encode_utf8, refl, sym, ◌∙◌, ap, subst, arith}
 use Rattle.std.specs.List.{Any}
 use Rattle.std.specs.Char.{IsScalar}
 use lib.Utf8.{scalar}
 use Rattle.std.specs.Str.{IsUtf8, chars, encode_utf8_all, all_scalars}
 use Rattle.std.proofs.lemmas.Bool.{cases_eq, cases_lt}
-use Rattle.std.proofs.lemmas.Str.{IsUtf8-encode, encodes-append, encode_ascii, encodes-chars, scalars-chars, chars-encodes, length-le-encodes, length-encode, len_utf8_bounds}
-use Rattle.std.proofs.lemmas.List.{length-append, length_push}
-use Rattle.std.proofs.lemmas.List.Elements.{All-nil, All-cons}
+use Rattle.std.proofs.lemmas.Str.{IsUtf8-take, IsUtf8-drop, IsUtf8-encode, encodes-append, encode_ascii, encodes-chars, scalars-chars, chars-encodes, length-le-encodes, length-encode, len_utf8_bounds}
+use Rattle.std.proofs.lemmas.List.{length-append, length_push, length-take-le, take-append-drop}
+use Rattle.std.proofs.lemmas.List.Elements.{All-nil, All-cons, All-push}
 use Rattle.ux_alphabet.specs.declared.line.Line.{Line}
 use Rattle.ux_alphabet.specs.declared.line.Line.TheVariants.{Single, Pair, Range}
 use Rattle.ux_alphabet.specs.Letters.{never_letter, NamesUpper, NamesLower, IsLetter}
-use Rattle.ux_tokens.specs.declared.kind.Kind.TheVariants.{Word, Space, Other}
-use Rattle.ux_tokens.specs.Tokens.{Token, IsTokenText, SPACE}
-use Rattle.ux_tokens.specs.First.{BeginsWithNoLetter}
-use Rattle.ux_tokens.specs.Cutting.{IsCut}
+use Rattle.ux_tokens.specs.declared.kind.Kind.{Kind}
+use Rattle.ux_tokens.specs.declared.kind.Kind.TheVariants.{Word, Space, Other, Sentence, Stop}
+use Rattle.ux_tokens.specs.Tokens.{Token, IsTokenText, SPACE, OPENING_BRACE, SENTENCE, STOP, BeginsWithMark, HasBareBrace, joined}
+use Rattle.ux_tokens.specs.First.{BeginsWithNoLetter, IsFront}
+use Rattle.ux_tokens.specs.Cutting.{IsCut, HaveNoBrace}
 use Rattle.ux_tokens.proofs.CutLemmas.{cut_more}
+use Rattle.ux_tokens.proofs.MarksLemmas.{bare_behind, bare_here, mark_front}
 
 -- a fact holds or it doesn't
 abbrev Settled : Type 0 → Type 0
@@ -54,6 +56,32 @@ any_settled P each (line ∷ lines) = by (each line) (any_settled P each lines)
     by (inr first) (inl there) =
         inl (suc there.0, there.1, omega (arith, there.2), there.3, there.4)
     by (inr first) (inr later) = inr (λ any. none first later any.0 any.1 any.2 any.3 any.4)
+
+-- a text begins with another or it doesn't
+begins_settled : (mark text : List ℕ) → Settled ((rest : List ℕ) × (text ≡ mark ++ rest))
+begins_settled [] text = inl (text, refl)
+begins_settled (m ∷ mark) [] = inr (λ begins. cc)
+begins_settled (m ∷ mark) (b ∷ text) = by (cases_eq b m) (begins_settled mark text)
+  where
+    by : Settled (b ≡ m) → Settled ((rest : List ℕ) × (text ≡ mark ++ rest)) →
+        Settled ((rest : List ℕ) × (b ∷ text ≡ m ∷ (mark ++ rest)))
+    by (inl same) (inl later) =
+        inl (later.0, ap (λ (x : ℕ). x ∷ text) same ∙ ap (λ (l : List ℕ). m ∷ l) later.1)
+    by (inl same) (inr other) = inr (λ begins. other (begins.0, ap (drop 1) begins.1))
+    by (inr other) later = inr (λ begins. other (ap (λ (l : List ℕ). get_or l 0 0) begins.1))
+
+mark_settled : (text : List ℕ) → Settled (BeginsWithMark text)
+mark_settled text = by (begins_settled SENTENCE text) (begins_settled STOP text)
+  where
+    by : Settled ((rest : List ℕ) × (text ≡ SENTENCE ++ rest)) →
+        Settled ((rest : List ℕ) × (text ≡ STOP ++ rest)) → Settled (BeginsWithMark text)
+    by (inl (rest, is)) stop = inl (rest, inl is)
+    by (inr no_sentence) (inl (rest, is)) = inl (rest, inr is)
+    by (inr no_sentence) (inr no_stop) =
+        inr (λ begins. elim begins.1 [
+          | inl is ↦ no_sentence (begins.0, is)
+          | inr is ↦ no_stop (begins.0, is)
+        ])
 
 and_parts : (a b : Bool) → (a && b) ≡ true → (a ≡ true) × (b ≡ true)
 and_parts true b both = (refl, both)
@@ -132,12 +160,14 @@ module _ (lines : List Line) where
     pub is : IsTokenText lines token.kind token.text
     pub longest : token.kind ≡ Word → BeginsWithNoLetter lines after
     pub some : 0 < length token.text
+    pub mark : BeginsWithMark text → token.text ≢ OPENING_BRACE ∷ []
 
   -- a first character that is no letter
   char_first : (cs : List ℕ) (c : ℕ) (rest : List ℕ) → cs ≡ c ∷ rest → IsScalar c →
       all_scalars rest ≡ true →
-      (IsLetter lines c → ⊥) → Settled (c ≡ SPACE) → HasFirst (encode_utf8_all cs)
-  char_first cs c rest parts scalar scalars other (inl space) = record {
+      (IsLetter lines c → ⊥) → (BeginsWithMark (encode_utf8_all cs) → ⊥) → Settled (c ≡ SPACE) →
+      HasFirst (encode_utf8_all cs)
+  char_first cs c rest parts scalar scalars other none (inl space) = record {
     token = record { kind = Space; text = encode_utf8 c };
     after = encode_utf8_all rest;
     parts = ap encode_utf8_all parts;
@@ -146,8 +176,9 @@ module _ (lines : List Line) where
     is = encode_ascii c (omega arith) ∙ ap (λ (d : ℕ). d ∷ []) space;
     longest = λ word. cc;
     some = omega (arith, length-encode c, (len_utf8_bounds c).0);
+    mark = λ begins. absurd (none begins);
   }
-  char_first cs c rest parts scalar scalars other (inr no_space) = record {
+  char_first cs c rest parts scalar scalars other none (inr no_space) = record {
     token = record { kind = Other; text = encode_utf8 c };
     after = encode_utf8_all rest;
     parts = ap encode_utf8_all parts;
@@ -156,19 +187,20 @@ module _ (lines : List Line) where
     is = (c, refl, other, no_space);
     longest = λ word. cc;
     some = omega (arith, length-encode c, (len_utf8_bounds c).0);
+    mark = λ begins. absurd (none begins);
   }
 
   -- of characters that are cut behind their first run of letters
   of_run : (cs front back : List ℕ) → all_scalars cs ≡ true → cs ≡ front ++ back → 0 < length cs →
-      All (IsLetter lines) front →
+      All (IsLetter lines) front → (BeginsWithMark (encode_utf8_all cs) → ⊥) →
       ((c : ℕ) (rest : List ℕ) → back ≡ c ∷ rest → IsLetter lines c → ⊥) →
       HasFirst (encode_utf8_all cs)
-  of_run cs [] [] scalars parts some letters ends =
-      let none : length cs ≡ 0 = ap length parts in absurd (omega arith)
-  of_run cs [] (c ∷ rest) scalars parts some letters ends =
+  of_run cs [] [] scalars parts some letters none ends =
+      let empty : length cs ≡ 0 = ap length parts in absurd (omega arith)
+  of_run cs [] (c ∷ rest) scalars parts some letters none ends =
       let each = and_parts (scalar c) (all_scalars rest) (ap all_scalars (sym parts) ∙ scalars) in
-      char_first cs c rest parts each.0 each.1 (ends c rest refl) (cases_eq c SPACE)
-  of_run cs (c ∷ front) back scalars parts some letters ends =
+      char_first cs c rest parts each.0 each.1 (ends c rest refl) none (cases_eq c SPACE)
+  of_run cs (c ∷ front) back scalars parts some letters none ends =
       let each = scalars_parts (c ∷ front) back (ap all_scalars (sym parts) ∙ scalars) in
       record {
         token = record { kind = Word; text = encode_utf8_all (c ∷ front) };
@@ -191,60 +223,117 @@ module _ (lines : List Line) where
             let long : length (c ∷ front) ≤ length (encode_utf8_all (c ∷ front)) =
             length-le-encodes (c ∷ front) in
             omega arith;
+        mark = λ begins. absurd (none begins);
       }
 
-  pub first_of : (text : List ℕ) → IsUtf8 text → 0 < length text → HasFirst text
-  first_of text utf8 some =
+  -- where no mark begins
+  unmarked_first : (text : List ℕ) → IsUtf8 text → 0 < length text →
+      (BeginsWithMark text → ⊥) → HasFirst text
+  unmarked_first text utf8 some none =
       let cs : List ℕ = chars text in
       let found = run cs in
       let whole : encode_utf8_all cs ≡ text = encodes-chars text utf8 in
       subst HasFirst whole
       (of_run cs found.front found.back (scalars-chars text utf8) found.parts
-      (by cs whole) found.letters found.ends)
+      (by cs whole) found.letters (λ begins. none (subst BeginsWithMark whole begins)) found.ends)
     where
       by : (cs : List ℕ) → encode_utf8_all cs ≡ text → 0 < length cs
-      by [] whole = let none : 0 ≡ length text = ap length whole in absurd (omega arith)
+      by [] whole = let empty : 0 ≡ length text = ap length whole in absurd (omega arith)
       by (c ∷ cs) whole = omega arith
 
-  -- the tokens of a text of which some are known
-  pub record Goes (text : List ℕ) (tokens : List Token) (least : ℕ) : Type 0 where
-    pub all : List Token
-    pub cut : IsCut lines text [] all
-    pub more : least ≤ length all
+  -- of a mark at the front
+  front_first : (text : List ℕ) (kind : Kind) (len : ℕ) → IsUtf8 text →
+      IsFront lines text kind len → HasFirst text
+  front_first text kind len utf8 front = record {
+    token = record { kind = kind; text = take len text };
+    after = drop len text;
+    parts = sym (take-append-drop len text);
+    token_utf8 = IsUtf8-take text len utf8 front.cut;
+    after_utf8 = IsUtf8-drop text len utf8 front.cut;
+    is = front.first.is;
+    longest = front.first.longest;
+    some =
+        let short = length-take-le len text front.cut.0 in
+        let some = front.some in
+        omega (arith, short, some);
+    mark = front.mark;
+  }
 
-  pub finish : (steps : ℕ) (text rest : List ℕ) (tokens : List Token) → length rest ≤ steps →
-      IsUtf8 rest →
-      IsCut lines text rest tokens → Goes text tokens (length tokens)
-  finish steps text [] tokens enough utf8 cut =
-      record { all = tokens; cut = cut; more = omega arith }
-  finish zero text (b ∷ rest) tokens enough utf8 cut = absurd (omega arith)
-  finish (suc steps) text (b ∷ rest) tokens enough utf8 cut =
-      let first = first_of (b ∷ rest) utf8 (omega arith) in
-      let longer : length (b ∷ rest) ≡ length first.token.text + length first.after =
-      ap length first.parts ∙ length-append first.token.text first.after in
-      let some : 0 < length first.token.text = first.some in
-      let later =
-      finish steps text first.after (tokens ++ first.token ∷ []) (omega arith) first.after_utf8
-      (cut_more lines text (b ∷ rest) first.after tokens first.token cut first.token_utf8
-      first.parts
-      first.is first.longest) in
-      let grown : length (tokens ++ first.token ∷ []) ≡ length tokens + 1 =
-      length_push tokens first.token in
-      let more : length (tokens ++ first.token ∷ []) ≤ length later.all = later.more in
-      record { all = later.all; cut = later.cut; more = omega arith }
+  pub first_of : (text : List ℕ) → IsUtf8 text → 0 < length text → HasFirst text
+  first_of text utf8 some = by (mark_settled text)
+    where
+      by : Settled (BeginsWithMark text) → HasFirst text
+      by (inl (rest, inl is)) =
+          front_first text Sentence 3 utf8 (mark_front lines text Sentence 3 utf8 (refl, rest, is))
+      by (inl (rest, inr is)) =
+          front_first text Stop 6 utf8 (mark_front lines text Stop 6 utf8 (refl, rest, is))
+      by (inr none) = unmarked_first text utf8 some none
 
-  -- where something stands behind the tokens, the text has more of them
-  pub has_more : (text rest : List ℕ) (tokens : List Token) → IsUtf8 rest → 0 < length rest →
-      IsCut lines text rest tokens →
-      (all : List Token) × IsCut lines text [] all × (length tokens < length all)
-  has_more text rest tokens utf8 some cut =
-      let first = first_of rest utf8 some in
-      let later =
-      finish (length first.after) text first.after (tokens ++ first.token ∷ []) (omega arith)
-      first.after_utf8
-      (cut_more lines text rest first.after tokens first.token cut first.token_utf8 first.parts
-      first.is first.longest) in
-      let grown : length (tokens ++ first.token ∷ []) ≡ length tokens + 1 =
-      length_push tokens first.token in
-      let more : length (tokens ++ first.token ∷ []) ≤ length later.all = later.more in
-      (later.all, later.cut, omega arith)
+  -- a token stands behind the tokens so far, and is no brace alone
+  record HasNext (text rest : List ℕ) (tokens : List Token) : Type 0 where
+    pub token : Token
+    pub after : List ℕ
+    pub after_utf8 : IsUtf8 after
+    pub shorter : length after < length rest
+    pub cut : IsCut lines text after (tokens ++ token ∷ [])
+    pub no_brace : HaveNoBrace (tokens ++ token ∷ [])
+
+  module _ (text : List ℕ) (marked : HasBareBrace text → ⊥) where
+    next_of : (rest : List ℕ) (tokens : List Token) → IsUtf8 rest → 0 < length rest →
+        IsCut lines text rest tokens → HaveNoBrace tokens → HasNext text rest tokens
+    next_of rest tokens utf8 some cut no_brace =
+        let first = first_of rest utf8 some in
+        let longer : length rest ≡ length first.token.text + length first.after =
+        ap length first.parts ∙ length-append first.token.text first.after in
+        let token_some : 0 < length first.token.text = first.some in
+        record {
+          token = first.token;
+          after = first.after;
+          after_utf8 = first.after_utf8;
+          shorter = omega arith;
+          cut = cut_more lines text rest first.after tokens first.token cut first.token_utf8
+              first.parts first.is first.longest;
+          no_brace = All-push (λ (t : Token). t.text ≢ OPENING_BRACE ∷ []) tokens first.token
+              no_brace
+              (λ brace.
+              let is : rest ≡ OPENING_BRACE ∷ first.after =
+              first.parts ∙ ap (λ (l : List ℕ). l ++ first.after) brace in
+              marked (bare_behind (joined tokens) rest text (sym cut.whole)
+              (bare_here rest (first.after, is, λ begins. first.mark begins brace))));
+        }
+
+    -- the tokens of a text of which some are known
+    pub record Goes (least : ℕ) : Type 0 where
+      pub all : List Token
+      pub cut : IsCut lines text [] all
+      pub no_brace : HaveNoBrace all
+      pub more : least ≤ length all
+
+    pub finish : (steps : ℕ) (rest : List ℕ) (tokens : List Token) → length rest ≤ steps →
+        IsUtf8 rest → IsCut lines text rest tokens → HaveNoBrace tokens → Goes (length tokens)
+    finish steps [] tokens enough utf8 cut no_brace =
+        record { all = tokens; cut = cut; no_brace = no_brace; more = omega arith }
+    finish zero (b ∷ rest) tokens enough utf8 cut no_brace = absurd (omega arith)
+    finish (suc steps) (b ∷ rest) tokens enough utf8 cut no_brace =
+        let next = next_of (b ∷ rest) tokens utf8 (omega arith) cut no_brace in
+        let shorter : length next.after < length (b ∷ rest) = next.shorter in
+        let later = finish steps next.after (tokens ++ next.token ∷ []) (omega arith)
+        next.after_utf8 next.cut next.no_brace in
+        let grown : length (tokens ++ next.token ∷ []) ≡ length tokens + 1 =
+        length_push tokens next.token in
+        let more : length (tokens ++ next.token ∷ []) ≤ length later.all = later.more in
+        record { all = later.all; cut = later.cut; no_brace = later.no_brace; more = omega arith }
+
+    -- where something stands behind the tokens, the text has more of them
+    pub has_more : (rest : List ℕ) (tokens : List Token) → IsUtf8 rest → 0 < length rest →
+        IsCut lines text rest tokens → HaveNoBrace tokens →
+        (all : List Token) × IsCut lines text [] all × HaveNoBrace all
+        × (length tokens < length all)
+    has_more rest tokens utf8 some cut no_brace =
+        let next = next_of rest tokens utf8 some cut no_brace in
+        let later = finish (length next.after) next.after (tokens ++ next.token ∷ []) (omega arith)
+        next.after_utf8 next.cut next.no_brace in
+        let grown : length (tokens ++ next.token ∷ []) ≡ length tokens + 1 =
+        length_push tokens next.token in
+        let more : length (tokens ++ next.token ∷ []) ≤ length later.all = later.more in
+        (later.all, later.cut, later.no_brace, omega arith)

@@ -1,12 +1,12 @@
 -- A text that is cut into tokens up to a place.
-use Rattle.std.specs.Prelude.{◌≡◌, ◌≢◌, ℕ, ◌+◌, ◌≤◌, ◌<◌, List, [], ◌++◌, All, Some, length, slice_get}
+use Rattle.std.specs.Prelude.{◌≡◌, ◌≢◌, ℕ, ◌+◌, ◌≤◌, ◌<◌, List, [], ◌∷◌, ◌++◌, All, Some, length, slice_get}
 use Rattle.ux_alphabet.specs.declared.line.Line.{Line}
 use Rattle.ux_tokens.specs.declared.kind.Kind.TheVariants.{Word}
 use Rattle.ux_tokens.specs.declared.cutting.Cut.{Cut}
 use Rattle.ux_tokens.specs.declared.text_error.TextError.{TextError}
 use Rattle.ux_tokens.specs.declared.text_error.TextError.TheVariants.{TooManyTokens, NotYet, NoMemory}
 use Rattle.ux_tokens.specs.declared.cutting.TheConstants.{MAX_TOKENS}
-use Rattle.ux_tokens.specs.Tokens.{Token, IsTokenText, joined}
+use Rattle.ux_tokens.specs.Tokens.{Token, IsTokenText, joined, OPENING_BRACE}
 use Rattle.ux_tokens.specs.First.{BeginsWithNoLetter}
 use Rattle.ux_tokens.specs.Numbers.{different_texts}
 use Rattle.ux_tokens.specs.Pieces.{ArePieces, tokens_from}
@@ -21,19 +21,33 @@ pub record IsCut (lines : List Line) (text rest : List ℕ) (tokens : List Token
   pub closed : (k : ℕ) (last : Token) → slice_get tokens k ≡ Some last → k + 1 ≡ length tokens →
       last.kind ≡ Word → BeginsWithNoLetter lines rest
 
+-- no token is a brace alone: where each brace begins a mark, the marks are tokens
+abbrev pub HaveNoBrace : List Token → Type 0
+HaveNoBrace tokens = All (λ token. token.text ≢ OPENING_BRACE ∷ []) tokens
+
 -- the pieces are those of the whole text
 pub record IsCutting (lines : List Line) (text : List ℕ) (cut : Cut) : Type 0 where
   pub tokens : IsCut lines text [] (tokens_from text 0 (pieces_of cut.pieces))
+  pub no_brace : HaveNoBrace (tokens_from text 0 (pieces_of cut.pieces))
   pub pieces : ArePieces text (pieces_of cut.pieces)
       (different_texts (tokens_from text 0 (pieces_of cut.pieces)))
   pub even : AreEven cut.pieces
   pub few : length (pieces_of cut.pieces) ≤ MAX_TOKENS
   pub different : cut.different ≡ length (different_texts (tokens_from text 0 (pieces_of cut.pieces)))
 
+-- the texts are the different ones of the whole text's tokens
+pub record IsListing (lines : List Line) (text : List ℕ) (texts : List (List ℕ)) : Type 0 where
+  pub tokens : List Token
+  pub cut : IsCut lines text [] tokens
+  pub no_brace : HaveNoBrace tokens
+  pub few : length tokens ≤ MAX_TOKENS
+  pub are : texts ≡ different_texts tokens
+
 -- the text has more tokens than a text may have
 abbrev pub HasTooManyTokens : List Line → List ℕ → Type 0
 HasTooManyTokens lines text =
-    (tokens : List Token) × IsCut lines text [] tokens × (MAX_TOKENS < length tokens)
+    (tokens : List Token) × IsCut lines text [] tokens × HaveNoBrace tokens
+    × (MAX_TOKENS < length tokens)
 
 -- when each error comes; want of memory may come at any text
 abbrev pub RefusesCut : List Line → List ℕ → TextError → Type 0

@@ -1,13 +1,14 @@
 -- When a text is refused.
-use Rattle.std.specs.Prelude.{ℕ, ◌<◌, List, length, Contains}
+use Rattle.std.specs.Prelude.{ℕ, ◌<◌, List, length}
 use Rattle.ux_alphabet.specs.declared.line.Line.{Line}
 use Rattle.ux_tokens.specs.declared.text_error.TextError.{TextError}
 use Rattle.ux_tokens.specs.declared.text_error.TextError.TheVariants.{TooManyTokens, NotYet, NoMemory}
 use Rattle.ux_tokens.specs.declared.cutting.TheConstants.{MAX_TOKENS}
-use Rattle.ux_tokens.specs.Tokens.{Token, AreTokens}
+use Rattle.ux_tokens.specs.Tokens.{Token, AreTokens, HasBareBrace, with_single_spaces}
 
-abbrev pub OPENING_BRACE : ℕ
-OPENING_BRACE = 123
+-- with single spaces, the text has a brace at which no mark begins
+abbrev pub HasOpenBrace : List ℕ → Type 0
+HasOpenBrace text = HasBareBrace (with_single_spaces text)
 
 -- the list of the text's tokens is longer than it may be
 abbrev pub HasTooManyTokens : List Line → List ℕ → Type 0
@@ -16,6 +17,6 @@ HasTooManyTokens lines text =
 
 -- when each error comes; want of memory may come at any text
 abbrev pub Refuses : List Line → List ℕ → TextError → Type 0
-Refuses lines text NotYet = Contains text OPENING_BRACE
-Refuses lines text TooManyTokens = (Contains text OPENING_BRACE → ⊥) × HasTooManyTokens lines text
+Refuses lines text NotYet = HasOpenBrace text
+Refuses lines text TooManyTokens = (HasOpenBrace text → ⊥) × HasTooManyTokens lines text
 Refuses lines text NoMemory = Unit {0}

@@ -1,12 +1,20 @@
--- How a text with single spaces is copied: front by front that stays as it is.
-use Rattle.std.specs.Prelude.{◌≡◌, ◌⊎◌, ℕ, ◌+◌, ◌<◌, false, List, ◌∷◌, ◌++◌, length, slice_index}
+-- How white space is joined where a text lies: front by front that stays as it is.
+use Rattle.std.specs.Prelude.{◌≡◌, ◌⊎◌, ℕ, ◌+◌, ◌<◌, ◌≤◌, false, List, ◌++◌, length, take, drop, slice_index}
 use Rattle.ux_alphabet.specs.Letters.{is_separator}
 use Rattle.ux_tokens.specs.Tokens.{with_single_spaces, SPACE}
 
--- the front stays as it is, and one space stands for the white space between it and what is behind
-pub record IsCutAtRun (text front behind : List ℕ) : Type 0 where
-  pub spaced : with_single_spaces text ≡ front ++ SPACE ∷ with_single_spaces behind
-  pub shorter : length behind < length text
+-- what is joined of the text before a place stands at the front, and the rest is as it was
+pub record IsJoined (text bytes : List ℕ) (joined place : ℕ) : Type 0 where
+  pub in_order : joined ≤ place
+  pub within : place ≤ length bytes
+  pub spaced : with_single_spaces text
+      ≡ take joined bytes ++ with_single_spaces (drop place bytes)
+
+-- so many bytes are moved from a place to another one, and what is before and behind stays
+pub record IsMoved (old new : List ℕ) (from to len : ℕ) : Type 0 where
+  pub same_len : length new ≡ length old
+  pub front : take (to + len) new ≡ take to old ++ take len (drop from old)
+  pub behind : drop (from + len) new ≡ drop (from + len) old
 
 -- the byte stays as it is before the next one: it is no white space, or a space alone
 abbrev pub Stays : (byte next : ℕ) → Type 0

@@ -1,8 +1,10 @@
 -- The token file of a text. The manual, on tokenising; the layout is this program's own.
-use Rattle.std.specs.Prelude.{ℕ, List, [], ◌∷◌, ◌++◌, length}
+use Rattle.std.specs.Prelude.{◌≡◌, ℕ, ◌≤◌, List, [], ◌∷◌, ◌++◌, length}
 use Rattle.std.specs.List.{flat_map}
 use Rattle.std.specs.Fmt.{decimal}
-use Rattle.ux_tokens.specs.Tokens.{Token}
+use Rattle.ux_alphabet.specs.declared.line.Line.{Line}
+use Rattle.ux_tokens.specs.declared.cutting.TheConstants.{MAX_TOKENS}
+use Rattle.ux_tokens.specs.Tokens.{Token, AreTokens}
 use Rattle.ux_tokens.specs.Numbers.{different_texts}
 
 abbrev pub LINE_FEED : ℕ
@@ -12,8 +14,16 @@ LINE_FEED = 10
 abbrev pub line_of : List ℕ → List ℕ
 line_of text = text ++ LINE_FEED ∷ []
 
+-- how many texts there are, and then each of them on a line
+abbrev pub file_of : List (List ℕ) → List ℕ
+file_of texts = line_of (decimal (length texts)) ++ flat_map line_of texts
+
 -- how many different tokens there are, and then each of them on a line, in order of number
 abbrev pub token_file : List Token → List ℕ
-token_file tokens =
-    line_of (decimal (length (different_texts tokens)))
-    ++ flat_map line_of (different_texts tokens)
+token_file tokens = file_of (different_texts tokens)
+
+-- the file is that of the text's tokens, of which there are not too many
+abbrev pub IsTokenFileOf : List Line → (text file : List ℕ) → Type 0
+IsTokenFileOf lines text file =
+    (tokens : List Token) × AreTokens lines text tokens × (length tokens ≤ MAX_TOKENS)
+    × (file ≡ token_file tokens)

@@ -1,5 +1,5 @@
 -- Which list of tokens a text has. The manual, on tokenising.
-use Rattle.std.specs.Prelude.{◌≡◌, ◌≢◌, ℕ, ◌+◌, List, [], ◌∷◌, ◌++◌, Bool, false, if◌then◌else◌, All, Some, slice_get, encode_utf8}
+use Rattle.std.specs.Prelude.{◌≡◌, ◌≢◌, ◌⊎◌, ℕ, ◌+◌, List, [], ◌∷◌, ◌++◌, Bool, false, if◌then◌else◌, All, Some, codes, drop, slice_get, encode_utf8}
 use Rattle.std.specs.Str.{IsUtf8, chars}
 use Rattle.ux_alphabet.specs.declared.line.Line.{Line}
 use Rattle.ux_alphabet.specs.Letters.{is_separator, IsLetter}
@@ -13,6 +13,26 @@ pub record Token : Type 0 where
 
 abbrev pub SPACE : ℕ
 SPACE = 32
+
+abbrev pub OPENING_BRACE : ℕ
+OPENING_BRACE = 123
+
+-- the mark of a sentence's end
+abbrev pub SENTENCE : List ℕ
+SENTENCE = codes "{S}"
+
+-- the mark that nothing matches
+abbrev pub STOP : List ℕ
+STOP = codes "{STOP}"
+
+-- a mark stands at the front
+abbrev pub BeginsWithMark : List ℕ → Type 0
+BeginsWithMark text = (rest : List ℕ) × ((text ≡ SENTENCE ++ rest) ⊎ (text ≡ STOP ++ rest))
+
+-- a brace stands in the text at which no mark begins
+abbrev pub HasBareBrace : List ℕ → Type 0
+HasBareBrace text = (front rest : List ℕ) × (text ≡ front ++ OPENING_BRACE ∷ rest)
+    × (BeginsWithMark (OPENING_BRACE ∷ rest) → ⊥)
 
 -- a separator stands at the front
 abbrev pub begins_with_separator : List ℕ → Bool
@@ -34,8 +54,8 @@ IsTokenText lines Word text = (text ≢ []) × IsUtf8 text × All (IsLetter line
 IsTokenText lines Space text = text ≡ SPACE ∷ []
 IsTokenText lines Other text =
     (c : ℕ) × (text ≡ encode_utf8 c) × (IsLetter lines c → ⊥) × (c ≢ SPACE)
-IsTokenText lines Sentence text = ⊥
-IsTokenText lines Stop text = ⊥
+IsTokenText lines Sentence text = text ≡ SENTENCE
+IsTokenText lines Stop text = text ≡ STOP
 IsTokenText lines Tag text = ⊥
 
 -- the texts of the tokens, one behind the other
@@ -49,3 +69,23 @@ pub record AreTokens (lines : List Line) (text : List ℕ) (tokens : List Token)
   pub each : All (λ token. IsTokenText lines token.kind token.text) tokens
   pub apart : (k : ℕ) (a b : Token) → slice_get tokens k ≡ Some a →
       slice_get tokens (k + 1) ≡ Some b → a.kind ≡ Word → b.kind ≢ Word
+  -- no mark is cut behind its brace
+  pub marks : (k : ℕ) (a : Token) → slice_get tokens k ≡ Some a → a.text ≡ OPENING_BRACE ∷ [] →
+      BeginsWithMark (joined (drop k tokens)) → ⊥
+
+-- the kinds of tokens of a text in which a brace is a character as any other
+abbrev pub IsPlain : Kind → Type 0
+IsPlain Word = Unit {0}
+IsPlain Space = Unit {0}
+IsPlain Other = Unit {0}
+IsPlain Sentence = ⊥
+IsPlain Stop = ⊥
+IsPlain Tag = ⊥
+
+-- the tokens are those of the text, of which no part is a mark
+pub record ArePlainTokens (lines : List Line) (text : List ℕ) (tokens : List Token) : Type 0 where
+  pub whole : joined tokens ≡ with_single_spaces text
+  pub each : All (λ token. IsTokenText lines token.kind token.text) tokens
+  pub apart : (k : ℕ) (a b : Token) → slice_get tokens k ≡ Some a →
+      slice_get tokens (k + 1) ≡ Some b → a.kind ≡ Word → b.kind ≢ Word
+  pub plain : All (λ token. IsPlain token.kind) tokens

@@ -2,10 +2,10 @@
 
 ghost use Rattle.std.specs.Prelude.{IfOk, IfErr};
 ghost use Rattle.ux_tokens.specs.Cutting.{IsCutting, RefusesCut};
+ghost use Rattle.ux_tokens.specs.Tokens.{HasBareBrace};
 
-use crate::first::first_token;
+use crate::front::number_front;
 use crate::known::Known;
-use crate::numbering::number_of_kind;
 use crate::piece::Piece;
 use crate::pieces::Pieces;
 use crate::text_error::TextError;
@@ -27,6 +27,7 @@ pub struct Cut {
 
 /// Cuts a text without longer runs of white space into its tokens. Takes a step a character.
 pub fn cut_text(alloc: Global, alphabet: &Alphabet, text: &str) -> Result<Cut, TextError>
+    requires marked { HasBareBrace text.now → ⊥ }
     ensures ok { IfOk result (IsCutting alphabet.now text.now) }
     ensures err { IfErr result (RefusesCut alphabet.now text.now) }
 {
@@ -38,17 +39,13 @@ pub fn cut_text(alloc: Global, alphabet: &Alphabet, text: &str) -> Result<Cut, T
         if pieces.len() == MAX_TOKENS {
             return Err(TextError::TooManyTokens);
         }
-        let rest = &text[end..];
-        let (kind, len) = first_token(alphabet, rest);
-        let number = number_of_kind(
-            &mut numbers,
-            &mut known,
-            kind,
-            &rest[..len],
-            rest.as_bytes(),
-        )?;
-        end += len;
-        pieces.push(Piece { end, number, kind })?;
+        let front = number_front(alphabet, &mut numbers, &mut known, &text[end..])?;
+        end += front.end;
+        pieces.push(Piece {
+            end,
+            number: front.number,
+            kind: front.kind,
+        })?;
     }
     Ok(Cut {
         pieces,

@@ -4,12 +4,33 @@ ghost use Rattle.std.specs.Prelude.{◌≡◌, ℕ, ◌<◌, ◌≤◌, ◌∷�
 ghost use Rattle.std.specs.Str.{IsCharBoundary, chars};
 ghost use Rattle.ux_alphabet.specs.Letters.{IsLetter};
 ghost use Rattle.ux_tokens.specs.First.{BeginsWithNoLetter, IsFirstToken};
+ghost use Rattle.ux_tokens.specs.Tokens.{IsPlain};
 
 use crate::kind::Kind;
 use ux_alphabet::Alphabet;
 
-/// The length in bytes of the longest run of letters at the front.
+/// The length in bytes of the longest run of letters at the front. Most letters are ASCII, and are
+/// looked at as bytes: characters are decoded only from the first other one on.
 fn word_len(alphabet: &Alphabet, text: &str) -> usize
+    ensures cut { IsCharBoundary text.now result }
+    ensures letters { All (IsLetter alphabet.now) (chars (take result text.now)) }
+    ensures ends { BeginsWithNoLetter alphabet.now (drop result text.now) }
+{
+    let bytes = text.as_bytes();
+    for place in 0..bytes.len() {
+        let byte = bytes[place];
+        if byte >= 128 {
+            return place + decoded_word_len(alphabet, &text[place..]);
+        }
+        if !alphabet.is_letter(byte as char) {
+            return place;
+        }
+    }
+    text.len()
+}
+
+/// The same, by characters.
+fn decoded_word_len(alphabet: &Alphabet, text: &str) -> usize
     ensures cut { IsCharBoundary text.now result }
     ensures letters { All (IsLetter alphabet.now) (chars (take result text.now)) }
     ensures ends { BeginsWithNoLetter alphabet.now (drop result text.now) }
@@ -28,6 +49,7 @@ pub fn first_token(alphabet: &Alphabet, text: &str) -> (Kind, usize)
     ensures cut { IsCharBoundary text.now result.1 }
     ensures some { 0 < result.1 }
     ensures is { IsFirstToken alphabet.now text.now result.0 result.1 }
+    ensures plain { IsPlain result.0 }
 {
     let word = word_len(alphabet, text);
     if word > 0 {

@@ -1,17 +1,18 @@
-//! Numbers that are found without the table of different texts: the space's, and those of short texts.
+//! Numbers that are found without the table of different texts: the space's, and those of short
+//! texts.
 //!
 //! Most tokens are short and were met before, and a look into the table and at its text waits for
-//! memory twice. So a text of at most eight bytes is kept in a slot, as one number beside its length,
-//! and is found again by one look. A hash gives each text its slot, and a later text takes the place
-//! of an earlier one: that one is looked up in the table when it comes again.
+//! memory twice. So a text of at most sixteen bytes is kept in a slot, as one number beside its
+//! length, and is found again by one look. A hash gives each text its slot, and a later text takes
+//! the place of an earlier one: that one is looked up in the table when it comes again.
 
-ghost use Rattle.std.specs.Prelude.{◌≡◌, ◌≤◌, ◌<◌, ℕ, List, All, Some, IfOk, IfSome, [], length, take, slice_get};
+ghost use Rattle.std.specs.Prelude.{◌≡◌, ◌<◌, ℕ, List, All, Some, IfOk, IfSome, [], length, take, slice_get};
 ghost use Rattle.std.specs.Int.{bytes_high_first};
 ghost use Rattle.ux_tokens.specs.Known.{AreKnown, HasNumber};
 
 use std::alloc::{AllocError, Global};
 
-/// How many slots there are: half a megabyte, which the nearer memory of a processor holds.
+/// How many slots there are: a megabyte, which the nearer memory of a processor holds.
 const SLOTS: usize = 32_768;
 
 /// The bits of a hash that aren't the number of a slot.
@@ -20,20 +21,20 @@ const UNUSED_BITS: u32 = 49;
 /// An odd number whose bits are as if by chance, the golden ratio's.
 const MULTIPLIER: u64 = 0x9e37_79b9_7f4a_7c15;
 
-/// A text of at most eight bytes.
-#[derive(Clone, Copy, Debug)]
+/// A text of at most sixteen bytes.
+#[derive(Clone, Copy)]
 pub struct Short {
     /// The number that its bytes make, the first of them the highest.
-    pub bytes: u64,
+    pub bytes: u128,
     /// How many bytes it has.
     pub len: u32,
 }
 
 /// A short text and its number, or nothing where the length is 0.
-#[derive(Clone, Copy, Debug)]
+#[derive(Clone, Copy)]
 pub struct Slot {
     /// The bytes of the text.
-    pub bytes: u64,
+    pub bytes: u128,
     /// The length of the text.
     pub len: u32,
     /// The number that the text was given.
@@ -41,7 +42,7 @@ pub struct Slot {
 }
 
 /// The numbers that are known.
-#[derive(Debug, Drop)]
+#[derive(Drop)]
 pub struct Known {
     /// The number of the space, once it was given.
     pub space: Option<u32>,
@@ -102,26 +103,29 @@ fn empty_slots(alloc: Global) -> Result<Vec<Slot>, AllocError>
     Ok(slots)
 }
 
-/// The text of this length at the front, if it is short. `None` also where fewer than eight bytes are
-/// left, since eight are read at once.
+/// The text of this length at the front, if it is short. `None` also where fewer than sixteen
+/// bytes are left, since sixteen are read at once.
 pub(crate) fn short_front(text: &[u8], len: usize) -> Option<Short>
     requires { 0 < len }
     ensures some { IfSome result (λ short. 0 < short.len) }
-    ensures bytes { IfSome result (λ short. bytes_high_first short.len short.bytes ≡ take len text.now) }
+    ensures bytes { IfSome result (λ short.
+        bytes_high_first short.len short.bytes ≡ take len text.now) }
 {
-    if len > 8 {
+    if len > 16 {
         return None;
     }
-    let front = text.first_chunk::<8>()?;
-    let bytes = u64::from_be_bytes(*front) >> (64 - 8 * len as u32);
+    let front = text.first_chunk::<16>()?;
+    let bytes = u128::from_be_bytes(*front) >> (128 - 8 * len as u32);
     Some(Short {
         bytes,
         len: len as u32,
     })
 }
 
-/// The place of the slot that a short text may have.
+/// The place of the slot that a short text may have. Most texts have no byte above the lower eight.
 fn place_of(short: Short) -> usize {
-    let hash = (short.bytes ^ short.len as u64).wrapping_mul(MULTIPLIER);
+    let upper = (short.bytes >> 64) as u64;
+    let lower = (short.bytes & u64::MAX as u128) as u64;
+    let hash = (upper.wrapping_mul(MULTIPLIER) ^ lower).wrapping_mul(MULTIPLIER);
     (hash >> UNUSED_BITS) as usize
 }

@@ -1,12 +1,13 @@
 //! White space: each longest run of it becomes one space before tokens are cut.
 //!
-//! Nearly all white space of a text is a space alone, which stays as it is. So a text is copied in
-//! fronts that end only at other runs, and not word by word, and a front is looked at in blocks.
+//! Nearly all white space of a text is a space alone, which stays as it is. So white space is
+//! joined where the text lies, by fronts that end only at other runs, and not word by word. A front
+//! is looked at in blocks, and moved only once what is before it became shorter.
 
-ghost use Rattle.std.specs.Prelude.{◌≡◌, ◌<◌, ◌≤◌, ◌+◌, ◌++◌, ◌∷◌, IfOk, IsTrue, MatchOption, false, true, length, take, drop, slice_index, string_bytes};
+ghost use Rattle.std.specs.Prelude.{◌≡◌, ℕ, ◌<◌, ◌≤◌, ◌+◌, List, ◌++◌, ◌∷◌, IfOk, IsTrue, false, true, length, take, drop, slice_index, string_bytes};
 ghost use Rattle.std.specs.List.{prefix_len};
 ghost use Rattle.ux_alphabet.specs.Letters.{is_separator};
-ghost use Rattle.ux_tokens.specs.Spaces.{FirstStay, IsCutAtRun, Stays};
+ghost use Rattle.ux_tokens.specs.Spaces.{FirstStay, IsJoined, IsMoved, Stays};
 ghost use Rattle.ux_tokens.specs.Tokens.{with_single_spaces, begins_with_separator};
 
 use std::alloc::{AllocError, Global};
@@ -18,29 +19,110 @@ const BLOCK: usize = 16;
 pub fn single_spaced(alloc: Global, text: &str) -> Result<String, AllocError>
     ensures { IfOk result (λ out. string_bytes out ≡ with_single_spaces text.now) }
 {
-    let mut out = String::with_capacity(alloc, text.len())?;
-    let mut rest = text;
-    while let Some((front, behind)) = cut_at_run(rest) {
-        out.push_str(front)?;
-        out.push(' ')?;
-        rest = behind;
-    }
-    out.push_str(rest)?;
-    Ok(out)
+    let copy = String::from_str(alloc, text)?;
+    Ok(into_single_spaced(copy))
 }
 
-/// The front that stays as it is, and what stands behind the white space after it. `None` where the
-/// whole text stays.
-fn cut_at_run(text: &str) -> Option<(&str, &str)>
-    ensures { MatchOption result (with_single_spaces text.now ≡ text.now)
-        (λ (front, behind). IsCutAtRun text.now front.now behind.now) }
+/// The same of a text that isn't needed any more. Takes no memory.
+pub fn into_single_spaced(text: String) -> String
+    ensures { string_bytes result ≡ with_single_spaces (string_bytes text) }
 {
-    let front = front_len(text.as_bytes());
-    if front == text.len() {
-        return None;
+    let mut bytes = text.into_bytes();
+    let len = join_white_space(bytes.as_mut_slice());
+    bytes.truncate(len);
+    // A run of white space and the space for it are ASCII, so no character is split.
+    match String::from_utf8(bytes) {
+        Ok(text) => text,
+        Err(_) => unreachable!(),
     }
-    let run = &text[front..];
-    Some((&text[..front], &run[run_len(run.as_bytes())..]))
+}
+
+/// Makes one space of each longest run of white space. Answers the length of what comes of it,
+/// which stands at the front.
+fn join_white_space(bytes: &mut [u8]) -> usize
+    ensures len { length bytes.new ≡ length bytes.old }
+    ensures within { result ≤ length bytes.new }
+    ensures joined { take result bytes.new ≡ with_single_spaces bytes.old }
+{
+    let mut place = 0;
+    let mut joined = 0;
+    while place < bytes.len() {
+        let front = join_front(bytes, place, joined);
+        place += front;
+        joined += front;
+        if place == bytes.len() {
+            return joined;
+        }
+        place += join_run(bytes, place, joined);
+        joined += 1;
+    }
+    joined
+}
+
+/// Puts the front of the rest that stays as it is behind what is joined. Answers its length.
+fn join_front(bytes: &mut [u8], place: usize, joined: usize) -> usize
+    requires in_order { joined ≤ place }
+    requires within { place ≤ length bytes.old }
+    ensures within { place + result ≤ length bytes.new }
+    ensures len { length bytes.new ≡ length bytes.old }
+    ensures joined { (text : List ℕ) → IsJoined text bytes.old joined place →
+        IsJoined text bytes.new (joined + result) (place + result) }
+    ensures ends { place + result < length bytes.new →
+        begins_with_separator (drop (place + result) bytes.new) ≡ true }
+{
+    let front = front_len(&bytes[place..]);
+    move_down(bytes, place, front, joined);
+    front
+}
+
+/// Puts one space for the white space at the place behind what is joined. Answers the length of
+/// that white space.
+fn join_run(bytes: &mut [u8], place: usize, joined: usize) -> usize
+    requires in_order { joined ≤ place }
+    requires within { place < length bytes.old }
+    requires white { begins_with_separator (drop place bytes.old) ≡ true }
+    ensures within { place + result ≤ length bytes.new }
+    ensures len { length bytes.new ≡ length bytes.old }
+    ensures some { 0 < result }
+    ensures joined { (text : List ℕ) → IsJoined text bytes.old joined place →
+        IsJoined text bytes.new (joined + 1) (place + result) }
+{
+    let run = run_len(&bytes[place..]);
+    bytes[joined] = b' ';
+    run
+}
+
+/// Moves so many bytes from a place down to another one, by blocks. Does nothing where both places
+/// are one.
+fn move_down(bytes: &mut [u8], from: usize, len: usize, to: usize)
+    requires within { from + len ≤ length bytes.old }
+    requires down { to ≤ from }
+    ensures { IsMoved bytes.old bytes.new from to len }
+{
+    if to == from {
+        return;
+    }
+    let mut moved = 0;
+    while len - moved >= BLOCK {
+        move_block(bytes, from + moved, to + moved);
+        moved += BLOCK;
+    }
+    bytes.copy_within(from + moved..from + len, to + moved);
+}
+
+/// Moves a block down. It is read whole before it is written, since most places overlap.
+fn move_block(bytes: &mut [u8], from: usize, to: usize)
+    requires within { from + BLOCK ≤ length bytes.old }
+    requires down { to ≤ from }
+    ensures { IsMoved bytes.old bytes.new from to BLOCK }
+{
+    match bytes[from..].first_chunk::<BLOCK>() {
+        Some(block) => {
+            let block = *block;
+            bytes[to..to + BLOCK].copy_from_slice(&block);
+        }
+        None => unreachable!(),
+    }
 }
 
 /// The length of the front that stays as it is. Behind it stands white space, or nothing.

@@ -3,15 +3,15 @@
 //! The tokens are neighbouring slices of the text in which each run of white space is one space, so
 //! a text keeps that and the places where tokens end.
 
-ghost use Rattle.std.specs.Prelude.{◌≡◌, ◌+◌, ◌<◌, ◌≤◌, Some, Contains, IfOk, IfErr, OnOk, IsSomeAnd, length, take, slice_get, slice_range, string_bytes};
+ghost use Rattle.std.specs.Prelude.{◌≡◌, ◌+◌, ◌<◌, ◌≤◌, Some, IfOk, IfErr, OnOk, IsSomeAnd, length, take, slice_get, slice_range, string_bytes};
 ghost use Rattle.ux_tokens.specs.Tokens.{AreTokens, joined};
 ghost use Rattle.ux_tokens.specs.Numbers.{StandOnce, different_texts};
-ghost use Rattle.ux_tokens.specs.Reading.{HasTooManyTokens, Refuses, OPENING_BRACE};
+ghost use Rattle.ux_tokens.specs.Reading.{HasOpenBrace, HasTooManyTokens, Refuses};
 
 use crate::cutting::{Cut, MAX_TOKENS, cut_text};
 use crate::kind::Kind;
+use crate::marks::marked_text;
 use crate::pieces::{Pieces, part};
-use crate::spaces::single_spaced;
 use crate::text_error::TextError;
 use std::alloc::Global;
 use std::marker::Model;
@@ -44,14 +44,11 @@ impl Text {
     pub fn read(alloc: Global, text: String, alphabet: &Alphabet) -> Result<Text, TextError>
         ensures tokens { IfOk result (λ tokens. AreTokens alphabet.now (string_bytes text) tokens) }
         ensures few { IfOk result (λ tokens. length tokens ≤ MAX_TOKENS) }
-        ensures no_brace { OnOk result (Contains (string_bytes text) OPENING_BRACE → ⊥) }
+        ensures no_open_brace { OnOk result (HasOpenBrace (string_bytes text) → ⊥) }
         ensures not_too_many { OnOk result (HasTooManyTokens alphabet.now (string_bytes text) → ⊥) }
         ensures refused { IfErr result (Refuses alphabet.now (string_bytes text)) }
     {
-        if text.as_bytes().contains(&b'{') {
-            return Err(TextError::NotYet);
-        }
-        let text = single_spaced(alloc, text.as_str())?;
+        let text = marked_text(text)?;
         let Cut { pieces, different } = cut_text(alloc, alphabet, text.as_str())?;
         Ok(Text {
             text,

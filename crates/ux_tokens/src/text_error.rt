@@ -10,7 +10,7 @@ pub enum TextError {
     /// The list of tokens is longer than `MAX_TOKENS`.
     #[error("TooManyTokens")]
     TooManyTokens,
-    /// The text has a `{`.
+    /// The text has a `{` at which no mark begins.
     #[error("NotYet")]
     NotYet,
     /// Memory ran out.

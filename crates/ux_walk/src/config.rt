@@ -1,7 +1,7 @@
 //! Configurations: where a walk goes on, as a few numbers.
 
 /// A state of a graph.
-#[derive(Clone, Copy, Debug, PartialEq, Eq, Hash)]
+#[derive(Clone, Copy, PartialEq, Eq, Hash)]
 pub struct Frame {
     /// The number of the graph, counted from 1.
     pub graph: u32,
@@ -10,7 +10,7 @@ pub struct Frame {
 }
 
 /// Where the walk goes on, and what was before.
-#[derive(Clone, Copy, Debug, PartialEq, Eq, Hash)]
+#[derive(Clone, Copy, PartialEq, Eq, Hash)]
 pub struct Config {
     /// The state in which it goes on.
     pub here: Frame,
@@ -23,7 +23,7 @@ pub struct Config {
 }
 
 /// A derivation that was found.
-#[derive(Clone, Copy, Debug, PartialEq, Eq, Hash)]
+#[derive(Clone, Copy, PartialEq, Eq, Hash)]
 pub struct Found {
     /// The position at which it ends.
     pub end: usize,

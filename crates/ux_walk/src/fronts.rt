@@ -38,7 +38,7 @@ const MOST_COMPARED: usize = 16_777_216;
 const MOST_COMPARED_A_TOKEN: usize = 256;
 
 /// What is known of a front that was read.
-#[derive(Clone, Copy, Debug, PartialEq, Eq)]
+#[derive(Clone, Copy)]
 pub enum Reading {
     /// A walk can't go on from it by its turns.
     Beyond,

@@ -13,7 +13,7 @@ use std::hash::Hash;
 use ux_base::Mem;
 
 /// The head of a list, and the number of its tail.
-#[derive(Clone, Copy, Debug, PartialEq, Eq, Hash)]
+#[derive(Clone, Copy, PartialEq, Eq, Hash)]
 pub struct Link<T> {
     /// The first element.
     pub head: T,

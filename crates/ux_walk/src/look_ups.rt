@@ -17,7 +17,7 @@ use ux_base::{Lst, Mem};
 use ux_net::Edge;
 
 /// A state, and the number of a token that stands before it.
-#[derive(Clone, Copy, Debug, PartialEq, Eq, Hash)]
+#[derive(Clone, Copy, PartialEq, Eq, Hash)]
 pub struct LookUp {
     /// The number of the graph, counted from 1.
     pub graph: u32,

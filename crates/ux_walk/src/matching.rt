@@ -14,7 +14,7 @@ use ux_net::Label;
 use ux_tokens::{Kind, Text};
 
 /// How a label applies at a position.
-#[derive(Clone, Copy, Debug, PartialEq, Eq)]
+#[derive(Clone, Copy)]
 pub enum Passage {
     /// It takes the tokens up to this position.
     Takes(usize),

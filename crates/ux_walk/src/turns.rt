@@ -13,7 +13,7 @@ use std::alloc::Global;
 use ux_base::Mem;
 
 /// A front, and the number of a token that comes next.
-#[derive(Clone, Copy, Debug, PartialEq, Eq, Hash)]
+#[derive(Clone, Copy, PartialEq, Eq, Hash)]
 pub struct Turn {
     /// The number of the list of the front's states.
     pub front: usize,

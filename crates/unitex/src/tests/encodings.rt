@@ -1,6 +1,6 @@
 //! Searches through files of each encoding.
 
-use crate::tests::rows::{LETTERS, SEARCH, compare_given, given, usual_files};
+use crate::tests::rows::{CATS, FOUND, LETTERS, SEARCH, compare_given, given, usual_files};
 use std::alloc::{AllocError, Global};
 use std::process::Abort;
 use std::test::Fail;
@@ -13,10 +13,8 @@ const EXAMPLE: &str =
 const CUT: &str =
     "#Unigraph\r\nSIZE 1188 840\r\n#\r\n4\r\n\"<E>\" 84 248 1 2 \r\n\"\" 454 248 0 \r\n\"the c";
 
-const CATS: &str = "The cat sat. The cats sat.";
-
 /// How a text is written to a file.
-#[derive(Clone, Copy, Debug)]
+#[derive(Clone, Copy)]
 enum Written {
     Utf8,
     MarkedUtf8,
@@ -83,11 +81,11 @@ fn compare_files<R: Abort + AllocGlobal>(rt: &R, rows: &[Row]) -> Result<(), Fai
 fn reads_files_of_each_encoding(rt: HostRuntime) -> Result<(), Fail> {
     use Written::{BigUtf16, LittleUtf16, MarkedUtf8, Utf8};
 
-    const FOUND: (&str, &str, u8) = ("#I\n0 2 The cat\n", "", 0);
+    const HIT: (&str, &str, u8) = (FOUND, "", 0);
     const ROWS: &[Row] = &[
-        ([Utf8, LittleUtf16, Utf8], EXAMPLE, CATS, FOUND),
-        ([MarkedUtf8, BigUtf16, LittleUtf16], EXAMPLE, CATS, FOUND),
-        ([LittleUtf16, MarkedUtf8, BigUtf16], EXAMPLE, CATS, FOUND),
+        ([Utf8, LittleUtf16, Utf8], EXAMPLE, CATS, HIT),
+        ([MarkedUtf8, BigUtf16, LittleUtf16], EXAMPLE, CATS, HIT),
+        ([LittleUtf16, MarkedUtf8, BigUtf16], EXAMPLE, CATS, HIT),
         (
             [LittleUtf16, LittleUtf16, LittleUtf16],
             EXAMPLE,

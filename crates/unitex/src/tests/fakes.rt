@@ -3,27 +3,23 @@
 ghost use Rattle.std.specs.Prelude.{None};
 
 use crate::tests::rows::{
-    LETTERS, Outcome, SEARCH, compare_given, files_of, given_by, sink, usual_files,
+    CATS, FOUND, GRAPH, LETTERS, Outcome, SEARCH, TOKEN_FILE, TOKENS, compare_given, files_of,
+    given_by, sink, usual, usual_files,
 };
 use std::alloc::Global;
 use std::test::Fail;
 use ux_base::{Folder, FolderError, Mem, MemFolder, MemSink};
 
-const GRAPH: &str = "#Unigraph\n#\n3\n\"<E>\" 0 0 1 2 \n\"\" 0 0 0 \n\"the cat\" 0 0 1 1 \n";
-
-/// The files of a search that finds one hit.
-fn files(alloc: Global) -> Mem<Vec<(String, Vec<u8>)>> {
-    usual_files(
-        alloc,
-        LETTERS.as_bytes(),
-        GRAPH.as_bytes(),
-        b"The cat sat. The cats sat.",
-    )
+/// A folder in memory with the usual files, in which these reads fail.
+fn folder(alloc: Global, failing: Vec<u64>) -> Mem<MemFolder> {
+    let files = usual_files(alloc, LETTERS.as_bytes(), GRAPH.as_bytes(), CATS.as_bytes())?;
+    Ok(MemFolder::new(files, failing))
 }
 
-/// A folder all of whose files are too long.
-#[derive(Debug, Drop)]
+/// A folder of the usual files, of which one is too long.
+#[derive(Drop)]
 struct LongFolder {
+    long: &'static str,
     overlong: u64,
 }
 
@@ -36,51 +32,83 @@ impl Folder for LongFolder {
 
     ghost overlong = { λ f. f.overlong };
 
-    fn read(&mut self, _alloc: Global, _name: &str) -> Result<Vec<u8>, FolderError> {
-        self.overlong = self.overlong.saturating_add(1);
-        Err(FolderError::TooLong)
+    fn read(&mut self, alloc: Global, name: &str) -> Result<Vec<u8>, FolderError> {
+        if name == self.long {
+            self.overlong = self.overlong.saturating_add(1);
+            return Err(FolderError::TooLong);
+        }
+        let bytes = usual(name).as_bytes();
+        match Vec::from_slice(alloc, &bytes[..bytes.len().min(4096)]) {
+            Ok(bytes) => Ok(bytes),
+            Err(_) => Err(FolderError::NoMemory),
+        }
     }
 }
 
-/// Searches where the read of this number fails.
-fn given_without(alloc: Global, number: u64) -> Mem<Outcome> {
+/// Gives the words where the read of this number fails.
+fn given_without(alloc: Global, words: &[&str], number: u64) -> Mem<Outcome> {
     let mut failing = Vec::new(alloc);
     failing.push(number)?;
-    let mut folder = MemFolder::new(files(alloc)?, failing);
     let sinks = (sink(alloc, 64)?, sink(alloc, 64)?);
-    given_by(alloc, SEARCH, &mut folder, sinks)
+    given_by(alloc, words, &mut folder(alloc, failing)?, sinks)
 }
 
 #[test]
-fn answers_read_faults(rt: HostRuntime) -> Result<(), Fail> {
-    const ROWS: &[(u64, &str)] = &[
-        (0, "read fault: a.txt\n"),
-        (1, "read fault: g.grf\n"),
-        (2, "read fault: t.txt\n"),
+fn names_the_file_whose_read_fails(rt: HostRuntime) -> Result<(), Fail> {
+    const ROWS: &[(&[&str], u64, &str)] = &[
+        (SEARCH, 0, "read fault: a.txt\n"),
+        (SEARCH, 1, "read fault: g.grf\n"),
+        (SEARCH, 2, "read fault: t.txt\n"),
+        (TOKENS, 0, "read fault: a.txt\n"),
+        (TOKENS, 1, "read fault: t.txt\n"),
     ];
     for row in ROWS {
-        let got = given_without(rt.alloc(), row.0)?;
-        compare_given(&rt, row.1, &got, ("", row.1, 4));
+        let got = given_without(rt.alloc(), row.0, row.1)?;
+        compare_given(&rt, row.2, &got, ("", row.2, 4));
     }
     Ok(())
 }
 
-/// Searches where the first write takes so many bytes, and fails.
-fn given_cut(alloc: Global, taken: usize) -> Mem<Outcome> {
+#[test]
+fn names_the_file_that_is_too_long(rt: HostRuntime) -> Result<(), Fail> {
+    const ROWS: &[(&[&str], &'static str, &str)] = &[
+        (SEARCH, "a.txt", "too large: a.txt\n"),
+        (SEARCH, "g.grf", "too large: g.grf\n"),
+        (SEARCH, "t.txt", "too large: t.txt\n"),
+        (TOKENS, "a.txt", "too large: a.txt\n"),
+        (TOKENS, "t.txt", "too large: t.txt\n"),
+    ];
+    let alloc = rt.alloc();
+    for row in ROWS {
+        let mut folder = LongFolder {
+            long: row.1,
+            overlong: 0,
+        };
+        let sinks = (sink(alloc, 64)?, sink(alloc, 64)?);
+        let got = given_by(alloc, row.0, &mut folder, sinks)?;
+        compare_given(&rt, row.2, &got, ("", row.2, 6));
+    }
+    Ok(())
+}
+
+/// Gives the words where the first write takes so many bytes, and fails.
+fn given_cut(alloc: Global, words: &[&str], taken: usize) -> Mem<Outcome> {
     let mut failing = Vec::new(alloc);
     failing.push((0, taken))?;
-    let mut folder = MemFolder::new(files(alloc)?, Vec::new(alloc));
     let out = MemSink::new(alloc, 64, failing)?;
-    given_by(alloc, SEARCH, &mut folder, (out, sink(alloc, 64)?))
+    let sinks = (out, sink(alloc, 64)?);
+    given_by(alloc, words, &mut folder(alloc, Vec::new(alloc))?, sinks)
 }
 
 #[test]
-fn cuts_the_index_where_a_write_fails(rt: HostRuntime) -> Result<(), Fail> {
-    const INDEX: &str = "#I\n0 2 The cat\n";
-    for taken in 0..=INDEX.len() {
-        let got = given_cut(rt.alloc(), taken)?;
-        let front = INDEX.get(..taken).unwrap_or("");
-        compare_given(&rt, front, &got, (front, "write fault\n", 5));
+fn cuts_the_result_where_a_write_fails(rt: HostRuntime) -> Result<(), Fail> {
+    const ROWS: &[(&[&str], &str)] = &[(SEARCH, FOUND), (TOKENS, TOKEN_FILE)];
+    for row in ROWS {
+        for taken in 0..=row.1.len() {
+            let got = given_cut(rt.alloc(), row.0, taken)?;
+            let front = row.1.get(..taken).unwrap_or("");
+            compare_given(&rt, front, &got, (front, "write fault\n", 5));
+        }
     }
     Ok(())
 }
@@ -104,15 +132,5 @@ fn cuts_the_line_where_a_write_fails(rt: HostRuntime) -> Result<(), Fail> {
         let front = LINE.get(..room).unwrap_or("");
         compare_given(&rt, front, &got, ("", front, 5));
     }
-    Ok(())
-}
-
-#[test]
-fn answers_too_large(rt: HostRuntime) -> Result<(), Fail> {
-    let alloc = rt.alloc();
-    let mut folder = LongFolder { overlong: 0 };
-    let sinks = (sink(alloc, 64)?, sink(alloc, 64)?);
-    let got = given_by(alloc, SEARCH, &mut folder, sinks)?;
-    compare_given(&rt, "long files", &got, ("", "too large: a.txt\n", 6));
     Ok(())
 }

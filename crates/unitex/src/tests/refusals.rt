@@ -1,43 +1,32 @@
 //! Runs without a result: the status, and the one line that says why.
 
-use crate::tests::rows::{LETTERS, SEARCH, compare_given, file, files_of, given, usual_files};
+use crate::tests::rows::{
+    CATS, GRAPH, LETTERS, SEARCH, compare_given, file, files_of, given, usual, usual_files,
+};
 use std::alloc::Global;
 use std::process::Abort;
 use std::test::Fail;
 use ux_base::Mem;
 
-const CATS: &[u8] = b"The cat sat. The cats sat.";
-
-const GRAPH: &[u8] = b"#Unigraph\n#\n3\n\"<E>\" 0 0 1 2 \n\"\" 0 0 0 \n\"the cat\" 0 0 1 1 \n";
-
 /// A name, what stands in a file, and the line on `err`.
 type Refusal = (&'static str, &'static [u8], &'static str);
-
-/// What stands in the file of a usual name.
-fn usual(name: &str) -> &'static [u8] {
-    match name {
-        "a.txt" => LETTERS.as_bytes(),
-        "g.grf" => GRAPH,
-        _ => CATS,
-    }
-}
 
 /// Files of usual names.
 fn files_named(alloc: Global, names: &[&str]) -> Mem<Vec<(String, Vec<u8>)>> {
     let mut all = Vec::new(alloc);
     for name in names {
-        all.push(file(alloc, name, usual(name))?)?;
+        all.push(file(alloc, name, usual(name).as_bytes())?)?;
     }
     Ok(all)
 }
 
 /// The usual files, of which one has these bytes.
 fn files_with(alloc: Global, name: &str, bytes: &[u8]) -> Mem<Vec<(String, Vec<u8>)>> {
-    let letters = LETTERS.as_bytes();
+    let (letters, graph, cats) = (LETTERS.as_bytes(), GRAPH.as_bytes(), CATS.as_bytes());
     match name {
-        "a.txt" => usual_files(alloc, bytes, GRAPH, CATS),
-        "g.grf" => usual_files(alloc, letters, bytes, CATS),
-        _ => usual_files(alloc, letters, GRAPH, bytes),
+        "a.txt" => usual_files(alloc, bytes, graph, cats),
+        "g.grf" => usual_files(alloc, letters, bytes, cats),
+        _ => usual_files(alloc, letters, graph, bytes),
     }
 }
 
@@ -143,7 +132,7 @@ fn refuses_graphs(rt: HostRuntime) -> Result<(), Fail> {
 #[test]
 fn refuses_texts(rt: HostRuntime) -> Result<(), Fail> {
     const ROWS: &[Refusal] = &[
-        ("a brace", b"a{S}b", "refused: t.txt: NotYet\n"),
+        ("a brace", b"a{S}b{a,.N}", "refused: t.txt: NotYet\n"),
         ("no text", b"The c\xe9", "refused: t.txt: BadUtf8 place=5\n"),
         ("half a unit", b"\xff\xfea", "refused: t.txt: OddLength\n"),
     ];

@@ -1,17 +1,12 @@
 //! Words of the command line: what is answered, and what is no request.
 
-use crate::tests::rows::{LETTERS, compare_given, given, usual_files};
+use crate::tests::rows::{
+    CATS, FOUND, GRAPH, LETTERS, TOKEN_FILE, TOKENS, compare_given, given, usual_files,
+};
 use std::alloc::Global;
 use std::process::Abort;
 use std::test::Fail;
 use ux_words::{HELP, VERSION};
-
-const GRAPH: &str = "#Unigraph\n#\n3\n\"<E>\" 0 0 1 2 \n\"\" 0 0 0 \n\"the cat\" 0 0 1 1 \n";
-
-const CATS: &str = "The cat sat. The cats sat.";
-
-/// The index of the usual search.
-const FOUND: &str = "#I\n0 2 The cat\n";
 
 /// Gives the words with the usual files, and compares what is written to `out`.
 fn compare_words<R: Abort + AllocGlobal>(
@@ -40,10 +35,7 @@ fn answers_requests(rt: HostRuntime) -> Result<(), Fail> {
             &["locate", "--policy", "all", "g.grf", "t.txt", "--", "a.txt"],
             FOUND,
         ),
-        (
-            &["tokenize", "t.txt", "a.txt"],
-            "6\nThe\n \ncat\nsat\n.\ncats\n",
-        ),
+        (TOKENS, TOKEN_FILE),
         (&["--help"], HELP),
         (&["--version"], VERSION),
     ];

@@ -9,11 +9,26 @@ use ux_base::{Folder, Mem, MemFolder, MemSink};
 pub const LETTERS: &str =
     "Aa\nBb\nCc\nDd\nEe\nFf\nGg\nHh\nIi\nJj\nKk\nLl\nMm\nNn\nOo\nPp\nQq\nRr\nSs\nTt\nUu\nVv\nWw\nXx\nYy\nZz\n";
 
+/// A graph of one box, `the cat`.
+pub const GRAPH: &str = "#Unigraph\n#\n3\n\"<E>\" 0 0 1 2 \n\"\" 0 0 0 \n\"the cat\" 0 0 1 1 \n";
+
+/// A text in which the graph has one hit.
+pub const CATS: &str = "The cat sat. The cats sat.";
+
+/// The index of that hit.
+pub const FOUND: &str = "#I\n0 2 The cat\n";
+
+/// The token file of the text.
+pub const TOKEN_FILE: &str = "6\nThe\n \ncat\nsat\n.\ncats\n";
+
+/// The words that list the tokens of the text with the usual name.
+pub const TOKENS: &[&str] = &["tokenize", "t.txt", "a.txt"];
+
 /// The words of a search with the usual names.
 pub const SEARCH: &[&str] = &["locate", "g.grf", "t.txt", "a.txt"];
 
 /// What a run gives: the bytes of both sinks, and the status.
-#[derive(Debug, Drop)]
+#[derive(Drop)]
 pub struct Outcome {
     pub out: MemSink,
     pub err: MemSink,
@@ -83,6 +98,15 @@ pub fn files_of(alloc: Global, files: &[(&str, &[u8])]) -> Mem<Vec<(String, Vec<
         all.push(file(alloc, row.0, row.1)?)?;
     }
     Ok(all)
+}
+
+/// What stands in the file of a usual name.
+pub fn usual(name: &str) -> &'static str {
+    match name {
+        "a.txt" => LETTERS,
+        "g.grf" => GRAPH,
+        _ => CATS,
+    }
 }
 
 /// The files of a search with the usual names.

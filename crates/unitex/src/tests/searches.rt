@@ -33,6 +33,20 @@ fn finds_each_place(rt: HostRuntime) -> Result<(), Fail> {
     const ROWS: &[Search] = &[
         ("an empty text", LETTERS, "", THE, "#I\n"),
         (
+            "a stop between two words",
+            LETTERS,
+            "a{STOP}b a b",
+            "#Unigraph\n#\n3\n\"<E>\" 0 0 1 2 \n\"\" 0 0 0 \n\"a b\" 0 0 1 1 \n",
+            "#I\n4 6 a b\n",
+        ),
+        (
+            "the end of a sentence beside words",
+            LETTERS,
+            "{S}the{S}cat",
+            "#Unigraph\n#\n3\n\"<E>\" 0 0 1 2 \n\"\" 0 0 0 \n\"the+cat+S\" 0 0 1 1 \n",
+            "#I\n1 1 the\n3 3 cat\n",
+        ),
+        (
             "a text of separators alone",
             LETTERS,
             " \t\r\n ",

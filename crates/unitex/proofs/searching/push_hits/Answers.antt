@@ -1,42 +1,8 @@
-use Rattle.std.proofs.Common.{◌≡◌, ◌++◌, ◌∙◌, length, List, [], ℕ, map, subst, sym, ap, arith, get_or}
-use Rattle.std.specs.Prelude.{Contains}
-use Rattle.std.proofs.lemmas.Bool.Decides.{nat_tests}
-use Rattle.std.proofs.lemmas.List.{append-nil, take_all}
-use Rattle.unitex.specs.Searching.{span_to}
-use Rattle.unitex.proofs.Listing.{Contains-at}
+use Rattle.unitex.proofs.OneHit.{adds_one}
 use Rattle.unitex.proofs.searching.push_hits.Goals as goal
 
--- where nothing was found, no derivation ends
-pub returns-then-is_empty : goal.returns-then-is_empty
-returns-then-is_empty c =
-    let empty = sym c.is_empty.ensures ∙ c.if-is_empty.true in
-    let no_end : length c.args.found.now ≡ 0 = grind (arith, nat_tests) in
-    let none : List ℕ = [] in (
-      none,
-      sym (append-nil c.args.hits.now.items),
-      λ k lt. omega (arith, lt),
-      λ e. (
-        λ inside. absurd (omega (arith, inside.1)),
-        λ (one, inside, is). absurd (omega (arith, inside.1, no_end)),
-      ),
-    )
-
-pub overflow_sub-end : goal.overflow_sub-end
-overflow_sub-end c =
-    let end = get_or c.deref-end-items.result.now c.loop-end.end-index 0 in
-    let inside = Contains-at c.deref-end-items.result.now c.loop-end.end-index c.loop-end-test.true
-    in
-    let ends = (c.in_ok-ends.ensures.exactly end).0
-    (subst (λ (es : List ℕ). Contains es end) c.deref-end-items.ensures.value inside) in
-    omega (arith, ends.2.1)
-
-pub returns : goal.returns
-returns c =
-    let whole = take_all c.loop-end.end-index c.deref-end-items.result.now c.loop-end-test.false ∙
-    c.deref-end-items.ensures.value in (
-      c.in_ok-ends.ends.items,
-      c.loop-end.invariant ∙ ap (λ (es : List ℕ). c.args.hits.now.items ++ map
-          (span_to c.args.start) es) whole,
-      c.in_ok-ends.ensures.ascending,
-      c.in_ok-ends.ensures.exactly,
-    )
+pub returns-in-len1 : goal.returns-in-len1
+returns-in-len1 c =
+    adds_one c.args.start c.args.found.now c.only-item.result c.args.hits.now.items
+    c.push_hit.new.hits.items c.push_hit.result c.in-len1.len_at_least c.in-len1.len_below
+    c.only-item.is c.push_hit.ensures.some c.push_hit.ensures.none

@@ -38,5 +38,5 @@ loop-rest-preserved c =
       subst (IsCutInto alphabet c.args.comparison text before after) (sym grown)
           (cut_into_more alphabet c.args.comparison text before rest after labels kind len
           c.loop-rest.invariant.0 c.first_token-kind.ensures.cut c.first_token-kind.ensures.is
-          c.range_from-rest.ensures.value c.loop-rest.invariant.1),
+          c.first_token-kind.ensures.plain c.range_from-rest.ensures.value c.loop-rest.invariant.1),
     )

@@ -1,42 +1,40 @@
-use Rattle.std.proofs.Common.{ℕ, ◌+◌, refl, ◌∙◌, ap}
-use Rattle.std.specs.Str.Iter.{char_indices_offset, char_indices_rest}
-use Rattle.std.proofs.lemmas.Str.{length-encode}
-use Rattle.ux_tokens.proofs.FirstLemmas.{run_start, run_more, run_ends, run_is_all, run_ends_all}
+use Rattle.std.proofs.Common.{drop, refl, sym, ◌∙◌, ap, subst}
+use Rattle.std.proofs.lemmas.List.{drop-drop}
+use Rattle.ux_tokens.specs.First.{BeginsWithNoLetter}
+use Rattle.ux_tokens.proofs.FirstLemmas.{run_start}
+use Rattle.ux_tokens.proofs.AsciiLemmas.{no_letter_behind, run_more_ascii, run_ends_ascii, run_joined}
 use Rattle.ux_tokens.proofs.first.word_len.Goals as goal
 
 pub loop-place-init : goal.loop-place-init
-loop-place-init c =
-    let same = c.into_iter-place-iterator.ensures.into_iter_gives in
-    let whole = ap char_indices_rest same ∙ c.char_indices-place-items.ensures.rest in
-    let start = ap char_indices_offset same ∙ c.char_indices-place-items.ensures.offset in
-    rw whole (rw start (run_start c.args.alphabet.now c.args.text.now c.utf8.text))
+loop-place-init c = run_start c.args.alphabet.now c.args.text.now c.utf8.text
 
 pub loop-place-preserved : goal.loop-place-preserved
 loop-place-preserved c =
-    let steps = c.in-Some.ensures.steps in
-    let start = char_indices_offset c.loop-place.place-iterator in
-    let next = steps.2 ∙ ap (λ (n : ℕ). start + n) (length-encode c.in-Some.c) in
-    rw next
-    (run_more c.args.alphabet.now c.args.text.now c.utf8.text start _ _ c.in-Some.c
-    c.loop-place.invariant steps.1 (c.if-not-is_letter.ensures.0 refl))
+    let bytes = c.as_bytes-bytes.ensures.value in
+    run_more_ascii c.args.alphabet.now c.args.text.now c.utf8.text c.loop-place.place
+    c.loop-place.invariant (rw bytes at c.loop-place-test.true) (rw bytes at c.if-byte-ge128.false)
+    (rw bytes at (c.if-not-is_letter.ensures.0 refl))
+
+pub returns-then-byte-ge128-clause-letters : goal.returns-then-byte-ge128-clause-letters
+returns-then-byte-ge128-clause-letters c =
+    run_joined c.args.alphabet.now c.args.text.now c.utf8.text c.loop-place.place
+    c.loop-place.invariant c.decoded_word_len.result
+    (rw c.range_from.ensures.value at c.decoded_word_len.ensures.letters)
+
+pub returns-then-byte-ge128-clause-ends : goal.returns-then-byte-ge128-clause-ends
+returns-then-byte-ge128-clause-ends c =
+    let len = c.decoded_word_len.result in
+    subst (BeginsWithNoLetter c.args.alphabet.now)
+    (ap (drop len) c.range_from.ensures.value
+    ∙ drop-drop len c.loop-place.place c.args.text.now)
+    c.decoded_word_len.ensures.ends
 
 pub returns-then-not-is_letter-clause-ends : goal.returns-then-not-is_letter-clause-ends
 returns-then-not-is_letter-clause-ends c =
-    let steps = c.in-Some.ensures.steps in
-    rw steps.0
-    (run_ends c.args.alphabet.now c.args.text.now c.utf8.text
-    (char_indices_offset c.loop-place.place-iterator) _ _ c.in-Some.c
-    c.loop-place.invariant steps.1
-    (λ letter. let never = c.if-not-is_letter.ensures.1 letter in cc))
-
-pub returns-clause-letters : goal.returns-clause-letters
-returns-clause-letters c =
-    let none = c.in-None.ensures.steps.0 in
-    let all = run_is_all c.args.alphabet.now c.args.text.now _ _ c.loop-place.invariant none in
-    rw all c.loop-place.invariant.letters
+    let bytes = c.as_bytes-bytes.ensures.value in
+    run_ends_ascii c.args.alphabet.now c.args.text.now c.utf8.text c.loop-place.place
+    c.loop-place.invariant (rw bytes at c.loop-place-test.true) (rw bytes at c.if-byte-ge128.false)
+    (λ letter. let never = c.if-not-is_letter.ensures.1 (rw (sym bytes) at letter) in cc)
 
 pub returns-clause-ends : goal.returns-clause-ends
-returns-clause-ends c =
-    let none = c.in-None.ensures.steps.0 in
-    let all = run_is_all c.args.alphabet.now c.args.text.now _ _ c.loop-place.invariant none in
-    rw all (run_ends_all c.args.alphabet.now c.args.text.now _ _ c.loop-place.invariant none)
+returns-clause-ends c = no_letter_behind c.args.alphabet.now c.args.text.now

@@ -1,9 +1,7 @@
-use Rattle.std.specs.Str.Iter.{char_indices_offset, char_indices_rest}
+use Rattle.std.proofs.Common.{drop}
 use Rattle.ux_tokens.proofs.FirstLemmas.{IsRun}
 use Rattle.ux_tokens.proofs.first.word_len.Given as goal
 
--- the characters so far are letters
+-- the bytes so far are letters
 abbrev pub invariant-loop-place : goal.invariant-loop-place
-invariant-loop-place l =
-    IsRun l.alphabet l.text (char_indices_offset l.place-iterator)
-    (char_indices_rest l.place-iterator)
+invariant-loop-place l = IsRun l.alphabet l.text l.place (drop l.place l.text)
