@@ -43,6 +43,23 @@ fn answers_requests(rt: HostRuntime) -> Result<(), Fail> {
 }
 
 #[test]
+fn lists_the_tokens_of_a_text(rt: HostRuntime) -> Result<(), Fail> {
+    const ROWS: &[(&[u8], (&str, &str, u8))] = &[
+        (b"", ("0\n", "", 0)),
+        (b"a  b\ta", ("3\na\n \nb\n", "", 0)),
+        (b"a{S}b{STOP}a{S}", ("4\na\n{S}\nb\n{STOP}\n", "", 0)),
+        (b"a{x}", ("", "refused: t.txt: NotYet\n", 3)),
+        (b"\xff\xfea", ("", "refused: t.txt: OddLength\n", 3)),
+    ];
+    for row in ROWS {
+        let files = usual_files(rt.alloc(), LETTERS.as_bytes(), GRAPH.as_bytes(), row.0)?;
+        let got = given(rt.alloc(), TOKENS, files)?;
+        compare_given(&rt, row.1.0, &got, row.1);
+    }
+    Ok(())
+}
+
+#[test]
 fn answers_usage(rt: HostRuntime) -> Result<(), Fail> {
     const ROWS: &[(&[&str], &str)] = &[
         (&[], ""),
