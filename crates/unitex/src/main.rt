@@ -1,28 +1,18 @@
-//! The program `unitex`: searches a text by a grammar, and writes the index of what is found.
+//! The program `unitex`: the corpus processor's command line.
 //!
-//! `top_call::run` does the work over a folder and two sinks; `main` gives it the real ones. Begin
-//! with `top_call`, then follow the files: `reading`, `graphs`, `searching`, `index`. What the
-//! result has to be stands in `specs/`: `Hits`, `Index`, `Grammars`, `Running`.
+//! `main` gives the words, a folder of real files, and standard output and standard error to
+//! `ux_run::run`, which does the work, and ends with the number of its status. The tests are the
+//! rows of that call over a folder and sinks in memory.
 #![tactic(auto)]
 
-pub mod graphs;
-pub mod index;
-pub mod naming;
-pub mod reading;
-pub mod request;
-pub mod searching;
-pub mod status;
-pub mod telling;
 #[cfg(test)]
 mod tests;
-pub mod top_call;
 
-pub use status::{Reason, Status};
 use std::alloc::Global;
 use std::process::ExitCode;
 use std::{env, io};
-pub use top_call::run;
 use ux_base::{RealFolder, StdSink};
+use ux_run::{Status, run};
 
 /// The exit status where the system's words can't be had for another cause than want of memory.
 const NO_WORDS: u8 = 8;

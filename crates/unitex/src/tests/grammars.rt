@@ -82,6 +82,15 @@ fn searches_by_all_items(rt: HostRuntime) -> Result<(), Fail> {
             ("#I\n0 2 The cat\n", "", 0),
         ),
         (
+            "a quoted mark is three characters, which no token is",
+            &[(
+                "g.grf",
+                "#Unigraph\n#\n3\n\"<E>\" 0 0 1 2 \n\"\" 0 0 0 \n\"\\\"{S}\\\"\" 0 0 1 1 \n",
+            )],
+            "a{S}b S } c",
+            ("#I\n", "", 0),
+        ),
+        (
             "a call of itself behind a word",
             &[(
                 "g.grf",

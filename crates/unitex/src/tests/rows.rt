@@ -1,6 +1,6 @@
 //! How the rows of the top call are run and compared.
 
-use crate::run;
+use ux_run::run;
 use std::alloc::Global;
 use std::process::Abort;
 use ux_base::{Folder, Mem, MemFolder, MemSink};

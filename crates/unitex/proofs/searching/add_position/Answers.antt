@@ -1,5 +1,0 @@
-use Rattle.unitex.proofs.Sets.{includes_one}
-use Rattle.unitex.proofs.searching.add_position.Goals as goal
-
-pub returns : goal.returns
-returns c = includes_one _ _ c.args.position c.in_ok-insert.ensures.updates

@@ -1,0 +1,10 @@
+use Rattle.std.proofs.Common.{take, [], List, ℕ}
+use Rattle.ux_run.specs.Searching.{Includes, IsEndOf}
+use Rattle.ux_run.proofs.Collecting.{Among}
+use Rattle.ux_run.proofs.searching.end_positions.Given as goal
+
+-- the ends of the derivations so far were added
+abbrev pub invariant-loop-derivation : goal.invariant-loop-derivation
+invariant-loop-derivation l =
+    let none : List ℕ = [] in
+    Includes (Among (IsEndOf l.start) (take l.derivation-index l.found)) none l.positions.keys

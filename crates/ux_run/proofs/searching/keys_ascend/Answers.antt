@@ -1,0 +1,7 @@
+use Rattle.std.proofs.Common.{arith, ◌+◌}
+use Rattle.std.proofs.lemmas.Map.Keys.{below_from_sorted}
+use Rattle.ux_run.proofs.searching.keys_ascend.Goals as goal
+
+pub returns : goal.returns
+returns c = λ k h. below_from_sorted c.args.positions.now.keys k (k + 1) 0
+    c.len-len.ensures.ordered (omega arith) h

@@ -1,0 +1,88 @@
+//! What the words of the command line ask for, where that is built.
+
+ghost use Rattle.std.specs.Prelude.{◌≡◌, ◌⊎◌, Some, None, IfErr, IfOk, map, string_bytes};
+ghost use Rattle.ux_run.specs.Requests.{is_all, is_built, is_built_search, is_drawn, is_ignore, is_nothing, request_of};
+
+use crate::status::Status;
+use std::alloc::Global;
+use ux_base::{Mode, NoVar, Policy};
+use ux_words::{Request, Search, WordsError};
+
+/// The request of the words, if they are one that is built.
+pub fn read_request(alloc: Global, words: &[String]) -> Result<Request, Status>
+    ensures ok { IfOk result (λ request.
+        request_of (map string_bytes words.now) ≡ Some request) }
+    ensures err { IfErr result (λ status. (status ≡ Status.NoMemory)
+        ⊎ ((status ≡ Status.Usage) × (request_of (map string_bytes words.now) ≡ None))) }
+{
+    match Request::of(alloc, words) {
+        Ok(request) => {
+            if is_built(&request) {
+                Ok(request)
+            } else {
+                Err(Status::Usage)
+            }
+        },
+        Err(WordsError::Usage) => Err(Status::Usage),
+        Err(WordsError::NoMemory) => Err(Status::NoMemory),
+    }
+}
+
+/// Whether the request is answered.
+pub fn is_built(request: &Request) -> bool
+    ensures { result ≡ is_built request.now }
+{
+    match request {
+        Request::Locate(search) => is_built_search(search),
+        Request::Tokenize { .. } | Request::Help | Request::Version => true,
+        _ => false,
+    }
+}
+
+/// Whether the search is in the default mode and policy, by a graph that is drawn and no dictionary.
+fn is_built_search(search: &Search) -> bool
+    ensures { result ≡ is_built_search search.now }
+{
+    is_ignore(search.mode)
+        && is_all(search.policy)
+        && is_nothing(search.novar)
+        && search.dics.as_slice().is_empty()
+        && is_drawn(search.graph.as_str())
+}
+
+/// Whether outputs are ignored.
+fn is_ignore(mode: Mode) -> bool
+    ensures { result ≡ is_ignore mode }
+{
+    match mode {
+        Mode::Ignore => true,
+        Mode::Merge | Mode::Replace => false,
+    }
+}
+
+/// Whether every hit is kept.
+fn is_all(policy: Policy) -> bool
+    ensures { result ≡ is_all policy }
+{
+    match policy {
+        Policy::All => true,
+        Policy::Shortest | Policy::Longest => false,
+    }
+}
+
+/// Whether no hit is dropped for a variable without a value.
+fn is_nothing(novar: NoVar) -> bool
+    ensures { result ≡ is_nothing novar }
+{
+    match novar {
+        NoVar::Nothing => true,
+        NoVar::Drop => false,
+    }
+}
+
+/// Whether the graph is drawn, and no compiled one.
+fn is_drawn(graph: &str) -> bool
+    ensures { result ≡ is_drawn graph.now }
+{
+    !graph.as_bytes().ends_with(b".fst2")
+}
