@@ -1,6 +1,7 @@
 -- Columns that grow by one at the end are pieces that grow by one.
-use Rattle.std.proofs.Common.{◌≡◌, ℕ, zero, suc, ◌-◌, ◌<◌, ◌≤◌, List, [], ◌∷◌, ◌++◌, length, Some, refl, ◌∙◌, ap, subst, arith}
+use Rattle.std.proofs.Common.{◌≡◌, ℕ, zero, suc, ◌-◌, ◌<◌, ◌≤◌, List, [], ◌∷◌, ◌++◌, length, Some, refl, sym, ◌∙◌, ap, subst, arith}
 use Rattle.std.specs.List.{slice_get}
+use Rattle.std.proofs.lemmas.List.{append-nil}
 use Rattle.std.proofs.lemmas.Option.{none-some, same_Some}
 use Rattle.ux_tokens.specs.declared.kind.Kind.{Kind}
 use Rattle.ux_tokens.specs.declared.piece.Piece.{Piece}
@@ -23,6 +24,33 @@ pieces_from-push (e ∷ ends) (n ∷ numbers) (k ∷ kinds) end number kind same
     ap (λ (l : List Piece). piece e n k ∷ l)
     (pieces_from-push ends numbers kinds end number kind (omega (arith, same))
     (omega (arith, same_kinds)))
+
+pub pieces_from-append : (ends numbers : List ℕ) (kinds : List Kind) (more_ends more : List ℕ)
+    (more_kinds : List Kind) → length ends ≡ length numbers → length kinds ≡ length numbers →
+    pieces_from (ends ++ more_ends) (numbers ++ more) (kinds ++ more_kinds)
+    ≡ pieces_from ends numbers kinds ++ pieces_from more_ends more more_kinds
+pieces_from-append [] [] [] more_ends more more_kinds same same_kinds = refl
+pieces_from-append [] [] (k ∷ kinds) more_ends more more_kinds same same_kinds =
+    absurd (omega (arith, same_kinds))
+pieces_from-append [] (n ∷ numbers) kinds more_ends more more_kinds same same_kinds =
+    absurd (omega (arith, same))
+pieces_from-append (e ∷ ends) [] kinds more_ends more more_kinds same same_kinds =
+    absurd (omega (arith, same))
+pieces_from-append (e ∷ ends) (n ∷ numbers) [] more_ends more more_kinds same same_kinds =
+    absurd (omega (arith, same_kinds))
+pieces_from-append (e ∷ ends) (n ∷ numbers) (k ∷ kinds) more_ends more more_kinds same same_kinds =
+    ap (λ (l : List Piece). piece e n k ∷ l)
+    (pieces_from-append ends numbers kinds more_ends more more_kinds (omega (arith, same))
+    (omega (arith, same_kinds)))
+
+-- places in four bytes go behind all others where no other has eight
+pub near_more : (near more far : List ℕ) → far ≡ [] →
+    (near ++ more) ++ far ≡ (near ++ far) ++ more
+near_more near more far none =
+    ap (λ (l : List ℕ). (near ++ more) ++ l) none
+    ∙ append-nil (near ++ more)
+    ∙ ap (λ (l : List ℕ). l ++ more) (sym (append-nil near))
+    ∙ ap (λ (l : List ℕ). (near ++ l) ++ more) (sym none)
 
 pub length-pieces_from : (ends numbers : List ℕ) (kinds : List Kind) →
     length ends ≡ length numbers → length kinds ≡ length numbers →

@@ -16,23 +16,14 @@ use Rattle.ux_tokens.specs.First.{BeginsWithNoLetter, IsFront}
 use Rattle.ux_tokens.specs.Numbers.{with_text, each_once}
 use Rattle.ux_tokens.specs.Pieces.{ArePieces, token_of, tokens_from, end_from}
 use Rattle.ux_tokens.specs.Columns.{AreEven, pieces_of}
-use Rattle.ux_tokens.specs.Cutting.{IsCut, IsCutting, HaveNoBrace}
+use Rattle.ux_tokens.specs.Cutting.{IsCut, IsCutting, IsSoFar, HaveNoBrace}
 use Rattle.ux_tokens.proofs.CutLemmas.{cut_start, cut_more}
 use Rattle.ux_tokens.proofs.MarksLemmas.{front_no_brace}
 use Rattle.ux_tokens.proofs.NumbersLemmas.{length-each_once}
 use Rattle.ux_tokens.proofs.PiecesLemmas.{pieces_start, pieces_more, tokens_from-push, end_from-push, length-tokens_from}
 
 module _ (lines : List Line) (text : List ℕ) where
-  -- the pieces are those of the text up to a place between two characters
-  pub record IsSoFar (end : ℕ) (pieces : List Piece) (different : List (List ℕ)) : Type 0 where
-    pub tokens : IsCut lines text (drop end text) (tokens_from text 0 pieces)
-    pub no_brace : HaveNoBrace (tokens_from text 0 pieces)
-    pub pieces_are : ArePieces text pieces different
-    pub ends : end_from 0 pieces ≡ end
-    pub between : IsCharBoundary text end
-    pub few : length pieces ≤ MAX_TOKENS
-
-  pub so_far_start : IsUtf8 text → IsSoFar 0 [] []
+  pub so_far_start : IsUtf8 text → IsSoFar lines text 0 [] []
   so_far_start utf8 = record {
     tokens = cut_start lines text;
     no_brace = All-nil (λ (t : Token). t.text ≢ OPENING_BRACE ∷ []);
@@ -44,7 +35,7 @@ module _ (lines : List Line) (text : List ℕ) where
 
   -- no more different tokens than tokens
   pub few_different : (end : ℕ) (pieces : List Piece) (different : List (List ℕ)) →
-      IsSoFar end pieces different → length different ≤ length pieces
+      IsSoFar lines text end pieces different → length different ≤ length pieces
   few_different end pieces different so_far =
       let texts : List (List ℕ) = map (λ (t : Token). t.text) (tokens_from text 0 pieces) in
       let same : length different ≡ length (each_once texts) = ap length so_far.pieces_are.all in
@@ -57,11 +48,11 @@ module _ (lines : List Line) (text : List ℕ) where
 
   so_far_more : IsUtf8 text → (HasBareBrace text → ⊥) →
       (end : ℕ) (pieces : List Piece) (different : List (List ℕ)) →
-      IsSoFar end pieces different → length pieces < MAX_TOKENS → (kind : Kind) (len number : ℕ) →
+      IsSoFar lines text end pieces different → length pieces < MAX_TOKENS → (kind : Kind) (len number : ℕ) →
       IsFront lines (drop end text) kind len →
       slice_get (with_text different (take len (drop end text))) number
       ≡ Some (take len (drop end text)) →
-      IsSoFar (end + len) (pieces ++ record { end = end + len; number = number; kind = kind } ∷ [])
+      IsSoFar lines text (end + len) (pieces ++ record { end = end + len; number = number; kind = kind } ∷ [])
       (with_text different (take len (drop end text)))
   so_far_more utf8 marked end pieces different so_far room kind len number front place = record {
     tokens = subst (IsCut lines text (drop (end + len) text)) tokens_are
@@ -123,11 +114,11 @@ module _ (lines : List Line) (text : List ℕ) where
   pub so_far_next : IsUtf8 text → (HasBareBrace text → ⊥) →
       (end : ℕ) (pieces : List Piece) (different more : List (List ℕ)) (rest : List ℕ)
       (front : Piece) →
-      IsSoFar end pieces different → length pieces < MAX_TOKENS → rest ≡ drop end text →
+      IsSoFar lines text end pieces different → length pieces < MAX_TOKENS → rest ≡ drop end text →
       IsFront lines rest front.kind front.end →
       more ≡ with_text different (take front.end rest) →
       slice_get more front.number ≡ Some (take front.end rest) →
-      IsSoFar (end + front.end)
+      IsSoFar lines text (end + front.end)
       (pieces ++ record { end = end + front.end; number = front.number; kind = front.kind } ∷ [])
       more
   so_far_next utf8 marked end pieces different more rest front so_far room is at_front texts place =
@@ -141,7 +132,7 @@ module _ (lines : List Line) (text : List ℕ) where
 
   -- behind the last token stands nothing
   pub cut_whole : (end : ℕ) (pieces : Pieces) (different : List (List ℕ)) (count : ℕ) →
-      IsSoFar end (pieces_of pieces) different → AreEven pieces → end ≡ length text →
+      IsSoFar lines text end (pieces_of pieces) different → AreEven pieces → end ≡ length text →
       count ≡ length different →
       IsCutting lines text (record { pieces = pieces; different = count })
   cut_whole end pieces different count so_far even all counted =

@@ -1,5 +1,6 @@
 mod Examples
 pub mod AsciiLemmas
+pub mod BlocksLemmas
 pub mod BytesLemmas
 pub mod ColumnsLemmas
 pub mod CutLemmas
@@ -10,6 +11,7 @@ pub mod KnownLemmas
 pub mod ListingLemmas
 pub mod MarksLemmas
 pub mod MovedLemmas
+pub mod NumberedLemmas
 pub mod NumbersLemmas
 pub mod PiecesLemmas
 pub mod PlacesLemmas

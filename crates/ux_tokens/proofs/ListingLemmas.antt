@@ -11,8 +11,8 @@ use Rattle.ux_tokens.specs.Tokens.{HasBareBrace}
 use Rattle.ux_tokens.specs.First.{IsFront}
 use Rattle.ux_tokens.specs.Numbers.{with_text}
 use Rattle.ux_tokens.specs.Pieces.{tokens_from}
-use Rattle.ux_tokens.specs.Cutting.{IsCut, IsListing, HasTooManyTokens}
-use Rattle.ux_tokens.proofs.CuttingLemmas.{IsSoFar, so_far_start, so_far_next, few_different}
+use Rattle.ux_tokens.specs.Cutting.{IsCut, IsListing, IsSoFar, HasTooManyTokens}
+use Rattle.ux_tokens.proofs.CuttingLemmas.{so_far_start, so_far_next, few_different}
 use Rattle.ux_tokens.proofs.PiecesLemmas.{length-tokens_from}
 use Rattle.ux_tokens.proofs.WholeLemmas.{has_more}
 

@@ -1,7 +1,9 @@
 -- A text that is cut into tokens up to a place.
-use Rattle.std.specs.Prelude.{◌≡◌, ◌≢◌, ℕ, ◌+◌, ◌≤◌, ◌<◌, List, [], ◌∷◌, ◌++◌, All, Some, length, slice_get}
+use Rattle.std.specs.Prelude.{◌≡◌, ◌≢◌, ℕ, ◌+◌, ◌≤◌, ◌<◌, List, [], ◌∷◌, ◌++◌, All, Some, length, drop, slice_get}
+use Rattle.std.specs.Str.{IsCharBoundary}
 use Rattle.ux_alphabet.specs.declared.line.Line.{Line}
 use Rattle.ux_tokens.specs.declared.kind.Kind.TheVariants.{Word}
+use Rattle.ux_tokens.specs.declared.piece.Piece.{Piece}
 use Rattle.ux_tokens.specs.declared.cutting.Cut.{Cut}
 use Rattle.ux_tokens.specs.declared.text_error.TextError.{TextError}
 use Rattle.ux_tokens.specs.declared.text_error.TextError.TheVariants.{TooManyTokens, NotYet, NoMemory}
@@ -9,7 +11,7 @@ use Rattle.ux_tokens.specs.declared.cutting.TheConstants.{MAX_TOKENS}
 use Rattle.ux_tokens.specs.Tokens.{Token, IsTokenText, joined, OPENING_BRACE}
 use Rattle.ux_tokens.specs.First.{BeginsWithNoLetter}
 use Rattle.ux_tokens.specs.Numbers.{different_texts}
-use Rattle.ux_tokens.specs.Pieces.{ArePieces, tokens_from}
+use Rattle.ux_tokens.specs.Pieces.{ArePieces, tokens_from, end_from}
 use Rattle.ux_tokens.specs.Columns.{AreEven, pieces_of}
 
 -- the tokens are those of the text up to its rest, and the last of them is whole
@@ -24,6 +26,16 @@ pub record IsCut (lines : List Line) (text rest : List ℕ) (tokens : List Token
 -- no token is a brace alone: where each brace begins a mark, the marks are tokens
 abbrev pub HaveNoBrace : List Token → Type 0
 HaveNoBrace tokens = All (λ token. token.text ≢ OPENING_BRACE ∷ []) tokens
+
+-- the pieces are those of the text up to a place between two characters
+pub record IsSoFar (lines : List Line) (text : List ℕ) (end : ℕ) (pieces : List Piece)
+    (different : List (List ℕ)) : Type 0 where
+  pub tokens : IsCut lines text (drop end text) (tokens_from text 0 pieces)
+  pub no_brace : HaveNoBrace (tokens_from text 0 pieces)
+  pub pieces_are : ArePieces text pieces different
+  pub ends : end_from 0 pieces ≡ end
+  pub between : IsCharBoundary text end
+  pub few : length pieces ≤ MAX_TOKENS
 
 -- the pieces are those of the whole text
 pub record IsCutting (lines : List Line) (text : List ℕ) (cut : Cut) : Type 0 where

@@ -5,6 +5,7 @@ pub mod Known
 pub mod Pieces
 pub mod Columns
 pub mod Kept
+pub mod Blocks
 pub mod Cutting
 pub mod Reading
 pub mod Spaces

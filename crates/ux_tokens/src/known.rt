@@ -12,11 +12,12 @@ ghost use Rattle.ux_tokens.specs.Known.{AreKnown, HasNumber};
 
 use std::alloc::{AllocError, Global};
 
-/// How many slots there are: a megabyte, which the nearer memory of a processor holds.
-const SLOTS: usize = 32_768;
+/// How many slots there are: two megabytes. Of half as many the nearer memory of a processor would
+/// hold more, but half as many tokens again would be looked up in the table.
+const SLOTS: usize = 65_536;
 
 /// The bits of a hash that aren't the number of a slot.
-const UNUSED_BITS: u32 = 49;
+const UNUSED_BITS: u32 = 48;
 
 /// An odd number whose bits are as if by chance, the golden ratio's.
 const MULTIPLIER: u64 = 0x9e37_79b9_7f4a_7c15;
@@ -60,6 +61,7 @@ impl Known {
     }
 
     /// The number of a short text, if its slot has it.
+    #[inline(always)]
     pub(crate) fn find(&self, short: Short) -> Option<u32>
         requires { 0 < short.len }
         ensures { IfSome result (λ number. (texts : List (List ℕ)) → AreKnown texts self.now →
@@ -105,6 +107,7 @@ fn empty_slots(alloc: Global) -> Result<Vec<Slot>, AllocError>
 
 /// The text of this length at the front, if it is short. `None` also where fewer than sixteen
 /// bytes are left, since sixteen are read at once.
+#[inline(always)]
 pub(crate) fn short_front(text: &[u8], len: usize) -> Option<Short>
     requires { 0 < len }
     ensures some { IfSome result (λ short. 0 < short.len) }

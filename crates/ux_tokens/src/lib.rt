@@ -5,6 +5,8 @@
 //! list. `token_file_of` writes the different tokens without keeping that list.
 #![tactic(auto)]
 
+mod block;
+mod classes;
 pub mod cutting;
 pub mod ends;
 pub mod first;

@@ -25,6 +25,7 @@ pub fn number_of<'a>(numbers: &mut IndexSet<&'a str>, token: &'a str) -> Result<
 
 /// The number of a token of this kind, behind which the text goes on. Nearly every second token is a
 /// space, and most others are short: what was given to them is kept, so that few are looked up.
+#[inline(always)]
 pub(crate) fn number_of_kind<'a>(
     numbers: &mut IndexSet<&'a str>,
     known: &mut Known,
@@ -51,6 +52,7 @@ pub(crate) fn number_of_kind<'a>(
 }
 
 /// The number of a space.
+#[inline(always)]
 fn number_of_space<'a>(
     numbers: &mut IndexSet<&'a str>,
     known: &mut Known,
@@ -72,6 +74,7 @@ fn number_of_space<'a>(
 }
 
 /// The number of a short text.
+#[inline(always)]
 fn number_of_short<'a>(
     numbers: &mut IndexSet<&'a str>,
     known: &mut Known,

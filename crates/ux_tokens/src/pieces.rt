@@ -1,7 +1,7 @@
 //! Where the tokens of a text lie.
 
 ghost use Rattle.std.specs.Prelude.{◌≡◌, ◌+◌, ◌<◌, ◌≤◌, ◌++◌, ◌∷◌, [], Some, OnOk, length, take, slice_get, slice_range};
-ghost use Rattle.ux_tokens.specs.Columns.{AreEven, pieces_of};
+ghost use Rattle.ux_tokens.specs.Columns.{AreEven, pieces_from, pieces_of};
 ghost use Rattle.ux_tokens.specs.Pieces.{ArePieces, end_from, tokens_from};
 ghost use Rattle.ux_tokens.specs.Numbers.{different_texts};
 
@@ -43,6 +43,27 @@ impl Pieces {
         self.ends.push(piece.end)?;
         self.numbers.push(piece.number)?;
         self.kinds.push(piece.kind)?;
+        Ok(())
+    }
+
+    /// Puts tokens last, in columns that are as long as each other.
+    pub(crate) fn extend(
+        &mut self,
+        ends: &[u32],
+        numbers: &[u32],
+        kinds: &[Kind],
+    ) -> Result<(), AllocError>
+        requires even { AreEven self.old }
+        requires near { self.old.ends.far.items ≡ [] }
+        requires ends { length ends.now ≡ length numbers.now }
+        requires kinds { length kinds.now ≡ length numbers.now }
+        ensures even { OnOk result (AreEven self.new) }
+        ensures pieces { OnOk result (pieces_of self.new
+            ≡ pieces_of self.old ++ pieces_from ends.now numbers.now kinds.now) }
+    {
+        self.ends.near.extend_from_slice(ends)?;
+        self.numbers.extend_from_slice(numbers)?;
+        self.kinds.extend_from_slice(kinds)?;
         Ok(())
     }
 

@@ -1,14 +1,10 @@
-use Rattle.std.proofs.Common.{◌≡◌, ℕ, ◌-◌, ◌≤◌, List, [], length, drop, sym, ◌∙◌, subst, arith}
-use Rattle.std.proofs.lemmas.List.{length-drop}
-use Rattle.ux_tokens.specs.declared.cutting.TheConstants.{MAX_TOKENS}
+use Rattle.std.proofs.Common.{◌≡◌, ℕ, List, [], length, sym, ◌∙◌, subst, arith}
+use Rattle.ux_tokens.specs.Blocks.{AreClasses}
+use Rattle.ux_tokens.specs.Columns.{pieces_of}
+use Rattle.ux_tokens.specs.Cutting.{IsSoFar}
 use Rattle.ux_tokens.specs.Known.{AreKnown}
 use Rattle.ux_tokens.specs.Numbers.{texts_in}
-use Rattle.ux_tokens.specs.Columns.{pieces_of}
-use Rattle.ux_tokens.specs.Pieces.{tokens_from}
-use Rattle.ux_tokens.proofs.PiecesLemmas.{length-tokens_from}
-use Rattle.std.proofs.lemmas.Str.{IsUtf8-drop}
-use Rattle.ux_tokens.proofs.WholeLemmas.{has_more}
-use Rattle.ux_tokens.proofs.CuttingLemmas.{so_far_start, so_far_next, few_different, cut_whole}
+use Rattle.ux_tokens.proofs.CuttingLemmas.{so_far_start, cut_whole}
 use Rattle.ux_tokens.proofs.NumbersLemmas.{no_texts, length-texts_in}
 use Rattle.ux_tokens.proofs.cutting.cut_text.Goals as goal
 
@@ -18,6 +14,7 @@ loop-end-init c =
     no_texts c.new-numbers.result c.new-numbers.ensures.len in
     let so_far = so_far_start c.args.alphabet.now c.args.text.now c.utf8.text in
     record {
+      classes = c.in_ok-classes.ensures;
       so_far = rw c.new-pieces.ensures.none (rw texts so_far);
       even = c.new-pieces.ensures.even;
       known =
@@ -25,43 +22,30 @@ loop-end-init c =
           c.in_ok-known.ensures;
     }
 
-pub returns-then-len-eq-MAX_TOKENS-clause-err : goal.returns-then-len-eq-MAX_TOKENS-clause-err
-returns-then-len-eq-MAX_TOKENS-clause-err c =
-    let same : length (tokens_from c.args.text.now 0 (pieces_of c.loop-end.pieces)) ≡ length
-    (pieces_of c.loop-end.pieces) =
-    length-tokens_from c.args.text.now 0 (pieces_of c.loop-end.pieces) in
-    let left : length (drop c.loop-end.end c.args.text.now) ≡ length c.args.text.now -
-    c.loop-end.end =
-    length-drop c.loop-end.end c.args.text.now in
-    let more = has_more c.args.alphabet.now c.args.text.now c.requires.marked
-    (drop c.loop-end.end c.args.text.now)
-    (tokens_from c.args.text.now 0 (pieces_of c.loop-end.pieces))
-    (IsUtf8-drop c.args.text.now c.loop-end.end c.utf8.text c.loop-end.invariant.so_far.between)
-    (omega arith) c.loop-end.invariant.so_far.tokens c.loop-end.invariant.so_far.no_brace in
-    (more.0, more.1, more.2, omega (arith, more.3))
+pub push_front-requires-clause-so_far : goal.push_front-requires-clause-so_far
+push_front-requires-clause-so_far c =
+    let lines = c.args.alphabet.now in
+    let before = c.loop-end.invariant in
+    let block = c.in_ok-behind.ensures in
+    let not_later = c.if-behind-end.false in
+    let in_order = block.in_order in
+    let same : c.in_ok-behind.behind ≡ c.loop-end.end = omega (arith, not_later, in_order) in
+    subst (λ (n : ℕ). IsSoFar lines c.args.text.now n (pieces_of c.push_block.new.pieces)
+    (texts_in c.push_block.new.numbers)) same (block.so_far lines
+    (subst (AreClasses lines) (sym c.deref.ensures.value) before.classes) before.so_far)
 
-pub number_front-requires-clause-room : goal.number_front-requires-clause-room
-number_front-requires-clause-room c =
-    let keys = length-texts_in c.loop-end.numbers in
-    let fewer : length (texts_in c.loop-end.numbers) ≤ length (pieces_of c.loop-end.pieces) =
-    few_different c.args.alphabet.now c.args.text.now c.loop-end.end (pieces_of c.loop-end.pieces)
-    (texts_in c.loop-end.numbers) c.loop-end.invariant.so_far in
-    let few : length (pieces_of c.loop-end.pieces) ≤ MAX_TOKENS = c.loop-end.invariant.so_far.few in
-    omega (arith, keys, fewer, few)
-
-pub loop-end-preserved : goal.loop-end-preserved
-loop-end-preserved c =
-    let so_far = c.loop-end.invariant.so_far in
-    let few = so_far.few in
-    let front = c.in_ok-front.ensures in
+pub loop-end-preserved-then-behind-end : goal.loop-end-preserved-then-behind-end
+loop-end-preserved-then-behind-end c =
+    let lines = c.args.alphabet.now in
+    let before = c.loop-end.invariant in
+    let block = c.in_ok-behind.ensures in
     record {
-      so_far = rw c.in_ok-push.ensures.pieces
-          (so_far_next c.args.alphabet.now c.args.text.now c.utf8.text c.requires.marked
-          c.loop-end.end (pieces_of c.loop-end.pieces) (texts_in c.loop-end.numbers)
-          (texts_in c.number_front.new.numbers) c.range_from.result.now c.in_ok-front.front so_far
-          (omega (arith, few)) c.range_from.ensures.value front.front front.texts front.place);
-      even = c.in_ok-push.ensures.even;
-      known = front.known;
+      classes = before.classes;
+      so_far =
+          block.so_far lines
+          (subst (AreClasses lines) (sym c.deref.ensures.value) before.classes) before.so_far;
+      even = block.even;
+      known = block.known;
     }
 
 pub returns-clause-ok : goal.returns-clause-ok
@@ -71,5 +55,5 @@ returns-clause-ok c =
     let keys = length-texts_in c.loop-end.numbers in
     cut_whole c.args.alphabet.now c.args.text.now c.loop-end.end c.loop-end.pieces
     (texts_in c.loop-end.numbers)
-    c.len-2.result c.loop-end.invariant.so_far c.loop-end.invariant.even all
-    (c.len-2.ensures.len ∙ sym keys)
+    c.len.result c.loop-end.invariant.so_far c.loop-end.invariant.even all
+    (c.len.ensures.len ∙ sym keys)
