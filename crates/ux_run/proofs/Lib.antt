@@ -1,5 +1,4 @@
 pub mod Answering
-pub mod Collecting
 pub mod Complete
 pub mod Explaining
 pub mod FileRefusals
@@ -9,9 +8,7 @@ pub mod IndexLemmas
 pub mod Indexing
 pub mod Listing
 pub mod NamingLemmas
-pub mod OneHit
 pub mod Rendering
 pub mod RunningExamples
-pub mod Sets
 pub mod TableLemmas
 pub mod TextLemmas

@@ -1,5 +1,5 @@
 -- How the spans of a text are listed, start by start.
-use Rattle.std.proofs.Common.{arith, ◌≡◌, ℕ, zero, suc, ◌+◌, ◌-◌, ◌<◌, List, [], ◌∷◌, ◌++◌, refl, sym, ◌∙◌, ap, subst, ◌⊎◌, inl, inr, ◌↔◌, map, length, get_or}
+use Rattle.std.proofs.Common.{arith, ◌≡◌, ℕ, zero, suc, ◌+◌, ◌-◌, ◌<◌, List, [], ◌∷◌, ◌++◌, refl, sym, ◌∙◌, ap, subst, ◌⊎◌, inl, inr, map, length, get_or}
 use Rattle.std.specs.Prelude.{Contains, Some, slice_get}
 use Rattle.std.specs.List.Sorted.{IsStrictlyIncreasing}
 use Rattle.std.proofs.lemmas.Bool.Decides.{leb_tells}
@@ -7,13 +7,17 @@ use Rattle.std.proofs.lemmas.Option.{same_Some, none-some, slice_get_within}
 use Rattle.std.proofs.lemmas.List.Elements.{Contains-append_left, Contains-append_right, Contains-append_cases}
 use Rattle.ux_alphabet.specs.declared.line.Line.{Line}
 use Rattle.ux_tokens.specs.Tokens.{Token}
-use Rattle.ux_net.specs.Words.{Grammar}
+use Rattle.ux_tokens.specs.declared.kind.Kind.TheVariants as kind
+use Rattle.ux_net.specs.declared.net_graph.NetGraph.{NetGraph}
+use Rattle.ux_net.specs.Nets.{net_grammar}
 use Rattle.ux_outputs.specs.declared.event.Event.{Event}
-use Rattle.ux_walk.specs.Derivations.{Der}
+use Rattle.ux_outputs.specs.Rendering.{kind_of}
+use Rattle.ux_walk.specs.Derivations.{Der, IsSpaceAt}
+use Rattle.ux_walk.specs.Ends.{AreEnds}
 use Rattle.ux_run.specs.declared.searching.Span.{Span}
 use Rattle.ux_run.specs.Hits.{IsStart}
 use Rattle.ux_run.specs.Spans.{IsSpan}
-use Rattle.ux_run.specs.Searching.{EndsAt, ListsSpans, ListsUpTo, Precedes, span_to}
+use Rattle.ux_run.specs.Searching.{ListsSpans, ListsUpTo, Precedes, span_to}
 
 first_append : (xs ys : List Span) (k : ℕ) (a : Span) → slice_get (xs ++ ys) k ≡ Some a →
     ((k < length xs) × (slice_get xs k ≡ Some a)) ⊎
@@ -163,45 +167,52 @@ module _ (Is : Span → Type 0) where
     ordered = l.ordered;
   }
 
--- what was found from a start is all that is derived from it
-abbrev pub AreDerived : List Line → List Token → Grammar → ℕ → List (ℕ × List Event) → Type 0
-AreDerived alphabet tokens grammar start found =
-    (end : ℕ) (events : List Event) →
-    Contains found (end, events) ↔ Der alphabet tokens grammar 1 start end events
-
-module _ (alphabet : List Line) (tokens : List Token) (grammar : Grammar) where
-  pub span_within : (span : Span) → IsSpan alphabet tokens grammar span → span.first < length tokens
+module _ (alphabet : List Line) (tokens : List Token) (net : List NetGraph) where
+  pub span_within : (span : Span) → IsSpan alphabet tokens (net_grammar net) span →
+      span.first < length tokens
   span_within span s = slice_get_within tokens span.first s.starts.token s.starts.at_start
 
   -- where no search begins, no span does
   pub none_begins : (start : ℕ) → (IsStart tokens start → ⊥) → (span : Span) →
-      span.first ≡ start → IsSpan alphabet tokens grammar span → ⊥
+      span.first ≡ start → IsSpan alphabet tokens (net_grammar net) span → ⊥
   none_begins start none span here s = none (subst (IsStart tokens) here s.starts)
 
+  -- nor where nothing is derived
+  pub none_derived : (start : ℕ) → ((end : ℕ) (events : List Event) →
+      Der alphabet tokens (net_grammar net) 1 start end events → ⊥) → (span : Span) →
+      span.first ≡ start → IsSpan alphabet tokens (net_grammar net) span → ⊥
+  none_derived start none span here s = none (span.last + 1) s.events (subst (λ (n : ℕ).
+      Der alphabet tokens (net_grammar net) 1 n (span.last + 1) s.events) here s.derived)
+
+  -- a search begins at no space
+  pub no_space_at : (start : ℕ) → IsStart tokens start → IsSpaceAt tokens start → ⊥
+  no_space_at start starts space = starts.no_space (same_Some starts.token.kind kind.Space
+      (ap kind_of (sym starts.at_start) ∙ space))
+
   -- where a derivation ends behind a start, a span does
-  pub span_of_end : (start e : ℕ) (found : List (ℕ × List Event)) → IsStart tokens start →
-      AreDerived alphabet tokens grammar start found → EndsAt found start e →
-      (start < e) × IsSpan alphabet tokens grammar (span_to start e)
-  span_of_end start e found starts are (d, inside, ends) =
-      let lt : start < e = ends.0 in
-      let back : e ≡ (e - 1) + 1 = omega (arith, lt) in
-      let derived = (are d.0 d.1).0 inside in (
+  pub span_of_end : (start e : ℕ) (ends : List ℕ) → IsStart tokens start →
+      AreEnds alphabet tokens net start ends → Contains ends e →
+      (start < e) × IsSpan alphabet tokens (net_grammar net) (span_to start e)
+  span_of_end start e ends starts are inside =
+      let (lt, events, derived) = (are.exactly e).0 inside in
+      let back : e ≡ (e - 1) + 1 = omega (arith, lt) in (
         lt,
         record {
           starts = starts;
           some = omega (arith, lt);
-          events = d.1;
-          derived = subst (λ n. Der alphabet tokens grammar 1 start n d.1) (ends.1 ∙ back) derived;
+          events = events;
+          derived = subst (λ (n : ℕ). Der alphabet tokens (net_grammar net) 1 start n events) back
+              derived;
         },
       )
 
   -- and the other way round
-  pub end_of_span : (start : ℕ) (found : List (ℕ × List Event)) →
-      AreDerived alphabet tokens grammar start found → (span : Span) → span.first ≡ start →
-      IsSpan alphabet tokens grammar span → EndsAt found start (span.last + 1)
-  end_of_span start found are span here s = (
-    (span.last + 1, s.events),
-    (are (span.last + 1) s.events).1
-        (subst (λ n. Der alphabet tokens grammar 1 n (span.last + 1) s.events) here s.derived),
-    (omega (arith, here, s.some), refl),
+  pub end_of_span : (start : ℕ) (ends : List ℕ) → AreEnds alphabet tokens net start ends →
+      (span : Span) → span.first ≡ start → IsSpan alphabet tokens (net_grammar net) span →
+      Contains ends (span.last + 1)
+  end_of_span start ends are span here s = (are.exactly (span.last + 1)).1 (
+    omega (arith, here, s.some),
+    s.events,
+    subst (λ (n : ℕ). Der alphabet tokens (net_grammar net) 1 n (span.last + 1) s.events) here
+        s.derived,
   )

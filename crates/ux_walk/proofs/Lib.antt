@@ -26,3 +26,7 @@ pub mod RaisedLemmas
 pub mod CountsLemmas
 pub mod SlotsLemmas
 pub mod TurnsLemmas
+pub mod SieveLemmas
+pub mod Collecting
+pub mod PositionSets
+pub mod EndsLemmas

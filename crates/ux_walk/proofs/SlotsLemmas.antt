@@ -1,6 +1,6 @@
 -- What values numbers have as places are added and one is written.
 use Rattle.std.proofs.Common.{arith, ◌≡◌, ◌<◌, ◌↔◌, ℕ, zero, suc, List, [], ◌∷◌, ◌++◌, ◌⊎◌, inl, inr, refl, sym, ap, length, set}
-use Rattle.std.specs.Prelude.{Option, Some, None, slice_get}
+use Rattle.std.specs.Prelude.{Option, Some, None}
 use Rattle.std.proofs.lemmas.Option.{none-some, same_Some}
 use Rattle.ux_walk.specs.Turns.{HasValue}
 

@@ -5,3 +5,6 @@ pub mod Configurations
 pub mod LookUps
 pub mod Turns
 pub mod Fronts
+pub mod Marks
+pub mod Sieves
+pub mod Ends

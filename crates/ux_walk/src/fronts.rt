@@ -14,9 +14,12 @@ ghost use Rattle.ux_net.specs.Nets.{IsNetEnd, states_of};
 ghost use Rattle.ux_tokens.specs.Numbers.{different_texts};
 ghost use Rattle.ux_walk.specs.Fronts.{AreKept, AreNamed, AreReady, Gains, Grows, IsLiteral, IsReadAs, IsTurnOver, Leads, Stands, TurnsTo, links_of};
 ghost use Rattle.ux_walk.specs.Links.{AreBelow, Extends, Names};
+ghost use Rattle.ux_walk.specs.Marks.{AreMarked};
+ghost use Rattle.ux_walk.specs.Turns.{HasValue};
 
 use crate::lists::Lists;
 use crate::literals::{edges_of, has_end, have_literals};
+use crate::marks::Marks;
 use crate::sets::put;
 use crate::slots::{give, value_of};
 use crate::turns::{Turn, Turns};
@@ -99,6 +102,20 @@ impl<'t> Fronts<'t> {
             Some(next) => next,
             None => 0,
         }
+    }
+
+    /// A mark for each turn of another front than that in which walks begin.
+    pub(crate) fn marks(&self, alloc: Global) -> Mem<Marks>
+        ensures { IfOk result (AreMarked self.now.turns.others.entries) }
+    {
+        self.turns.marks(alloc)
+    }
+
+    /// Whether the front was read, and a walk goes on from it by its turns alone.
+    pub(crate) fn is_through(&self, front: usize) -> bool
+        ensures { IsTrue result → HasValue self.now.readings.items front Reading.Through }
+    {
+        matches!(value_of(&self.readings, front), Some(Reading::Through))
     }
 
     /// What is known of a front, which is read if it wasn't.

@@ -12,17 +12,21 @@
 //! `look_ups` lists those that may apply at a token, once, and no others are tried there.
 //!
 //! Nearly every walk over a text is of literals alone, and comes to its end after a token or two.
-//! Such a walk needs no rounds: `straight` takes it through `fronts`, one look-up a token.
+//! Such a walk needs no rounds: `straight` takes it through `fronts`, one look-up a token. Most are
+//! told by their first two tokens, and `sieve` holds these back. `ends` lists no events.
 #![tactic(auto)]
 
 mod config;
+mod ends;
 mod fronts;
 mod lists;
 mod literals;
 mod look_ups;
+mod marks;
 mod matching;
 mod reached;
 mod sets;
+mod sieve;
 mod slots;
 mod straight;
 mod tables;
@@ -30,6 +34,8 @@ mod turns;
 mod walking;
 mod words;
 
+pub use ends::ends_with;
 pub use fronts::Fronts;
 pub use look_ups::LookUps;
+pub use sieve::Sieve;
 pub use walking::{walk, walk_with};

@@ -57,7 +57,7 @@ pub fn straight(
 }
 
 /// Whether a walk can't go on from a front by its turns.
-fn is_beyond(reading: Reading) -> bool
+pub fn is_beyond(reading: Reading) -> bool
     ensures { IsTrue result ↔ (reading ≡ Reading.Beyond) }
 {
     matches!(reading, Reading::Beyond)

@@ -3,9 +3,11 @@
 //! Nearly every look-up is of the front in which walks begin, so its turns stand in a list by the
 //! token's number, and those of all others in a table.
 
-ghost use Rattle.std.specs.Prelude.{◌≡◌, ◌↔◌, ◌⊎◌, ℕ, Some, OnOk, Contains, slice_get};
+ghost use Rattle.std.specs.Prelude.{◌≡◌, ◌↔◌, ◌⊎◌, ℕ, Some, IfOk, OnOk, Contains, slice_get};
+ghost use Rattle.ux_walk.specs.Marks.{AreMarked};
 ghost use Rattle.ux_walk.specs.Turns.{HasTurn};
 
+use crate::marks::Marks;
 use crate::slots::{give, value_of};
 use crate::tables::{set_at, value_at};
 use indexmap::IndexMap;
@@ -55,6 +57,17 @@ impl Turns {
     /// How many turns stand in the table.
     pub fn len(&self) -> usize {
         self.others.len()
+    }
+
+    /// A mark for each turn of the table.
+    pub fn marks(&self, alloc: Global) -> Mem<Marks>
+        ensures { IfOk result (AreMarked self.now.others.entries) }
+    {
+        let mut marks = Marks::new(alloc)?;
+        for turn in self.others.keys() {
+            marks.set(*turn);
+        }
+        Ok(marks)
     }
 
     /// The front to which a turn leads.

@@ -82,7 +82,7 @@ pub fn walk_with(
 }
 
 /// Each end and event list that the main graph derives from `start`, once, by rounds.
-fn walk_through(
+pub fn walk_through(
     alloc: Global,
     net: &Net,
     text: &Text,

@@ -1,9 +1,9 @@
 //! How the rows of the top call are run and compared.
 
-use ux_run::run;
 use std::alloc::Global;
 use std::process::Abort;
 use ux_base::{Folder, Mem, MemFolder, MemSink};
+use ux_run::run;
 
 /// The letters `Aa` to `Zz`.
 pub const LETTERS: &str =

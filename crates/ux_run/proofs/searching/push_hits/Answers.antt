@@ -1,8 +1,15 @@
-use Rattle.ux_run.proofs.OneHit.{adds_one}
+use Rattle.std.proofs.Common.{◌++◌, ◌∙◌, List, ℕ, map, ap, arith, get_or}
+use Rattle.std.proofs.lemmas.List.{take_all}
+use Rattle.ux_run.specs.Searching.{span_to}
+use Rattle.ux_run.proofs.Listing.{Contains-at}
 use Rattle.ux_run.proofs.searching.push_hits.Goals as goal
 
-pub returns-in-len1 : goal.returns-in-len1
-returns-in-len1 c =
-    adds_one c.args.start c.args.found.now c.only-item.result c.args.hits.now.items
-    c.push_hit.new.hits.items c.push_hit.result c.in-len1.len_at_least c.in-len1.len_below
-    c.only-item.is c.push_hit.ensures.some c.push_hit.ensures.none
+pub overflow_sub-end : goal.overflow_sub-end
+overflow_sub-end c =
+    let behind = c.requires (get_or c.args.ends.now c.loop-end.end-index 0)
+    (Contains-at c.args.ends.now c.loop-end.end-index c.loop-end-test.true) in
+    omega (arith, behind)
+
+pub returns : goal.returns
+returns c = c.loop-end.invariant ∙ ap (λ (es : List ℕ). c.args.hits.now.items ++ map
+    (span_to c.args.start) es) (take_all c.loop-end.end-index c.args.ends.now c.loop-end-test.false)

@@ -1,4 +1,4 @@
-use Rattle.std.proofs.Common.{◌∙◌, inl, inr, sym, ap, subst, List, Option, ℕ}
+use Rattle.std.proofs.Common.{◌∙◌, inl, inr, sym, subst, List, Option, ℕ}
 use Rattle.ux_walk.specs.Turns.{HasValue}
 use Rattle.ux_walk.proofs.turns.Turns.next.Goals as goal
 

@@ -1,9 +1,9 @@
 use Rattle.std.proofs.Common.{◌≡◌, sym, subst, ◌<◌}
 use Rattle.std.specs.Prelude.{OnOk, Result, Ok, Err}
 use Rattle.std.specs.declared.alloc.AllocError.{AllocError}
-use Rattle.ux_run.specs.Searching.{Includes, IsEndOf}
-use Rattle.ux_run.proofs.Collecting.{includes_alike}
-use Rattle.ux_run.proofs.searching.add_end.Goals as goal
+use Rattle.ux_walk.specs.Ends.{Includes, IsEndOf}
+use Rattle.ux_walk.proofs.Collecting.{includes_alike}
+use Rattle.ux_walk.proofs.ends.add_end.Goals as goal
 
 -- what holds on success, in other words
 on_ok : (r : Result (Unit {0}) AllocError) (P Q : Type 0) → (P → Q) → OnOk r P → OnOk r Q

@@ -1,6 +1,6 @@
 use Rattle.std.proofs.Common.{arith, ◌+◌}
 use Rattle.std.proofs.lemmas.Map.Keys.{below_from_sorted}
-use Rattle.ux_run.proofs.searching.keys_ascend.Goals as goal
+use Rattle.ux_walk.proofs.ends.keys_ascend.Goals as goal
 
 pub returns : goal.returns
 returns c = λ k h. below_from_sorted c.args.positions.now.keys k (k + 1) 0

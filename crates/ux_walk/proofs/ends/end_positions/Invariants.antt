@@ -1,7 +1,7 @@
 use Rattle.std.proofs.Common.{take, [], List, ℕ}
-use Rattle.ux_run.specs.Searching.{Includes, IsEndOf}
-use Rattle.ux_run.proofs.Collecting.{Among}
-use Rattle.ux_run.proofs.searching.end_positions.Given as goal
+use Rattle.ux_walk.specs.Ends.{Includes, IsEndOf}
+use Rattle.ux_walk.proofs.Collecting.{Among}
+use Rattle.ux_walk.proofs.ends.end_positions.Given as goal
 
 -- the ends of the derivations so far were added
 abbrev pub invariant-loop-derivation : goal.invariant-loop-derivation

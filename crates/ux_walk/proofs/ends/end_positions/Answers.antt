@@ -1,8 +1,8 @@
 use Rattle.std.proofs.Common.{List, [], ℕ, subst, sym, inl, inr}
 use Rattle.std.specs.Prelude.{Contains}
-use Rattle.ux_run.specs.Searching.{IsEndOf}
-use Rattle.ux_run.proofs.Collecting.{includes_more, includes_all, none_in}
-use Rattle.ux_run.proofs.searching.end_positions.Goals as goal
+use Rattle.ux_walk.specs.Ends.{IsEndOf}
+use Rattle.ux_walk.proofs.Collecting.{includes_more, includes_all, none_in}
+use Rattle.ux_walk.proofs.ends.end_positions.Goals as goal
 
 pub loop-derivation-preserved : goal.loop-derivation-preserved
 loop-derivation-preserved c =
