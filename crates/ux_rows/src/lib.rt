@@ -13,6 +13,8 @@ mod base;
 #[cfg(test)]
 mod decode;
 #[cfg(test)]
+mod dela;
+#[cfg(test)]
 mod digraph;
 #[cfg(test)]
 mod graphs;

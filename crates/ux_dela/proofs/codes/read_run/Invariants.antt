@@ -1,0 +1,13 @@
+use Rattle.std.proofs.Common.{length}
+use denote.Text.{Utf8}
+use denote.Shadow.{shadow}
+use Rattle.ux_dela.proofs.RunLemmas.{IsRunTo}
+use Rattle.ux_dela.proofs.codes.read_run.Given as goal
+
+-- the codes so far
+abbrev pub invariant-loop-behind : goal.invariant-loop-behind
+invariant-loop-behind l =
+    shadow (Utf8 l.rest) × IsRunTo l.fn.kind l.text l.codes.items l.rest
+
+abbrev pub decreases-loop-behind : goal.decreases-loop-behind
+decreases-loop-behind l = length l.rest

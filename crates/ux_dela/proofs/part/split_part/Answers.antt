@@ -1,0 +1,8 @@
+use Rattle.ux_dela.proofs.StopLemmas.{part_end_cut}
+use Rattle.ux_dela.proofs.part.split_part.Goals as goal
+
+-- the cut falls before a sign, which is ASCII, or at the text's end
+pub range_from-requires : goal.range_from-requires
+range_from-requires c =
+    λ _. part_end_cut c.args.stop c.as_bytes.result.now c.args.text.now c.part_len-end.result
+    c.as_bytes.ensures.value c.part_len-end.ensures.within c.part_len-end.ensures.split.ends

@@ -1,0 +1,10 @@
+pub mod Codes
+pub mod Delaf
+pub mod Delas
+pub mod Files
+pub mod Printed
+pub mod Reading
+pub mod Signs
+pub mod Sound
+pub mod Tag
+pub mod Written

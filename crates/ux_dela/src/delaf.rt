@@ -1,0 +1,262 @@
+//! Files of inflected forms, in the format DELAF.
+//!
+//! Each line is cut at its comma, its dot and the slash before its comment, and then its codes are
+//! read. Where a backslash ends a line, no other fault is named; `specs/Delaf.antt` has the faults.
+
+ghost use Rattle.std.specs.Prelude.{◌≡◌, ◌≢◌, ◌↔◌, ◌⊎◌, ◌++◌, ◌∷◌, [], All, IsTrue, IfOk, IfErr, OnOk};
+ghost use Rattle.ux_dela.specs.Delaf.{IsSkipped, IsCut, HasFault, RefusesDelaf, lemma_of};
+ghost use Rattle.ux_dela.specs.Files.{AreEntries, Refuses};
+ghost use Rattle.ux_dela.specs.Reading.{characters, mark_sign, IsCutOf, IsListed, has_mark_in, entry_in, entries_in, AddsSaid};
+ghost use Rattle.ux_dela.specs.Signs.{COMMA, DOT, SPACE, HYPHEN, is_comma, is_dot};
+ghost use Rattle.ux_dela.specs.Sound.{IsSound};
+ghost use Rattle.ux_dela.specs.Written.{IsPart, meant_as};
+ghost use Rattle.ux_dela.specs.declared.error.DelaError.{DelaError};
+ghost use Rattle.ux_dela.specs.declared.error.DelaError.TheVariants.{NoMemory};
+
+use crate::codes::{CodeFault, read_list};
+use crate::entry::{Codes, Entry};
+use crate::error::DelaError;
+use crate::part::{Split, Stop, first_part, has_bare_sign, is_backslash, split_part};
+use crate::plain::{Mark, plain};
+use std::alloc::{AllocError, Global};
+use ux_base::{Txt, lines};
+
+/// A line, cut into its parts.
+#[derive(Clone, Copy)]
+pub(crate) struct Cut<'a> {
+    /// The form, as it is written.
+    pub form: &'a str,
+    /// The lemma, as it is written.
+    pub lemma: &'a str,
+    /// The codes, with their signs.
+    pub codes: &'a str,
+    /// The comment, with the slash in front, or nothing.
+    pub comment: &'a str,
+}
+
+/// The entries of a file of forms, or why its first bad line is refused. The time is linear in the
+/// text.
+pub fn read_delaf(alloc: Global, text: &str) -> Result<Vec<Entry>, DelaError>
+    ensures ok { IfOk result (λ entries. AreEntries text.now entries.items) }
+    ensures sound { IfOk result (λ entries. All IsSound entries.items) }
+    ensures refused { IfErr result (λ error. (error ≡ NoMemory) ⊎ Refuses text.now error) }
+    ensures exact { IfOk result (λ _. (error : DelaError) → Refuses text.now error → ⊥) }
+{
+    read_entries(alloc, text)
+}
+
+/// The entries of a file of forms.
+fn read_entries(alloc: Global, text: &str) -> Result<Vec<Entry>, DelaError>
+    ensures ok { IfOk result (λ entries. AreEntries text.now entries.items) }
+    ensures refused { IfErr result (λ error. (error ≡ NoMemory) ⊎ Refuses text.now error) }
+{
+    // A text has at most as many lines as bytes, so that a line's number fits.
+    let _bytes = text.len();
+    let mut entries = Vec::new(alloc);
+    let mut number = 0;
+    for line in lines(text) {
+        number += 1;
+        read_line(alloc, line, number, &mut entries)?;
+    }
+    Ok(entries)
+}
+
+/// Puts the entries of the line behind the others.
+fn read_line(
+    alloc: Global,
+    line: &str,
+    number: usize,
+    entries: &mut Vec<Entry>,
+) -> Result<(), DelaError>
+    ensures ok { OnOk result (AddsSaid line.now entries.old.items entries.new.items) }
+    ensures err { IfErr result (λ error. (error ≡ NoMemory) ⊎ RefusesDelaf line.now number error) }
+{
+    if is_skipped(line) {
+        return Ok(());
+    }
+    let cut = cut_line(line, number)?;
+    let codes = list_of(alloc, line, number, &cut)?;
+    put_entries(alloc, &cut, codes, entries)?;
+    Ok(())
+}
+
+/// Whether the line says nothing.
+pub(crate) fn is_skipped(line: &str) -> bool
+    ensures { IsTrue result ↔ IsSkipped line.now }
+{
+    match line.as_bytes().first() {
+        None | Some(b'/') => true,
+        Some(_) => false,
+    }
+}
+
+/// The parts of the line.
+pub(crate) fn cut_line(line: &str, number: usize) -> Result<Cut<'_>, DelaError>
+    ensures ok { IfOk result (IsCutOf line.now) }
+    ensures err { IfErr result (HasFault line.now number) }
+{
+    match first_part(Stop::Comma, line) {
+        Split::Ended { part, behind } => cut_behind_form(line, number, part, behind),
+        Split::Last { .. } => Err(DelaError::NoComma {
+            line: number,
+            place: line.len(),
+        }),
+        Split::Open => Err(DelaError::BadEscape {
+            line: number,
+            place: line.len() - 1,
+        }),
+    }
+}
+
+/// The parts of a line with this form.
+fn cut_behind_form<'a>(
+    line: &'a str,
+    number: usize,
+    form: &'a str,
+    behind: &'a str,
+) -> Result<Cut<'a>, DelaError>
+    requires whole { line.now ≡ form.now ++ COMMA ∷ behind.now }
+    requires form { IsPart is_comma (characters form.now) }
+    ensures ok { IfOk result (IsCutOf line.now) }
+    ensures err { IfErr result (HasFault line.now number) }
+{
+    match first_part(Stop::Dot, behind) {
+        Split::Ended { part, behind } => cut_behind_lemma(line, number, form, part, behind),
+        Split::Last { .. } if form.is_empty() => Err(DelaError::EmptyForm {
+            line: number,
+            place: 0,
+        }),
+        Split::Last { .. } => Err(DelaError::NoDot {
+            line: number,
+            place: line.len(),
+        }),
+        Split::Open => Err(DelaError::BadEscape {
+            line: number,
+            place: line.len() - 1,
+        }),
+    }
+}
+
+/// The parts of a line with this form and this lemma.
+fn cut_behind_lemma<'a>(
+    line: &'a str,
+    number: usize,
+    form: &'a str,
+    lemma: &'a str,
+    behind: &'a str,
+) -> Result<Cut<'a>, DelaError>
+    requires whole { line.now ≡ form.now ++ COMMA ∷ (lemma.now ++ DOT ∷ behind.now) }
+    requires form { IsPart is_comma (characters form.now) }
+    requires lemma { IsPart is_dot (characters lemma.now) }
+    ensures ok { IfOk result (IsCutOf line.now) }
+    ensures err { IfErr result (HasFault line.now number) }
+{
+    let (codes, comment) = split_part(Stop::Slash, behind);
+    if is_backslash(comment) {
+        return Err(DelaError::BadEscape {
+            line: number,
+            place: line.len() - 1,
+        });
+    }
+    if form.is_empty() {
+        return Err(DelaError::EmptyForm {
+            line: number,
+            place: 0,
+        });
+    }
+    Ok(Cut {
+        form,
+        lemma,
+        codes,
+        comment,
+    })
+}
+
+/// The codes of a line that is cut so.
+fn list_of(alloc: Global, line: &str, number: usize, cut: &Cut<'_>) -> Result<Codes, DelaError>
+    requires { IsCutOf line.now cut.now }
+    ensures ok { IfOk result (IsListed cut.now.codes.now) }
+    ensures err { IfErr result (λ error. (error ≡ NoMemory) ⊎ HasFault line.now number error) }
+{
+    match read_list(alloc, cut.codes) {
+        Ok(codes) => Ok(codes),
+        Err(CodeFault::Empty(rest)) => Err(DelaError::EmptyCode {
+            line: number,
+            place: line.len() - cut.comment.len() - rest.len(),
+        }),
+        Err(CodeFault::NoRoom) => Err(DelaError::NoMemory),
+    }
+}
+
+/// Puts the entries of these parts behind the others: two where a mark stands in form or lemma.
+fn put_entries(
+    alloc: Global,
+    cut: &Cut<'_>,
+    codes: Codes,
+    entries: &mut Vec<Entry>,
+) -> Result<(), AllocError>
+    ensures { OnOk result (entries.new.items ≡ entries.old.items ++ entries_in cut.now codes) }
+{
+    if !has_mark(cut) {
+        entries.push(entry_of(alloc, cut, codes, Mark::AsItself)?)?;
+        return Ok(());
+    }
+    put_both(alloc, cut, codes, entries)
+}
+
+/// Puts the entry with spaces for marks behind the others, and then the one with hyphens.
+fn put_both(
+    alloc: Global,
+    cut: &Cut<'_>,
+    codes: Codes,
+    entries: &mut Vec<Entry>,
+) -> Result<(), AllocError>
+    ensures { OnOk result (entries.new.items ≡ entries.old.items
+        ++ entry_in SPACE cut.now codes ∷ (entry_in HYPHEN cut.now codes ∷ [])) }
+{
+    let spaced = entry_of(alloc, cut, codes.copy()?, Mark::AsSpace)?;
+    let hyphened = entry_of(alloc, cut, codes, Mark::AsHyphen)?;
+    entries.push(spaced)?;
+    entries.push(hyphened)?;
+    Ok(())
+}
+
+/// Whether a mark stands in form or lemma.
+pub(crate) fn has_mark(cut: &Cut<'_>) -> bool
+    ensures { result ≡ has_mark_in cut.now }
+{
+    has_bare_sign(Stop::Equals, cut.form) || has_bare_sign(Stop::Equals, cut.lemma)
+}
+
+/// The entry of these parts, where each mark of form and lemma means this.
+pub(crate) fn entry_of(
+    alloc: Global,
+    cut: &Cut<'_>,
+    codes: Codes,
+    mark: Mark,
+) -> Result<Entry, AllocError>
+    ensures { IfOk result (λ entry. entry ≡ entry_in (mark_sign mark) cut.now codes) }
+{
+    let form = plain(alloc, mark, cut.form)?;
+    let lemma = plain(alloc, mark, written_lemma(cut))?;
+    let Codes { gram, sem, infl } = codes;
+    Ok(Entry {
+        form,
+        lemma,
+        gram,
+        sem,
+        infl,
+    })
+}
+
+/// The lemma as it is written, which is the form where it is empty.
+fn written_lemma<'a>(cut: &Cut<'a>) -> &'a str
+    ensures { characters result.now
+        ≡ lemma_of (characters cut.now.form.now) (characters cut.now.lemma.now) }
+{
+    if cut.lemma.is_empty() {
+        cut.form
+    } else {
+        cut.lemma
+    }
+}

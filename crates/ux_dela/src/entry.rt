@@ -1,0 +1,118 @@
+//! What dictionary lines say: entries of forms, and lemmas with their classes.
+//!
+//! All are records of texts. `same` decides equality exactly, and a `clone` is the same value.
+
+ghost use Rattle.std.specs.Prelude.{◌≡◌, ◌↔◌, IsTrue, IfOk};
+
+use std::alloc::AllocError;
+use ux_base::{Lst, Txt};
+
+/// What a line of forms says of a form.
+#[derive(Clone, Debug, Drop)]
+pub struct Entry {
+    /// The form, as it stands in a text.
+    pub form: Txt,
+    /// The lemma of which it is a form.
+    pub lemma: Txt,
+    /// The grammatical code.
+    pub gram: Txt,
+    /// The semantic codes.
+    pub sem: Lst<Txt>,
+    /// The inflection codes.
+    pub infl: Lst<Txt>,
+}
+
+/// What a line of lemmas says of a lemma.
+#[derive(Clone, Debug, Drop)]
+pub struct Stem {
+    /// The lemma.
+    pub lemma: Txt,
+    /// The whole code, which names the way in which the lemma is inflected.
+    pub class: Txt,
+    /// The grammatical code: the class without its digits.
+    pub gram: Txt,
+    /// The semantic codes.
+    pub sem: Lst<Txt>,
+}
+
+/// The codes of an entry.
+#[derive(Clone, Debug, Drop)]
+pub struct Codes {
+    /// The grammatical code.
+    pub gram: Txt,
+    /// The semantic codes.
+    pub sem: Lst<Txt>,
+    /// The inflection codes.
+    pub infl: Lst<Txt>,
+}
+
+/// Whether two texts are equal.
+fn same_text(a: &Txt, b: &Txt) -> bool
+    ensures { IsTrue result ↔ (a.now ≡ b.now) }
+{
+    a == b
+}
+
+/// Whether two lists of texts are equal.
+fn same_texts(a: &Lst<Txt>, b: &Lst<Txt>) -> bool
+    ensures { IsTrue result ↔ (a.now ≡ b.now) }
+{
+    a == b
+}
+
+impl Entry {
+    /// Whether two entries are equal.
+    pub fn same(&self, other: &Entry) -> bool
+        ensures { IsTrue result ↔ (self.now ≡ other.now) }
+    {
+        same_text(&self.form, &other.form)
+            && same_text(&self.lemma, &other.lemma)
+            && same_text(&self.gram, &other.gram)
+            && same_texts(&self.sem, &other.sem)
+            && same_texts(&self.infl, &other.infl)
+    }
+
+    /// A copy.
+    pub fn copy(&self) -> Result<Entry, AllocError>
+        ensures { IfOk result (λ e. e ≡ self.now) }
+    {
+        self.clone()
+    }
+}
+
+impl Stem {
+    /// Whether two stems are equal.
+    pub fn same(&self, other: &Stem) -> bool
+        ensures { IsTrue result ↔ (self.now ≡ other.now) }
+    {
+        same_text(&self.lemma, &other.lemma)
+            && same_text(&self.class, &other.class)
+            && same_text(&self.gram, &other.gram)
+            && same_texts(&self.sem, &other.sem)
+    }
+
+    /// A copy.
+    pub fn copy(&self) -> Result<Stem, AllocError>
+        ensures { IfOk result (λ s. s ≡ self.now) }
+    {
+        self.clone()
+    }
+}
+
+impl Codes {
+    /// Whether two lists of codes are equal.
+    pub fn same(&self, other: &Codes) -> bool
+        ensures { IsTrue result ↔ (self.now ≡ other.now) }
+    {
+        same_text(&self.gram, &other.gram)
+            && same_texts(&self.sem, &other.sem)
+            && same_texts(&self.infl, &other.infl)
+    }
+
+    /// A copy.
+    pub fn copy(&self) -> Result<Codes, AllocError>
+        ensures { IfOk result (λ c. c ≡ self.now) }
+    {
+        self.clone()
+    }
+}

@@ -1,0 +1,30 @@
+//! Dictionary lines in the formats DELAF and DELAS, and the bodies of tags.
+//!
+//! Begin with `delaf`, which reads files of inflected forms, and `delas`, which reads files of
+//! lemmas with their classes. `tag` reads what stands between a tag's braces, and `printing` prints
+//! entries and codes. What lines say stands in `specs/Delaf.antt` and `specs/Delas.antt`: a line is
+//! the joining of its parts, each character of which is bare or behind a backslash. Inside, `part`
+//! cuts a text at the sign that ends a part, `plain` takes backslashes off, and `codes` reads lists.
+//!
+//! ```text
+//! let entries = read_delaf(rt.alloc(), "sits,sit.V:P3s/verb\n")?;
+//! print_delaf(rt.alloc(), &entries[0])?      // sits,sit.V:P3s
+//! ```
+#![tactic(auto)]
+
+mod codes;
+pub mod delaf;
+pub mod delas;
+pub mod entry;
+pub mod error;
+mod part;
+mod plain;
+pub mod printing;
+pub mod tag;
+
+pub use delaf::read_delaf;
+pub use delas::read_delas;
+pub use entry::{Codes, Entry, Stem};
+pub use error::DelaError;
+pub use printing::{print_codes, print_delaf, read_codes};
+pub use tag::read_tag;

@@ -1,0 +1,575 @@
+//! Dictionary lines, tags and printed entries, by rows.
+
+use std::alloc::{AllocError, Global};
+use std::process::Abort;
+use std::test::Fail;
+use ux_base::Txt;
+use ux_dela::{
+    DelaError, Entry, Stem, print_codes, print_delaf, read_codes, read_delaf, read_delas, read_tag,
+};
+
+/// A name, a file, and what it says: its entries or stems, each between brackets.
+type Row = (&'static str, &'static str, &'static str);
+
+/// A name, a file, and its refusal.
+type Refusal = (&'static str, &'static str, DelaError);
+
+fn compare(rt: &impl Abort, got: &str, row: &Row) {
+    assert_eq!(rt; got, row.2, "{}", row.0);
+}
+
+fn compare_refusal(rt: &impl Abort, got: Option<DelaError>, row: &Refusal) {
+    assert_eq!(rt; got, Some(row.2), "{}", row.0);
+}
+
+/// Each text behind the sign.
+fn put_all(out: &mut String, sign: &str, texts: &[Txt]) -> Result<(), AllocError> {
+    for text in texts {
+        out.push_str(sign)?;
+        out.push_str(text.as_str())?;
+    }
+    Ok(())
+}
+
+/// The parts of an entry as they are, between brackets.
+fn put_entry(out: &mut String, entry: &Entry) -> Result<(), AllocError> {
+    out.push_str("[")?;
+    out.push_str(entry.form.as_str())?;
+    out.push_str("|")?;
+    out.push_str(entry.lemma.as_str())?;
+    out.push_str("|")?;
+    out.push_str(entry.gram.as_str())?;
+    put_all(out, "|+", entry.sem.as_slice())?;
+    put_all(out, "|:", entry.infl.as_slice())?;
+    out.push_str("]")
+}
+
+/// The parts of a stem as they are, between brackets.
+fn put_stem(out: &mut String, stem: &Stem) -> Result<(), AllocError> {
+    out.push_str("[")?;
+    out.push_str(stem.lemma.as_str())?;
+    out.push_str("|")?;
+    out.push_str(stem.class.as_str())?;
+    out.push_str("|")?;
+    out.push_str(stem.gram.as_str())?;
+    put_all(out, "|+", stem.sem.as_slice())?;
+    out.push_str("]")
+}
+
+fn check_delaf(rt: &impl Abort, alloc: Global, row: &Row) -> Result<(), Fail> {
+    let mut out = String::new(alloc);
+    for entry in &read_delaf(alloc, row.1)? {
+        put_entry(&mut out, entry)?;
+    }
+    compare(rt, out.as_str(), row);
+    Ok(())
+}
+
+fn check_delas(rt: &impl Abort, alloc: Global, row: &Row) -> Result<(), Fail> {
+    let mut out = String::new(alloc);
+    for stem in &read_delas(alloc, row.1)? {
+        put_stem(&mut out, stem)?;
+    }
+    compare(rt, out.as_str(), row);
+    Ok(())
+}
+
+fn check_tag(rt: &impl Abort, alloc: Global, row: &Row) -> Result<(), Fail> {
+    let mut out = String::new(alloc);
+    if let Some(entry) = read_tag(alloc, row.1)? {
+        put_entry(&mut out, &entry)?;
+    }
+    compare(rt, out.as_str(), row);
+    Ok(())
+}
+
+/// The entries of the file, each printed again between brackets.
+fn check_printed(rt: &impl Abort, alloc: Global, row: &Row) -> Result<(), Fail> {
+    let mut out = String::new(alloc);
+    for entry in &read_delaf(alloc, row.1)? {
+        let line = print_delaf(alloc, entry)?;
+        out.push_str("[")?;
+        out.push_str(line.as_str())?;
+        out.push_str("]")?;
+    }
+    compare(rt, out.as_str(), row);
+    Ok(())
+}
+
+/// Whether the text is printed codes.
+fn check_codes(rt: &impl Abort, alloc: Global, row: &Row) -> Result<(), Fail> {
+    let mut out = String::new(alloc);
+    if let Some(codes) = read_codes(alloc, row.1)? {
+        out.push_str(codes.gram.as_str())?;
+        put_all(&mut out, "|+", codes.sem.as_slice())?;
+        put_all(&mut out, "|:", codes.infl.as_slice())?;
+    }
+    compare(rt, out.as_str(), row);
+    Ok(())
+}
+
+/// The first entry of the file, printed, and then its codes.
+fn printed_twice(alloc: Global, text: &str) -> Result<String, Fail> {
+    let mut out = String::new(alloc);
+    if let Some(entry) = read_delaf(alloc, text)?.first() {
+        out.push_str(print_delaf(alloc, entry)?.as_str())?;
+        out.push_str(" ")?;
+        out.push_str(print_codes(alloc, entry)?.as_str())?;
+    }
+    Ok(out)
+}
+
+/// Whether a copy of the first file's entry is the second file's.
+fn are_same(alloc: Global, text: &str, other: &str) -> Result<bool, Fail> {
+    let entries = read_delaf(alloc, text)?;
+    let others = read_delaf(alloc, other)?;
+    match (entries.first(), others.first()) {
+        (Some(entry), Some(other)) => Ok(entry.copy()?.same(other)),
+        _ => Ok(false),
+    }
+}
+
+#[test]
+fn reads_prints_and_compares_an_entry(rt: HostRuntime) -> Result<(), Fail> {
+    let printed = printed_twice(rt.alloc(), "sits,sit.V+z1:P3s/verb\n")?;
+    assert_eq!(rt; printed.as_str(), "sits,sit.V+z1:P3s V+z1:P3s");
+    assert!(rt; are_same(rt.alloc(), "a,.N+b:c", "a,a.N+b:c/d")?);
+    assert!(rt; !are_same(rt.alloc(), "a,.N+b:c", "a,.N+b:d")?);
+    Ok(())
+}
+
+#[test]
+fn lines_of_forms_say_entries(rt: HostRuntime) -> Result<(), Fail> {
+    const ROWS: &[Row] = &[
+        ("no line", "", ""),
+        ("an empty line and a comment", "\n/a,b.c\n\n", ""),
+        (
+            "codes of each kind",
+            "sits,sit.V+z1+t:P3s:X",
+            "[sits|sit|V|+z1|+t|:P3s|:X]",
+        ),
+        ("an empty lemma", "cat,.N:s", "[cat|cat|N|:s]"),
+        (
+            "an empty lemma with a mark",
+            "a=b,.N",
+            "[a b|a b|N][a-b|a-b|N]",
+        ),
+        (
+            "carriage returns",
+            "cat,.N\r\ndog,.N\r",
+            "[cat|cat|N][dog|dog|N]",
+        ),
+        (
+            "marks in both parts",
+            "acorn=shells,acorn=shell.N:p",
+            "[acorn shells|acorn shell|N|:p][acorn-shells|acorn-shell|N|:p]",
+        ),
+        ("a mark in the form", "a=b,c.N", "[a b|c|N][a-b|c|N]"),
+        ("a mark in the lemma", "a,b=c.N", "[a|b c|N][a|b-c|N]"),
+        ("two marks", "a=b=c,.N", "[a b c|a b c|N][a-b-c|a-b-c|N]"),
+        (
+            "a protected mark",
+            "E\\=mc2,.FORMULA",
+            "[E=mc2|E=mc2|FORMULA]",
+        ),
+        (
+            "a protected and a bare mark",
+            "a\\=b=c,.N",
+            "[a=b c|a=b c|N][a=b-c|a=b-c|N]",
+        ),
+        ("a mark in codes is none", "a,.N=+b=:c=", "[a|a|N=|+b=|:c=]"),
+        ("a comma in the form", "1\\,5,.NUM", "[1,5|1,5|NUM]"),
+        ("a dot in the form", "3.14,PI.CONST", "[3.14|PI|CONST]"),
+        (
+            "other signs in the form",
+            "a+b:c/d.e,.N",
+            "[a+b:c/d.e|a+b:c/d.e|N]",
+        ),
+        (
+            "other signs in the lemma",
+            "a,b+c:d/e,f.N",
+            "[a|b+c:d/e,f|N]",
+        ),
+        ("a dot in the lemma", "a,Mr\\..N", "[a|Mr.|N]"),
+        (
+            "a backslash in each part",
+            "a\\\\,b\\\\.c\\\\+d\\\\:e\\\\",
+            "[a\\|b\\|c\\|+d\\|:e\\]",
+        ),
+        (
+            "needless backslashes",
+            "\\a\\b,\\c.\\N+\\d:\\e",
+            "[ab|c|N|+d|:e]",
+        ),
+        (
+            "longer characters behind backslashes",
+            "\\é,\\\u{10ffff}.\\€",
+            "[é|\u{10ffff}|€]",
+        ),
+        (
+            "signs in codes",
+            "a,.N\\+x+y\\:z+\\/:p\\+:q\\/",
+            "[a|a|N+x|+y:z|+/|:p+|:q/]",
+        ),
+        ("a plus behind a colon", "a,.N:P1s+q:r", "[a|a|N|:P1s+q|:r]"),
+        (
+            "a comma and a dot in codes",
+            "a,.N.,+.:,",
+            "[a|a|N.,|+.|:,]",
+        ),
+        ("a comment behind a grammatical code", "a,.N/b", "[a|a|N]"),
+        (
+            "a comment behind a semantic code",
+            "a,.N+b/c:d+",
+            "[a|a|N|+b]",
+        ),
+        (
+            "a comment behind an inflection code",
+            "a,.N:b/c:",
+            "[a|a|N|:b]",
+        ),
+        ("an empty comment", "a,.N/", "[a|a|N]"),
+        ("a backslash at the end of a comment", "a,.N/\\", "[a|a|N]"),
+        ("a form that begins with a slash", "\\/a,.N", "[/a|/a|N]"),
+        ("spaces stay", " a , b . N ", "[ a | b | N ]"),
+        ("an entry twice", "a,.N\na,.N", "[a|a|N][a|a|N]"),
+    ];
+    for row in ROWS {
+        check_delaf(&rt, rt.alloc(), row)?;
+    }
+    Ok(())
+}
+
+#[test]
+fn lines_of_forms_are_refused(rt: HostRuntime) {
+    const ROWS: &[Refusal] = &[
+        ("no comma", "abc", DelaError::NoComma { line: 1, place: 3 }),
+        (
+            "no comma in the third line",
+            "a,.N\n\nabcd\n",
+            DelaError::NoComma { line: 3, place: 4 },
+        ),
+        (
+            "a protected comma",
+            "a\\,b",
+            DelaError::NoComma { line: 1, place: 4 },
+        ),
+        (
+            "a comment in the form",
+            "a/b",
+            DelaError::NoComma { line: 1, place: 3 },
+        ),
+        ("no dot", "/\na,b\n", DelaError::NoDot { line: 2, place: 3 }),
+        (
+            "a protected dot",
+            "a,b\\.N",
+            DelaError::NoDot { line: 1, place: 6 },
+        ),
+        (
+            "an empty form",
+            "x,.N\n,a.N",
+            DelaError::EmptyForm { line: 2, place: 0 },
+        ),
+        (
+            "an empty form without a dot",
+            ",a",
+            DelaError::EmptyForm { line: 1, place: 0 },
+        ),
+        (
+            "an empty form and an empty code",
+            ",a.",
+            DelaError::EmptyForm { line: 1, place: 0 },
+        ),
+        (
+            "no code",
+            "x,.N\r\na,b.",
+            DelaError::EmptyCode { line: 2, place: 4 },
+        ),
+        (
+            "a comment in place of a code",
+            "a,b./c",
+            DelaError::EmptyCode { line: 1, place: 4 },
+        ),
+        (
+            "no code before a plus",
+            "a,.+b",
+            DelaError::EmptyCode { line: 1, place: 3 },
+        ),
+        (
+            "no code before a colon",
+            "a,.:b",
+            DelaError::EmptyCode { line: 1, place: 3 },
+        ),
+        (
+            "no semantic code",
+            "a,.N+",
+            DelaError::EmptyCode { line: 1, place: 5 },
+        ),
+        (
+            "no second semantic code",
+            "a,.N+b+:c",
+            DelaError::EmptyCode { line: 1, place: 7 },
+        ),
+        (
+            "no inflection code",
+            "a,.N:",
+            DelaError::EmptyCode { line: 1, place: 5 },
+        ),
+        (
+            "no inflection code before a comment",
+            "a,.N:b:/c",
+            DelaError::EmptyCode { line: 1, place: 7 },
+        ),
+        (
+            "places count bytes",
+            "é\\é,.N+",
+            DelaError::EmptyCode { line: 1, place: 9 },
+        ),
+        (
+            "a backslash",
+            "\\",
+            DelaError::BadEscape { line: 1, place: 0 },
+        ),
+        (
+            "a backslash at the form's end",
+            "a,.N\nab\\\n",
+            DelaError::BadEscape { line: 2, place: 2 },
+        ),
+        (
+            "a backslash at the lemma's end",
+            "a,b\\",
+            DelaError::BadEscape { line: 1, place: 3 },
+        ),
+        (
+            "a backslash at the codes' end",
+            "a,b.N+\\",
+            DelaError::BadEscape { line: 1, place: 6 },
+        ),
+        (
+            "a backslash behind an empty form",
+            ",b\\",
+            DelaError::BadEscape { line: 1, place: 2 },
+        ),
+        (
+            "a backslash behind a slash in the form",
+            "a/\\",
+            DelaError::BadEscape { line: 1, place: 2 },
+        ),
+        (
+            "a backslash behind a slash in the lemma",
+            "a,b/\\",
+            DelaError::BadEscape { line: 1, place: 4 },
+        ),
+        (
+            "three backslashes",
+            "a,b.N\\\\\\",
+            DelaError::BadEscape { line: 1, place: 7 },
+        ),
+        (
+            "the first refusal",
+            "a,.N\nb\n,c.\n",
+            DelaError::NoComma { line: 2, place: 1 },
+        ),
+    ];
+    for row in ROWS {
+        compare_refusal(&rt, read_delaf(rt.alloc(), row.1).err(), row);
+    }
+}
+
+#[test]
+fn lines_of_lemmas_say_stems(rt: HostRuntime) -> Result<(), Fail> {
+    const ROWS: &[Row] = &[
+        ("no line", "", ""),
+        ("an empty line and a comment", "\r\n/peler,V5\n", ""),
+        ("a class of letters", "cat,N", "[cat|N|N]"),
+        ("letters and digits", "peler,V35+t/verb", "[peler|V35|V|+t]"),
+        ("two semantic codes", "a,ADV+x+y", "[a|ADV|ADV|+x|+y]"),
+        (
+            "marks and colons are ordinary",
+            "a=b:c,N3+d:e=f",
+            "[a=b:c|N3|N|+d:e=f]",
+        ),
+        ("dots are ordinary", "Mr.,N1+.", "[Mr.|N1|N|+.]"),
+        (
+            "backslashes",
+            "a\\,b\\\\,\\N\\1+x\\+y+\\/",
+            "[a,b\\|N1|N|+x+y|+/]",
+        ),
+        ("a comment behind the class", "a,N1/", "[a|N1|N]"),
+        ("a lemma that begins with a slash", "\\/a,N1", "[/a|N1|N]"),
+    ];
+    for row in ROWS {
+        check_delas(&rt, rt.alloc(), row)?;
+    }
+    Ok(())
+}
+
+#[test]
+fn lines_of_lemmas_are_refused(rt: HostRuntime) {
+    const ROWS: &[Refusal] = &[
+        (
+            "no comma",
+            "a,N\n\nabc",
+            DelaError::NoComma { line: 3, place: 3 },
+        ),
+        (
+            "an empty lemma",
+            ",N1",
+            DelaError::EmptyForm { line: 1, place: 0 },
+        ),
+        (
+            "no class",
+            "a,N\nab,",
+            DelaError::EmptyCode { line: 2, place: 3 },
+        ),
+        (
+            "no class before a plus",
+            "ab,+c",
+            DelaError::EmptyCode { line: 1, place: 3 },
+        ),
+        (
+            "no class before a comment",
+            "ab,/c",
+            DelaError::EmptyCode { line: 1, place: 3 },
+        ),
+        (
+            "no semantic code",
+            "ab,n+",
+            DelaError::EmptyCode { line: 1, place: 5 },
+        ),
+        (
+            "a small letter",
+            "peler,v5",
+            DelaError::BadClass { line: 1, place: 6 },
+        ),
+        (
+            "a letter behind a digit",
+            "a,N1A",
+            DelaError::BadClass { line: 1, place: 2 },
+        ),
+        (
+            "digits alone",
+            "a,12",
+            DelaError::BadClass { line: 1, place: 2 },
+        ),
+        (
+            "another letter",
+            "x,N\né,É1",
+            DelaError::BadClass { line: 2, place: 3 },
+        ),
+        (
+            "a code that begins at its backslash",
+            "a,\\n",
+            DelaError::BadClass { line: 1, place: 2 },
+        ),
+        (
+            "a backslash",
+            "\\",
+            DelaError::BadEscape { line: 1, place: 0 },
+        ),
+        (
+            "a backslash at the codes' end",
+            "a,N\nb,n\\",
+            DelaError::BadEscape { line: 2, place: 3 },
+        ),
+        (
+            "a backslash behind an empty lemma",
+            ",N\\",
+            DelaError::BadEscape { line: 1, place: 2 },
+        ),
+    ];
+    for row in ROWS {
+        compare_refusal(&rt, read_delas(rt.alloc(), row.1).err(), row);
+    }
+}
+
+#[test]
+fn bodies_of_tags_are_entries(rt: HostRuntime) -> Result<(), Fail> {
+    const ROWS: &[Row] = &[
+        ("an entry", "am,be.V:P1s", "[am|be|V|:P1s]"),
+        ("an empty lemma", "a,.N", "[a|a|N]"),
+        ("nothing", "", ""),
+        ("a skipped line", "/a,.N", ""),
+        ("no entry", "S", ""),
+        ("an empty code", "a,.", ""),
+        ("an empty comment", "a,.N/", ""),
+        ("a comment", "a,.N/b", ""),
+        ("a protected slash", "a,.N\\/b", "[a|a|N/b]"),
+        ("a form that begins with a slash", "\\/a,.N", "[/a|/a|N]"),
+        ("a mark in the lemma", "a,b=.N", ""),
+        ("a mark in the form", "a=b,.N", ""),
+        ("a protected mark", "a\\=b,.N", "[a=b|a=b|N]"),
+        ("a mark in a code", "a,.N=", "[a|a|N=]"),
+        ("a brace", "a{,.N", ""),
+        ("a closing brace in a code", "a,.N:}", ""),
+        ("protected braces", "\\{a\\},.N", "[{a}|{a}|N]"),
+        ("a line feed", "a,.N\n", ""),
+        ("a line feed in the form", "a\nb,.N", ""),
+        ("a carriage return", "a,.N\r", "[a|a|N\r]"),
+        ("a backslash at the end", "a,.N\\", ""),
+    ];
+    for row in ROWS {
+        check_tag(&rt, rt.alloc(), row)?;
+    }
+    Ok(())
+}
+
+#[test]
+fn entries_are_printed(rt: HostRuntime) -> Result<(), Fail> {
+    const ROWS: &[Row] = &[
+        ("a lemma that is the form", "cat,cat.N:s", "[cat,.N:s]"),
+        ("needless backslashes", "\\c\\at,\\c\\at.\\N", "[cat,.N]"),
+        (
+            "another lemma",
+            "cats,cat.N+x+y:p:q",
+            "[cats,cat.N+x+y:p:q]",
+        ),
+        ("a comment", "cat,.N/b", "[cat,.N]"),
+        ("marks", "a=b,c.N", "[a b,c.N][a-b,c.N]"),
+        (
+            "signs in the form",
+            "1\\,5.2\\=\\\\+:/,.N",
+            "[1\\,5\\.2\\=\\\\+:/,.N]",
+        ),
+        (
+            "signs in the lemma",
+            "a,1,5\\.2\\=\\\\+:/.N",
+            "[a,1\\,5\\.2\\=\\\\+:/.N]",
+        ),
+        (
+            "signs in codes",
+            "a,.N\\+.,=+x\\:\\/:y+\\\\",
+            "[a,.N\\+.,=+x\\:\\/:y\\+\\\\]",
+        ),
+        (
+            "a form that begins with slashes",
+            "\\//a,\\/b.N",
+            "[\\//a,/b.N]",
+        ),
+    ];
+    for row in ROWS {
+        check_printed(&rt, rt.alloc(), row)?;
+    }
+    Ok(())
+}
+
+#[test]
+fn printed_codes_are_read(rt: HostRuntime) -> Result<(), Fail> {
+    const ROWS: &[Row] = &[
+        ("codes of each kind", "V+z1:P3s:X", "V|+z1|:P3s|:X"),
+        ("nothing", "", ""),
+        ("a backslash that isn't printed", "N\\a", ""),
+        ("a plus behind a colon", "N:a+b", ""),
+        ("a protected plus behind a colon", "N:a\\+b", "N|:a+b"),
+        ("a comment", "N/b", ""),
+        ("a protected slash", "N\\/b", "N/b"),
+        ("an empty code", "N+", ""),
+        ("a line feed", "N\n", ""),
+        ("a backslash at the end", "N\\", ""),
+        ("other signs", "N.,=", "N.,="),
+    ];
+    for row in ROWS {
+        check_codes(&rt, rt.alloc(), row)?;
+    }
+    Ok(())
+}
