@@ -1,0 +1,11 @@
+pub mod LetterLemmas
+pub mod PairLemmas
+pub mod ContentLemmas
+pub mod ChosenLemmas
+pub mod CutLemmas
+pub mod TextOrder
+pub mod CandidateLemmas
+pub mod EncodeOrder
+pub mod PartLemmas
+pub mod ContinuedLemmas
+pub mod FittingLemmas

@@ -1,0 +1,17 @@
+use Rattle.std.proofs.Common.{List, subst, ◌∙◌, ap}
+use Rattle.std.specs.Prelude.{All}
+use Rattle.ux_dela.specs.declared.entry.Entry.{Entry}
+use Rattle.ux_dict.specs.Forms.{longest_of}
+use Rattle.ux_dict.specs.Kept.{IsSpelled}
+use Rattle.ux_dict.proofs.ContentLemmas.{IsDictionary-content}
+use Rattle.ux_dict.proofs.list_lexicon.ListLexicon.new.Goals as goal
+
+pub invariant_of-result : goal.invariant_of-result
+invariant_of-result c = record {
+  dictionary = IsDictionary-content c.args.entries.items c.in_ok-entries.entries.items
+      c.in_ok-entries.ensures c.requires;
+  spelled = subst (λ (l : List Entry). All (IsSpelled c.in_ok-letters.letters.items) l)
+      c.deref.ensures.value c.in_ok-letters.ensures.spelled;
+  increasing = c.in_ok-letters.ensures.increasing;
+  longest_is = c.longest_form-longest.ensures ∙ ap longest_of c.deref-2.ensures.value;
+}

@@ -1,0 +1,18 @@
+use Rattle.std.proofs.Common.{List, subst}
+use Rattle.std.specs.Prelude.{IsPermutation}
+use Rattle.std.specs.Cmp.Lexicographic.{slice_cmp}
+use Rattle.std.specs.List.Sorted.{IsStableByKey}
+use Rattle.std.specs.Ordering.{nat_cmp}
+use Rattle.ux_dela.specs.declared.entry.Entry.{Entry}
+use Rattle.ux_dict.proofs.ContentLemmas.{IsContent-sorted}
+use Rattle.ux_dict.proofs.list_lexicon.content_of.Goals as goal
+
+pub returns : goal.returns
+returns c =
+    let sorted = c.sort_by_form.new.entries.items in
+    let is = c.in_ok-content.ensures in
+    let order = c.in_ok-sort_by_form.ensures in
+    IsContent-sorted c.args.entries.items sorted
+    (subst (λ (l : List Entry). IsPermutation l sorted) is order.moved) order.sorted
+    (subst (λ (l : List Entry). IsStableByKey (λ e. e.form) (slice_cmp nat_cmp) l sorted) is
+    order.stable)

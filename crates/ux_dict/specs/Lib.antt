@@ -1,0 +1,6 @@
+pub mod Content
+pub mod Equal
+pub mod Forms
+pub mod Kept
+pub mod Parts
+pub mod Any

@@ -1,0 +1,95 @@
+-- Parts of a dictionary: entries whose forms begin with the same characters, which fit the front of
+-- a text.
+use Rattle.std.specs.Prelude.{◌≡◌, ◌==◌, ℕ, List, [], ◌∷◌, ◌++◌, Bool, nat_le, All, AllPairs, Contains, IsUtf8, length, take, drop, flat_map, encode_utf8_all}
+use Rattle.std.specs.List.{AllZip}
+use Rattle.std.specs.List.Sorted.{IsStrictlyIncreasing}
+use Rattle.std.specs.Cmp.Lexicographic.{slice_cmp}
+use Rattle.std.specs.Ordering.{nat_cmp, ordering_index}
+use Rattle.std.specs.Str.{chars}
+use Rattle.ux_alphabet.specs.declared.line.Line.{Line}
+use Rattle.ux_alphabet.specs.Letters.{Fits}
+use Rattle.ux_dela.specs.declared.entry.Entry.{Entry}
+use Rattle.ux_dict.specs.declared.parts.Part.{Part}
+use Rattle.ux_dict.specs.Content.{IsUpTo}
+use Rattle.ux_dict.specs.Forms.{IsChosen}
+use Rattle.ux_dict.specs.Kept.{IsSpelled}
+
+-- 0, 1 or 2 where the front of the text, of as many bytes as these, is below, equal to or above
+-- them
+abbrev pub rank_of : (bytes text : List ℕ) → ℕ
+rank_of bytes text = ordering_index (slice_cmp nat_cmp (take (length bytes) text) bytes)
+
+-- the rank of the form behind its first few bytes
+abbrev pub next_rank : (len : ℕ) (bytes : List ℕ) → Entry → ℕ
+next_rank len bytes entry = rank_of bytes (drop len entry.form)
+
+-- the bytes stand in the form behind its first few bytes
+abbrev pub goes_on : (len : ℕ) (bytes : List ℕ) → Entry → Bool
+goes_on len bytes entry = next_rank len bytes entry == 1
+
+-- the form has at most so many bytes
+abbrev pub ends_by : (len : ℕ) → Entry → Bool
+ends_by len entry = nat_le (length entry.form) len
+
+-- the form begins with the characters
+abbrev pub BeginsWith : (front : List ℕ) → Entry → Type 0
+BeginsWith front entry = (rest : List ℕ) × (chars entry.form ≡ front ++ rest)
+
+-- the forms are texts that begin with the characters, whose bytes are as many as noted, and they
+-- are in order
+pub record IsPart (front : List ℕ) (part : Part) : Type 0 where
+  pub long : length (encode_utf8_all front) ≡ part.len
+  pub utf8 : All (λ entry. IsUtf8 entry.form) part.entries.now
+  pub shared : All (BeginsWith front) part.entries.now
+  pub ordered : AllPairs IsUpTo part.entries.now
+
+-- the form begins with the characters and then one of these
+abbrev pub GoesOnWith : (front letters : List ℕ) → Entry → Type 0
+GoesOnWith front letters entry = (c : ℕ) × Contains letters c × BeginsWith (front ++ c ∷ []) entry
+
+-- the entries of the parts, one part after the other
+abbrev pub entries_of : List Part → List Entry
+entries_of parts = flat_map (λ part. part.entries.now) parts
+
+-- the new parts have the entries of a part whose forms go on with one of the letters
+pub record IsContinued (front letters : List ℕ) (part : Part) (old new : List Part) : Type 0 where
+  pub pushed : List Part
+  pub is : new ≡ old ++ pushed
+  pub chosen : IsChosen (GoesOnWith front letters) part.entries.now (entries_of pushed)
+  pub each : All (λ next. (c : ℕ) × Contains letters c × IsPart (front ++ c ∷ []) next) pushed
+
+-- the letters that fit a character of a text, in order
+pub record AreCandidates (lines : List Line) (letters : List ℕ) (c : ℕ) (candidates : List ℕ) :
+    Type 0 where
+  pub increasing : IsStrictlyIncreasing candidates
+  pub fit : All (λ letter. Fits lines letter c) candidates
+  pub every : (letter : ℕ) → Contains letters letter → Fits lines letter c →
+      Contains candidates letter
+
+-- the form begins with characters that fit these
+abbrev pub BeginsFittingAll : List Line → (front : List ℕ) → Entry → Type 0
+BeginsFittingAll lines front entry = (fitting : List ℕ) × AllZip (Fits lines) fitting front
+    × BeginsWith fitting entry
+
+-- the part's forms begin with the same characters, which fit these
+abbrev pub IsFittingPart : List Line → (front : List ℕ) → Part → Type 0
+IsFittingPart lines front part = (fitting : List ℕ) × AllZip (Fits lines) fitting front
+    × IsPart fitting part
+
+-- the parts have the entries whose forms begin with characters that fit these, in order
+pub record AreFittingParts (lines : List Line) (front : List ℕ) (all : List Entry)
+    (parts : List Part) : Type 0 where
+  pub whole : IsChosen (BeginsFittingAll lines front) all (entries_of parts)
+  pub each : All (IsFittingPart lines front) parts
+
+-- where the parts fit the front of a text, the next ones fit one character more
+abbrev pub GoOn : List Line → (letters : List ℕ) (c : ℕ) (parts next : List Part) → Type 0
+GoOn lines letters c parts next = (front : List ℕ) (all : List Entry) →
+    All (IsSpelled letters) all → AreFittingParts lines front all parts →
+    AreFittingParts lines (front ++ c ∷ []) all next
+
+-- where the parts fit a text, the entries are those whose whole forms do
+abbrev pub AreWhole : (parts : List Part) (found : List Entry) → Type 0
+AreWhole parts found = (lines : List Line) (text : List ℕ) (all : List Entry) →
+    AreFittingParts lines text all parts →
+    IsChosen (λ entry. AllZip (Fits lines) (chars entry.form) text) all found

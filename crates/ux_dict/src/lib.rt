@@ -1,0 +1,25 @@
+//! Dictionaries, and the forms of theirs that fit a text.
+//!
+//! `Lexicon` says what a dictionary answers, `ListLexicon` is one of entries that were read. Which
+//! list of entries a dictionary has stands in `specs/Content.antt`, and which forms fit a text in
+//! `specs/Forms.antt`.
+//!
+//! ```text
+//! let lexicon = ListLexicon::new(rt.alloc(), entries)?;
+//! lexicon.fitting(rt.alloc(), "The", &alphabet)?      // the entries of `the` and `The`
+//! ```
+#![tactic(auto)]
+
+pub mod any_lexicon;
+mod candidates;
+mod continuing;
+mod different;
+pub mod lexicon;
+pub mod list_lexicon;
+mod measures;
+pub mod parts;
+mod sorting;
+
+pub use any_lexicon::AnyLexicon;
+pub use lexicon::Lexicon;
+pub use list_lexicon::ListLexicon;
