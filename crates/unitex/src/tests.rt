@@ -1,5 +1,6 @@
 //! Rows of the top call over a folder and sinks in memory.
 
+mod dictionaries;
 mod encodings;
 mod fakes;
 mod grammars;

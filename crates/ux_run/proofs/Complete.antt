@@ -1,6 +1,6 @@
 -- A run whose files are all accepted ends well, unless a read or a write failed.
-use Rattle.std.proofs.Common.{arith, ◌≡◌, ◌≢◌, ℕ, zero, suc, ◌<◌, ◌≤◌, ◌⊎◌, inl, inr, List, [], ◌∷◌, ◌++◌, Option, Some, Result, Ok, Err, length, take, refl, sym, ap, ◌∙◌, subst}
-use Rattle.std.specs.Prelude.{Contains, IsSomeAnd, slice_get}
+use Rattle.std.proofs.Common.{arith, true, false, ◌≡◌, ◌≢◌, ℕ, zero, suc, ◌<◌, ◌≤◌, ◌⊎◌, inl, inr, List, [], ◌∷◌, ◌++◌, Option, Some, Result, Ok, Err, length, take, refl, sym, ap, ◌∙◌, subst}
+use Rattle.std.specs.Prelude.{IsSomeAnd, slice_get}
 use Rattle.std.proofs.lemmas.Option.{none-some, same_Some, slice_get_within}
 use Rattle.std.proofs.lemmas.Bool.{cases_lt}
 use Rattle.std.proofs.lemmas.List.{take_all}
@@ -12,6 +12,8 @@ use Rattle.ux_decode.proofs.UniqueLemmas.{no_refusal, one_text}
 use Rattle.ux_alphabet.specs.File.{alphabet_of}
 use Rattle.ux_alphabet.specs.declared.line.Line.{Line}
 use Rattle.ux_alphabet.specs.declared.error.AlphabetError.{AlphabetError}
+use Rattle.ux_dela.specs.Files as dela
+use Rattle.ux_dela.specs.declared.error.DelaError.{DelaError}
 use Rattle.ux_grf.specs.File as grf
 use Rattle.ux_grf.specs.declared.graph.Graph.{Graph}
 use Rattle.ux_grf.specs.declared.graph.GrfBox.{GrfBox}
@@ -25,12 +27,13 @@ use Rattle.ux_tokens.proofs.UniqueLemmas.{tokens_unique}
 use Rattle.ux_run.specs.declared.status.Status.{Status}
 use Rattle.ux_run.specs.declared.status.Status.TheVariants.{Done, Usage, Absent, Refused, ReadFault, WriteFault, TooLarge, NoMemory}
 use Rattle.ux_run.specs.declared.status.Reason.{Reason}
-use Rattle.ux_run.specs.declared.status.Reason.TheVariants.{Decode, Alphabet, Grf, Net, Text, TooManyGraphs}
+use Rattle.ux_run.specs.declared.status.Reason.TheVariants.{Decode, Alphabet, Grf, Net, Text, Dela, TooManyGraphs}
 use Rattle.ux_run.specs.Grammars.{file_of, next_name, MOST_GRAPHS}
 use Rattle.ux_words.specs.declared.request.Request.{Request}
 use Rattle.ux_words.specs.declared.request.Request.TheVariants.{Locate, Concord, Tokenize, Check, Dico, Fst2, Inflect, Compress, Tfst, Elag, Bench, Help, Version}
 use Rattle.ux_words.specs.declared.request.Search.{Search}
-use Rattle.ux_run.specs.Running.{AreAccepted, AreRead, AreTokensOf, Format, IsLong, NamesFile, Stops, StopsGrammar, StopsNet, Explains, ExplainsSearch, ExplainsTokens, Denies, HasText, HasAlphabet, HasGrammar, HasGraph, HasTokens, IsAccepted, IsAnswerable, HasTooManyTokens, IsNoText, RefusesAlphabet, RefusesGraph, RefusesGraphAt, RefusesText, alphabet_format, graph_format, text_format}
+use Rattle.ux_run.specs.Running.{AreAccepted, AreRead, AreTokensOf, Format, IsLong, NamesFile, Stops, StopsGrammar, StopsNet, Explains, ExplainsSearch, ExplainsTokens, Denies, HasText, HasAlphabet, HasGrammar, HasGraph, HasTokens, IsAccepted, IsAnswerable, HasEntries, HasTooManyTokens, IsNoText, RefusesAlphabet, RefusesDictionary, RefusesGraph, RefusesGraphAt, RefusesText, alphabet_format, dictionary_format, graph_format, text_format}
+use Rattle.ux_run.proofs.Dictionaries.{entries_not_refused, stems_not_refused}
 use Rattle.ux_run.proofs.GraphRefusals.{drawn_not_refused, drawn_once}
 
 module _ (files : Files) (old new : Counts) (sound : Rose old.faults new.faults → ⊥) where
@@ -89,6 +92,7 @@ alphabet_taken told name alphabet has (Alphabet error) refused =
 alphabet_taken told name alphabet has (Grf error) refused = refused
 alphabet_taken told name alphabet has (Text error) refused = refused
 alphabet_taken told name alphabet has (Net error) refused = refused
+alphabet_taken told name alphabet has (Dela error) refused = refused
 alphabet_taken told name alphabet has TooManyGraphs refused = refused
 
 graph_taken : (told : Option Files) (name : List ℕ) (boxes : List GrfBox)
@@ -102,6 +106,7 @@ graph_taken told name boxes has (Grf error) refused =
     (subst (λ (t : List ℕ). grf.Refuses t error) same refused.2)
 graph_taken told name boxes has (Text error) refused = refused
 graph_taken told name boxes has (Net error) refused = refused
+graph_taken told name boxes has (Dela error) refused = refused
 graph_taken told name boxes has TooManyGraphs refused = refused
 
 graph_taken_at : (n : ℕ) (told : Option Files) (name : List ℕ) (boxes : List GrfBox)
@@ -122,6 +127,7 @@ text_taken told name alphabet tokens has (Text error) refused =
     has.no_open_brace (subst HasOpenBrace
     (same_text told name has.text has.has refused.0 refused.1) refused.3)
 text_taken told name alphabet tokens has (Net error) refused = refused
+text_taken told name alphabet tokens has (Dela error) refused = refused
 text_taken told name alphabet tokens has TooManyGraphs refused = refused
 
 -- the files are told, so a name has one text
@@ -258,6 +264,33 @@ module _ (files : Files) (name : List ℕ) (lines : List Line) (tokens : List To
       only_memory files old new sound (text_format lines) name has.text has.has
       (text_taken (Some files) name lines tokens has) no_more status stops
 
+module _ {T : Type 0} (AreSaid : List ℕ → List T → Type 0)
+    (Refuses : List ℕ → DelaError → Type 0)
+    (excluded : (text : List ℕ) (entries : List T) (error : DelaError) →
+    AreSaid text entries → Refuses text error → ⊥) where
+  -- a dictionary that has entries is not refused
+  dictionary_taken : (told : Option Files) (name : List ℕ) (entries : List T)
+      (has : HasEntries AreSaid told name entries) (reason : Reason) →
+      RefusesDictionary Refuses has.has.file reason → ⊥
+  dictionary_taken told name entries has (Decode error) refused =
+      decoded told name has.text has.has error refused
+  dictionary_taken told name entries has (Alphabet error) refused = refused
+  dictionary_taken told name entries has (Grf error) refused = refused
+  dictionary_taken told name entries has (Text error) refused = refused
+  dictionary_taken told name entries has (Dela error) refused =
+      excluded has.text entries error has.are (subst (λ (t : List ℕ). Refuses t error)
+      (same_text told name has.text has.has refused.0 refused.1) refused.2)
+  dictionary_taken told name entries has (Net error) refused = refused
+  dictionary_taken told name entries has TooManyGraphs refused = refused
+
+  dictionary_memory : (files : Files) (name : List ℕ) (entries : List T) →
+      HasEntries AreSaid (Some files) name entries → (old new : Counts) →
+      (Rose old.faults new.faults → ⊥) → (status : Status) →
+      Stops (dictionary_format Refuses) name (Some files) old new status → status ≡ NoMemory
+  dictionary_memory files name entries has old new sound status stops =
+      only_memory files old new sound (dictionary_format Refuses) name has.text has.has
+      (dictionary_taken (Some files) name entries has) (λ (none : ⊥). none) status stops
+
 module _ (asked : Search) (files : Files)
     (alphabet : List Line) (graphs : List Drawn) (tokens : List Token)
     (accepted : IsAccepted asked (Some files) alphabet graphs tokens)
@@ -284,6 +317,7 @@ module _ (asked : Search) (files : Files)
   net_memory (Refused file (Alphabet error)) refused = absurd refused
   net_memory (Refused file (Grf error)) refused = absurd refused
   net_memory (Refused file (Text error)) refused = absurd refused
+  net_memory (Refused file (Dela error)) refused = absurd refused
   net_memory (Refused file TooManyGraphs) refused = absurd refused
   net_memory (ReadFault name) refused = absurd refused
   net_memory WriteFault refused = absurd refused
@@ -329,7 +363,12 @@ module _ (files : Files) (old new : Counts) (sound : Rose old.faults new.faults 
   only_for_memory (Tokenize text alphabet) (lines, tokens, accepted) status explains =
       tokens_memory text alphabet files lines tokens accepted old new sound status explains
   only_for_memory (Concord what left right sort) accepted status explains = explains
-  only_for_memory (Check delas file) accepted status explains = explains
+  only_for_memory (Check false file) (entries, accepted) status explains =
+      dictionary_memory dela.AreEntries dela.Refuses entries_not_refused files file entries accepted
+      old new sound status explains
+  only_for_memory (Check true file) (stems, accepted) status explains =
+      dictionary_memory dela.AreStems dela.RefusesStems stems_not_refused files file stems accepted
+      old new sound status explains
   only_for_memory (Dico text alphabet dics) accepted status explains = explains
   only_for_memory (Fst2 graph alphabet) accepted status explains = explains
   only_for_memory (Inflect stems) accepted status explains = explains

@@ -1,9 +1,10 @@
 -- What stops a search at its graph or its text explains it from the start on.
-use Rattle.std.proofs.Common.{arith, ◌≡◌, ℕ, ◌≤◌, inl, inr, List, ◌++◌, Option, Some, None, refl, sym, ap, ◌∙◌, subst, ◌⊎◌, length}
+use Rattle.std.proofs.Common.{arith, true, false, ◌≡◌, ℕ, ◌≤◌, inl, inr, List, ◌++◌, Option, Some, None, refl, sym, ap, ◌∙◌, subst, ◌⊎◌, length}
 use Rattle.std.proofs.lemmas.List.{take_all}
 use Rattle.ux_base.specs.Outside.{Appended, AppendedFront, Files, Rose}
 use Rattle.ux_base.specs.declared.counts.Counts.{Counts}
 use Rattle.ux_alphabet.specs.declared.line.Line.{Line}
+use Rattle.ux_dela.specs.Files as dela
 use Rattle.ux_net.specs.Boxes.{Drawn}
 use Rattle.ux_net.specs.Refusing.{IsCompilable}
 use Rattle.ux_run.specs.declared.status.Status.{Status}
@@ -14,7 +15,7 @@ use Rattle.ux_run.specs.Reading.{StopsBefore}
 use Rattle.ux_words.specs.declared.request.Request.{Request}
 use Rattle.ux_words.specs.declared.request.Request.TheVariants.{Locate, Concord, Tokenize, Check, Dico, Fst2, Inflect, Compress, Tfst, Elag, Bench, Help, Version}
 use Rattle.ux_words.specs.declared.request.Search.{Search}
-use Rattle.ux_run.specs.Running.{Format, IsLong, Stops, StopsGrammar, StopsNet, Explains, ExplainsSearch, ExplainsTokens, Denies, EndsBy, NoneFell, HasAlphabet, HasGrammar, alphabet_format, graph_format, text_format}
+use Rattle.ux_run.specs.Running.{Format, IsLong, Stops, StopsGrammar, StopsNet, Explains, ExplainsSearch, ExplainsTokens, Denies, EndsBy, NoneFell, HasAlphabet, HasGrammar, alphabet_format, dictionary_format, graph_format, text_format}
 
 -- a count that rose of late rose in all
 rose_earlier : (old mid new : ℕ) → old ≤ mid → Rose mid new → Rose old new
@@ -157,7 +158,10 @@ module _ (told : Option Files) (old new : Counts) where
   never_explains (Tokenize text alphabet) status none (inr (lines, has, stops)) =
       never_stops (text_format lines) text status none stops
   never_explains (Concord what left right sort) status none is = no_memory status none is
-  never_explains (Check delas file) status none is = no_memory status none is
+  never_explains (Check false file) status none stops =
+      never_stops (dictionary_format dela.Refuses) file status none stops
+  never_explains (Check true file) status none stops =
+      never_stops (dictionary_format dela.RefusesStems) file status none stops
   never_explains (Dico text alphabet dics) status none is = no_memory status none is
   never_explains (Fst2 graph alphabet) status none is = no_memory status none is
   never_explains (Inflect stems) status none is = no_memory status none is

@@ -1,5 +1,6 @@
 pub mod Answering
 pub mod Complete
+pub mod Dictionaries
 pub mod Explaining
 pub mod FileRefusals
 pub mod GrammarLemmas

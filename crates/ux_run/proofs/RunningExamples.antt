@@ -1,12 +1,15 @@
 -- The definitions of a run at small values.
-use Rattle.std.proofs.Common.{arith, ◌≡◌, [], ◌∷◌, Some, None, codes, refl}
+use Rattle.std.proofs.Common.{arith, true, false, ◌≡◌, [], ◌∷◌, Some, None, codes, refl}
+use Rattle.std.specs.Fmt.{digits}
 use Rattle.ux_base.specs.Outside.{NO_COUNTS, counts_with}
 use Rattle.ux_base.specs.declared.folder.FolderError.TheVariants as folder_error
 use Rattle.ux_run.specs.declared.status.Status.TheVariants.{Absent, ReadFault, Refused}
-use Rattle.ux_run.specs.declared.status.Reason.TheVariants.{Grf}
+use Rattle.ux_run.specs.declared.status.Reason.TheVariants.{Dela, Grf}
+use Rattle.ux_dela.specs.declared.error.DelaError.TheVariants as dela_error
 use Rattle.ux_grf.specs.declared.error.GrfError.TheVariants as grf_error
 use Rattle.ux_run.specs.Statuses.{line_of, number_of}
-use Rattle.ux_words.specs.declared.request.Request.TheVariants.{Help, Tokenize}
+use Rattle.ux_words.specs.declared.request.Request.TheVariants.{Check, Help, Tokenize}
+use Rattle.ux_run.specs.Entries.{entries_line}
 use Rattle.ux_run.specs.Requests.{request_of}
 use Rattle.ux_run.specs.Running.{Stops, alphabet_format}
 
@@ -25,6 +28,19 @@ some_tokens :
     request_of (codes "tokenize" ∷ codes "t.txt" ∷ codes "a.txt" ∷ [])
     ≡ Some (Tokenize (codes "t.txt") (codes "a.txt"))
 some_tokens = refl
+
+a_check : request_of (codes "check" ∷ codes "d.dic" ∷ []) ≡ Some (Check false (codes "d.dic"))
+a_check = refl
+
+-- an image is not checked yet
+an_image : request_of (codes "check" ∷ codes "d.udi" ∷ []) ≡ None
+an_image = refl
+
+-- but lemmas stand in a file of any name
+some_lemmas :
+    request_of (codes "check" ∷ codes "--delas" ∷ codes "d.udi" ∷ [])
+    ≡ Some (Check true (codes "d.udi"))
+some_lemmas = refl
 
 some_help : request_of (codes "--help" ∷ []) ≡ Some Help
 some_help = refl
@@ -45,6 +61,17 @@ no_fault stops = omega (arith, stops.1)
 refused_line :
     line_of (Refused (codes "g.grf") (Grf grf_error.NoHeader)) ≡ codes "refused: g.grf: NoHeader\n"
 refused_line = refl
+
+-- the line of a dictionary that is refused
+refused_dictionary :
+    line_of (Refused (codes "d.dic") (Dela (dela_error.NoComma 1 3)))
+    ≡ codes "refused: d.dic: NoComma line=1 place=3\n"
+unfolding digits
+refused_dictionary = refl
+
+two_entries : entries_line 2 ≡ codes "entries 2\n"
+unfolding digits
+two_entries = refl
 
 absent_line : line_of (Absent (codes "t.txt")) ≡ codes "absent: t.txt\n"
 absent_line = refl

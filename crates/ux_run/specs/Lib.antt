@@ -1,3 +1,4 @@
+pub mod Entries
 pub mod Grammars
 pub mod Hits
 pub mod Index

@@ -1,5 +1,5 @@
 -- Which requests the program answers: those that are built.
-use Rattle.std.specs.Prelude.{ℕ, ◌&&◌, ◌==◌, nat_eq, Bool, true, false, not, List, length, codes, if◌then◌else◌, Option, Some, None, option_and_then}
+use Rattle.std.specs.Prelude.{ℕ, ◌&&◌, ◌||◌, ◌==◌, nat_eq, Bool, true, false, not, List, length, codes, if◌then◌else◌, Option, Some, None, option_and_then}
 use Rattle.std.specs.List.{ends_with}
 use Rattle.ux_base.specs.declared.settings.Mode.{Mode}
 use Rattle.ux_base.specs.declared.settings.Mode.TheVariants.{Ignore}
@@ -9,7 +9,7 @@ use Rattle.ux_base.specs.declared.settings.Policy.{Policy}
 use Rattle.ux_base.specs.declared.settings.Policy.TheVariants.{All}
 use Rattle.ux_words.specs.Requests as asking
 use Rattle.ux_words.specs.declared.request.Request.{Request}
-use Rattle.ux_words.specs.declared.request.Request.TheVariants.{Locate, Tokenize, Help, Version}
+use Rattle.ux_words.specs.declared.request.Request.TheVariants.{Locate, Tokenize, Check, Help, Version}
 use Rattle.ux_words.specs.declared.request.Search.{Search}
 
 -- outputs are ignored
@@ -37,9 +37,14 @@ is_built_search search =
     is_ignore search.mode && (is_all search.policy && (is_nothing search.novar
     && (length search.dics == 0 && is_drawn search.graph)))
 
+-- the dictionary is a text, and no image
+abbrev pub is_text : List ℕ → Bool
+is_text dic = not (ends_with nat_eq dic (codes ".udi"))
+
 abbrev pub is_built : Request → Bool
 is_built (Locate asked) = is_built_search asked
 is_built (Tokenize text alphabet) = true
+is_built (Check delas file) = delas || is_text file
 is_built Help = true
 is_built Version = true
 is_built request = false

@@ -1,5 +1,5 @@
 -- What a run has to answer, and why it may end otherwise.
-use Rattle.std.specs.Prelude.{◌≡◌, ◌≢◌, ◌⊎◌, ⊤, ℕ, ◌<◌, ◌≤◌, if◌then◌else◌, List, length, Option, Some, None, IfSome, IsSome, IsSomeAnd, Ok, Err, slice_get, take}
+use Rattle.std.specs.Prelude.{◌≡◌, ◌≢◌, ◌⊎◌, ⊤, ℕ, true, false, ◌<◌, ◌≤◌, if◌then◌else◌, List, length, Option, Some, None, IfSome, IsSome, IsSomeAnd, Ok, Err, slice_get, take}
 use Rattle.std.specs.Str.{bytes_eq}
 use Rattle.ux_base.specs.Outside.{Files, file_named, MAX, Rose}
 use Rattle.ux_base.specs.declared.counts.Counts.{Counts}
@@ -17,6 +17,10 @@ use Rattle.ux_net.specs.Refusing as net
 use Rattle.ux_net.specs.Refusing.{IsCompilable}
 use Rattle.ux_net.specs.declared.error.NetError.{NetError}
 use Rattle.ux_net.specs.declared.error.NetError.TheVariants as net_error
+use Rattle.ux_dela.specs.Files as dela
+use Rattle.ux_dela.specs.declared.entry.Entry.{Entry}
+use Rattle.ux_dela.specs.declared.entry.Stem.{Stem}
+use Rattle.ux_dela.specs.declared.error.DelaError.{DelaError}
 use Rattle.ux_tokens.specs.Tokens.{Token, AreTokens}
 use Rattle.ux_tokens.specs.Reading.{HasOpenBrace}
 use Rattle.ux_tokens.specs.Reading as reading
@@ -26,12 +30,13 @@ use Rattle.ux_tokens.specs.declared.text_error.TextError.{TextError}
 use Rattle.ux_tokens.specs.declared.text_error.TextError.TheVariants as text_error
 use Rattle.ux_words.specs.declared.help.TheConstants.{HELP, VERSION}
 use Rattle.ux_words.specs.declared.request.Request.{Request}
-use Rattle.ux_words.specs.declared.request.Request.TheVariants.{Locate, Tokenize, Help, Version}
+use Rattle.ux_words.specs.declared.request.Request.TheVariants.{Locate, Tokenize, Check, Help, Version}
 use Rattle.ux_words.specs.declared.request.Search.{Search}
 use Rattle.ux_run.specs.declared.status.Status.{Status}
 use Rattle.ux_run.specs.declared.status.Status.TheVariants.{Done, Usage, Absent, Refused, ReadFault, WriteFault, TooLarge, NoMemory}
 use Rattle.ux_run.specs.declared.status.Reason.{Reason}
-use Rattle.ux_run.specs.declared.status.Reason.TheVariants.{Decode, Alphabet, Grf, Net, Text, TooManyGraphs}
+use Rattle.ux_run.specs.declared.status.Reason.TheVariants.{Decode, Alphabet, Grf, Net, Text, Dela, TooManyGraphs}
+use Rattle.ux_run.specs.Entries.{entries_line}
 use Rattle.ux_run.specs.Grammars.{next_name, file_of, main_name, callee_file, MOST_GRAPHS}
 use Rattle.ux_run.specs.Hits.{IsHit}
 use Rattle.ux_run.specs.Index.{IsIndex}
@@ -87,6 +92,13 @@ pub record HasTokens (told : Option Files) (name : List ℕ) (alphabet : List Li
   pub are : AreTokens alphabet text tokens
   pub few : length tokens ≤ MAX_TOKENS
 
+-- the dictionary's file has these entries, by what texts of its kind say
+pub record HasEntries {T : Type 0} (AreSaid : List ℕ → List T → Type 0) (told : Option Files)
+    (name : List ℕ) (entries : List T) : Type 0 where
+  pub text : List ℕ
+  pub has : HasText told name text
+  pub are : AreSaid text entries
+
 -- each file of the search is accepted, and the grammar has a meaning
 pub record IsAccepted (search : Search) (told : Option Files) (alphabet : List Line)
     (graphs : List Drawn) (tokens : List Token) : Type 0 where
@@ -116,10 +128,19 @@ pub record IsTokenFileOf (told : Option Files) (name alphabet answer : List ℕ)
   pub accepted : AreTokensOf told name alphabet lines tokens
   pub is : answer ≡ token_file tokens
 
+-- the answer is the number of the dictionary's entries, equal ones each time
+pub record IsCountOf {T : Type 0} (AreSaid : List ℕ → List T → Type 0) (told : Option Files)
+    (name answer : List ℕ) : Type 0 where
+  pub entries : List T
+  pub accepted : HasEntries AreSaid told name entries
+  pub is : answer ≡ entries_line (length entries)
+
 -- what answers a request
 abbrev pub Answers : Request → Option Files → List ℕ → Type 0
 Answers (Locate asked) told answer = IsIndexOf asked told answer
 Answers (Tokenize text alphabet) told answer = IsTokenFileOf told text alphabet answer
+Answers (Check false file) told answer = IsCountOf dela.AreEntries told file answer
+Answers (Check true file) told answer = IsCountOf dela.AreStems told file answer
 Answers Help told answer = answer ≡ HELP.now
 Answers Version told answer = answer ≡ VERSION.now
 Answers request told answer = ⊥
@@ -137,6 +158,10 @@ AreAccepted (Locate asked) told = (alphabet : List Line) × (graphs : List Drawn
     × (tokens : List Token) × IsAccepted asked told alphabet graphs tokens
 AreAccepted (Tokenize text alphabet) told =
     (lines : List Line) × (tokens : List Token) × AreTokensOf told text alphabet lines tokens
+AreAccepted (Check false file) told =
+    (entries : List Entry) × HasEntries dela.AreEntries told file entries
+AreAccepted (Check true file) told =
+    (stems : List Stem) × HasEntries dela.AreStems told file stems
 AreAccepted request told = ⊤
 
 -- the words are a request, the folder tells its files, and those of the request are accepted
@@ -165,6 +190,7 @@ RefusesFile file (Decode error) = IsNoText file error
 RefusesFile file (Alphabet error) = ⊥
 RefusesFile file (Grf error) = ⊥
 RefusesFile file (Text error) = ⊥
+RefusesFile file (Dela error) = ⊥
 RefusesFile file (Net error) = ⊥
 RefusesFile file TooManyGraphs = ⊥
 
@@ -175,6 +201,7 @@ RefusesAlphabet file (Alphabet error) =
     (text : List ℕ) × IsTextOf file text × (alphabet_of text ≡ Err error)
 RefusesAlphabet file (Grf error) = ⊥
 RefusesAlphabet file (Text error) = ⊥
+RefusesAlphabet file (Dela error) = ⊥
 RefusesAlphabet file (Net error) = ⊥
 RefusesAlphabet file TooManyGraphs = ⊥
 
@@ -185,6 +212,7 @@ RefusesGraph file (Alphabet error) = ⊥
 RefusesGraph file (Grf error) =
     (text : List ℕ) × IsTextOf file text × grf.Refuses text error × (error ≢ grf_error.NoMemory)
 RefusesGraph file (Text error) = ⊥
+RefusesGraph file (Dela error) = ⊥
 RefusesGraph file (Net error) = ⊥
 RefusesGraph file TooManyGraphs = ⊥
 
@@ -202,8 +230,20 @@ RefusesText file (Alphabet error) = ⊥
 RefusesText file (Grf error) = ⊥
 RefusesText file (Text error) = (text : List ℕ) × IsTextOf file text
     × (error ≡ text_error.NotYet) × HasOpenBrace text
+RefusesText file (Dela error) = ⊥
 RefusesText file (Net error) = ⊥
 RefusesText file TooManyGraphs = ⊥
+
+-- why a file is no dictionary, by why texts of its kind are refused
+abbrev pub RefusesDictionary : (List ℕ → DelaError → Type 0) → (file : List ℕ) → Reason → Type 0
+RefusesDictionary Refuses file (Decode error) = IsNoText file error
+RefusesDictionary Refuses file (Alphabet error) = ⊥
+RefusesDictionary Refuses file (Grf error) = ⊥
+RefusesDictionary Refuses file (Text error) = ⊥
+RefusesDictionary Refuses file (Dela error) =
+    (text : List ℕ) × IsTextOf file text × Refuses text error
+RefusesDictionary Refuses file (Net error) = ⊥
+RefusesDictionary Refuses file TooManyGraphs = ⊥
 
 -- the file's text has more tokens than a text may have
 pub record HasTooManyTokens (alphabet : List Line) (file : List ℕ) : Type 0 where
@@ -231,6 +271,11 @@ graph_format n = record { Refuses = RefusesGraphAt n; IsTooLarge = λ file. ⊥ 
 -- texts, which are cut by the letters of an alphabet
 abbrev pub text_format : List Line → Format
 text_format alphabet = record { Refuses = RefusesText; IsTooLarge = HasTooManyTokens alphabet }
+
+-- dictionaries whose texts are refused so
+abbrev pub dictionary_format : (List ℕ → DelaError → Type 0) → Format
+dictionary_format Refuses =
+    record { Refuses = RefusesDictionary Refuses; IsTooLarge = λ file. ⊥ }
 
 -- the counts of a folder
 abbrev pub counts_of : {F : Type 0} → (faults misses overlong : F → ℕ) → F → Counts
@@ -331,6 +376,10 @@ abbrev pub Explains : Request → Option Files → Counts → Counts → Status 
 Explains (Locate asked) told old new status = ExplainsSearch asked told old new status
 Explains (Tokenize text alphabet) told old new status =
     ExplainsTokens text alphabet told old new status
+Explains (Check false file) told old new status =
+    Stops (dictionary_format dela.Refuses) file told old new status
+Explains (Check true file) told old new status =
+    Stops (dictionary_format dela.RefusesStems) file told old new status
 Explains request told old new status = status ≡ NoMemory
 
 -- why words are not answered: they are no request, or the request has no answer

@@ -9,12 +9,14 @@ use Rattle.ux_grf.specs.declared.error.GrfError.{GrfError}
 use Rattle.ux_grf.specs.declared.error.GrfError.TheVariants as grf_error
 use Rattle.ux_net.specs.declared.error.NetError.{NetError}
 use Rattle.ux_net.specs.declared.error.NetError.TheVariants as net_error
+use Rattle.ux_dela.specs.declared.error.DelaError.{DelaError}
+use Rattle.ux_dela.specs.declared.error.DelaError.TheVariants as dela_error
 use Rattle.ux_tokens.specs.declared.text_error.TextError.{TextError}
 use Rattle.ux_tokens.specs.declared.text_error.TextError.TheVariants as text_error
 use Rattle.ux_run.specs.declared.status.Status.{Status}
 use Rattle.ux_run.specs.declared.status.Status.TheVariants.{Done, Usage, Absent, Refused, ReadFault, WriteFault, TooLarge, NoMemory}
 use Rattle.ux_run.specs.declared.status.Reason.{Reason}
-use Rattle.ux_run.specs.declared.status.Reason.TheVariants.{Decode, Alphabet, Grf, Net, Text, TooManyGraphs}
+use Rattle.ux_run.specs.declared.status.Reason.TheVariants.{Decode, Alphabet, Grf, Net, Text, Dela, TooManyGraphs}
 
 -- the exit status
 abbrev pub number_of : Status → ℕ
@@ -45,14 +47,17 @@ alphabet_reason (alphabet_error.BadLine line) = codes "BadLine line=" ∷ decima
 alphabet_reason (alphabet_error.EmptyRange line) = codes "EmptyRange line=" ∷ decimal line ∷ []
 alphabet_reason alphabet_error.NoMemory = codes "NoMemory" ∷ []
 
+-- a refusal at a place of what has this number
+abbrev pub at_place : (what : List ℕ) (number place : ℕ) → List (List ℕ)
+at_place what number place = what ∷ decimal number ∷ codes " place=" ∷ decimal place ∷ []
+
 -- the same of a graph
 abbrev pub grf_reason : GrfError → List (List ℕ)
 grf_reason grf_error.NoHeader = codes "NoHeader" ∷ []
 grf_reason grf_error.BadCount = codes "BadCount" ∷ []
 grf_reason (grf_error.BadBoxLine node) = codes "BadBoxLine node=" ∷ decimal node ∷ []
 grf_reason (grf_error.BadTarget node) = codes "BadTarget node=" ∷ decimal node ∷ []
-grf_reason (grf_error.BadContent node place) =
-    codes "BadContent node=" ∷ decimal node ∷ codes " place=" ∷ decimal place ∷ []
+grf_reason (grf_error.BadContent node place) = at_place (codes "BadContent node=") node place
 grf_reason grf_error.NoMemory = codes "NoMemory" ∷ []
 
 -- the same of a text
@@ -60,6 +65,16 @@ abbrev pub text_reason : TextError → List (List ℕ)
 text_reason text_error.TooManyTokens = codes "TooManyTokens" ∷ []
 text_reason text_error.NotYet = codes "NotYet" ∷ []
 text_reason text_error.NoMemory = codes "NoMemory" ∷ []
+
+-- the same of a dictionary
+abbrev pub dela_reason : DelaError → List (List ℕ)
+dela_reason (dela_error.NoComma line place) = at_place (codes "NoComma line=") line place
+dela_reason (dela_error.NoDot line place) = at_place (codes "NoDot line=") line place
+dela_reason (dela_error.EmptyForm line place) = at_place (codes "EmptyForm line=") line place
+dela_reason (dela_error.EmptyCode line place) = at_place (codes "EmptyCode line=") line place
+dela_reason (dela_error.BadEscape line place) = at_place (codes "BadEscape line=") line place
+dela_reason (dela_error.BadClass line place) = at_place (codes "BadClass line=") line place
+dela_reason dela_error.NoMemory = codes "NoMemory" ∷ []
 
 -- a refusal at a node of a graph
 abbrev pub at_node : (what graph : List ℕ) (node : ℕ) → List (List ℕ)
@@ -80,6 +95,7 @@ reason_of (Alphabet error) = alphabet_reason error
 reason_of (Grf error) = grf_reason error
 reason_of (Net error) = net_reason error
 reason_of (Text error) = text_reason error
+reason_of (Dela error) = dela_reason error
 reason_of TooManyGraphs = codes "TooManyGraphs" ∷ []
 
 -- the line of a file that is refused, by its reason

@@ -1,10 +1,12 @@
 //! The top call: the words of a command line in, the result and the status out.
 //!
 //! `top_call::run` does the work over a folder and two sinks; the program `unitex` gives it the real
-//! ones. Begin with `top_call`, then follow the files: `reading`, `graphs`, `searching`, `index`. What
-//! the result has to be stands in `specs/`: `Hits`, `Index`, `Grammars`, `Running`.
+//! ones. Begin with `top_call`, then follow the files: `reading`, `graphs`, `searching`, `index`, and
+//! `checking` for dictionaries. What the result has to be stands in `specs/`: `Hits`, `Index`,
+//! `Grammars`, `Entries`, `Running`.
 #![tactic(auto)]
 
+mod checking;
 mod graphs;
 mod index;
 mod naming;

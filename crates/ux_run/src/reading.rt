@@ -176,7 +176,7 @@ fn no_tokens(alloc: Global, name: &str, error: TextError) -> Status
 }
 
 /// Reads a file, and decodes it.
-fn read_decoded<F: Folder>(alloc: Global, name: &str, folder: &mut F) -> Result<String, Status>
+pub fn read_decoded<F: Folder>(alloc: Global, name: &str, folder: &mut F) -> Result<String, Status>
     ensures kept { F.files folder.new ≡ F.files folder.old }
     ensures counts { NoneFell (counts_of F.faults F.misses F.overlong folder.old)
         (counts_of F.faults F.misses F.overlong folder.new) }

@@ -1,7 +1,7 @@
 //! What the words of the command line ask for, where that is built.
 
 ghost use Rattle.std.specs.Prelude.{◌≡◌, ◌⊎◌, Some, None, IfErr, IfOk, map, string_bytes};
-ghost use Rattle.ux_run.specs.Requests.{is_all, is_built, is_built_search, is_drawn, is_ignore, is_nothing, request_of};
+ghost use Rattle.ux_run.specs.Requests.{is_all, is_built, is_built_search, is_drawn, is_ignore, is_nothing, is_text, request_of};
 
 use crate::status::Status;
 use std::alloc::Global;
@@ -35,6 +35,7 @@ pub fn is_built(request: &Request) -> bool
     match request {
         Request::Locate(search) => is_built_search(search),
         Request::Tokenize { .. } | Request::Help | Request::Version => true,
+        Request::Check { delas, file } => *delas || is_text(file.as_str()),
         _ => false,
     }
 }
@@ -85,4 +86,11 @@ fn is_drawn(graph: &str) -> bool
     ensures { result ≡ is_drawn graph.now }
 {
     !graph.as_bytes().ends_with(b".fst2")
+}
+
+/// Whether the dictionary is a text, and no image.
+fn is_text(dic: &str) -> bool
+    ensures { result ≡ is_text dic.now }
+{
+    !dic.as_bytes().ends_with(b".udi")
 }

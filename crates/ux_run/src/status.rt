@@ -4,6 +4,7 @@ use std::alloc::{AllocError, AllocFailed};
 use ux_alphabet::AlphabetError;
 use ux_base::{NoMemory, Txt};
 use ux_decode::DecodeError;
+use ux_dela::DelaError;
 use ux_grf::GrfError;
 use ux_net::NetError;
 use ux_tokens::TextError;
@@ -42,6 +43,8 @@ pub enum Reason {
     Net(NetError),
     /// The text's own reason.
     Text(TextError),
+    /// The dictionary's own reason.
+    Dela(DelaError),
     /// The grammar has 65,535 graphs before this one.
     TooManyGraphs,
 }

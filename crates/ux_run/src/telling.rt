@@ -4,13 +4,14 @@ ghost use Rattle.std.specs.Prelude.{◌≢◌, ◌≤◌, ◌∷◌, [], OnOk, O
 ghost use Rattle.std.specs.Fmt.{decimal};
 ghost use Rattle.ux_base.specs.Outside.{Rose, Appended, AppendedFront};
 ghost use Rattle.ux_run.specs.declared.status.Status.TheVariants.{Done};
-ghost use Rattle.ux_run.specs.Statuses.{joined, line_of, refusal, reason_of, at_node, decode_reason, alphabet_reason, grf_reason, net_reason, text_reason};
+ghost use Rattle.ux_run.specs.Statuses.{joined, line_of, refusal, reason_of, at_node, decode_reason, alphabet_reason, grf_reason, net_reason, text_reason, at_place, dela_reason};
 
 use crate::status::{Reason, Status};
 use itoa::Buffer;
 use ux_alphabet::AlphabetError;
 use ux_base::{Sink, SinkError, Txt};
 use ux_decode::DecodeError;
+use ux_dela::DelaError;
 use ux_grf::GrfError;
 use ux_net::NetError;
 use ux_tokens::TextError;
@@ -67,6 +68,7 @@ fn say_refusal<E: Sink>(err: &mut E, file: &str, reason: &Reason) -> Result<(), 
         Reason::Grf(error) => say_grf_error(err, file, error),
         Reason::Net(error) => say_net_error(err, file, error),
         Reason::Text(error) => say_text_error(err, file, error),
+        Reason::Dela(error) => say_dela_error(err, file, error),
         Reason::TooManyGraphs => say_name(err, file, "TooManyGraphs"),
     }
 }
@@ -108,18 +110,24 @@ fn say_number<E: Sink>(err: &mut E, file: &str, what: &str, number: usize) -> Re
     say_text(err, file, what, buffer.format(number))
 }
 
-/// Writes the line of a graph whose content is refused at a place.
-fn say_place<E: Sink>(err: &mut E, file: &str, node: u32, place: usize) -> Result<(), SinkError>
+/// Writes the line of a file that is refused at a place, as in `NoComma line=3 place=8`.
+fn say_place<E: Sink>(
+    err: &mut E,
+    file: &str,
+    what: &str,
+    number: usize,
+    place: usize,
+) -> Result<(), SinkError>
     ensures later { E.faults err.old ≤ E.faults err.new }
     ensures cause { OnErr result (Rose (E.faults err.old) (E.faults err.new)) }
     ensures line { OnOk result (Appended (E.written err.old) (E.written err.new)
-        (refusal file.now (codes "BadContent node=" ∷ decimal node ∷ codes " place=" ∷ decimal place ∷ []))) }
+        (refusal file.now (at_place what.now number place))) }
     ensures front { OnErr result (AppendedFront (E.written err.old) (E.written err.new)
-        (refusal file.now (codes "BadContent node=" ∷ decimal node ∷ codes " place=" ∷ decimal place ∷ []))) }
+        (refusal file.now (at_place what.now number place))) }
 {
     let mut first = Buffer::new();
     let mut second = Buffer::new();
-    let node = first.format(node);
+    let number = first.format(number);
     let place = second.format(place);
     say(
         err,
@@ -127,8 +135,8 @@ fn say_place<E: Sink>(err: &mut E, file: &str, node: u32, place: usize) -> Resul
             "refused: ",
             file,
             ": ",
-            "BadContent node=",
-            node,
+            what,
+            number,
             " place=",
             place,
             "\n",
@@ -243,7 +251,9 @@ fn say_grf_error<E: Sink>(err: &mut E, file: &str, error: &GrfError) -> Result<(
             say_number(err, file, "BadBoxLine node=", *node as usize)
         },
         GrfError::BadTarget { node } => say_number(err, file, "BadTarget node=", *node as usize),
-        GrfError::BadContent { node, place } => say_place(err, file, *node, *place),
+        GrfError::BadContent { node, place } => {
+            say_place(err, file, "BadContent node=", *node as usize, *place)
+        },
         GrfError::NoMemory => say_name(err, file, "NoMemory"),
     }
 }
@@ -283,5 +293,37 @@ fn say_text_error<E: Sink>(err: &mut E, file: &str, error: &TextError) -> Result
         TextError::TooManyTokens => say_name(err, file, "TooManyTokens"),
         TextError::NotYet => say_name(err, file, "NotYet"),
         TextError::NoMemory => say_name(err, file, "NoMemory"),
+    }
+}
+
+/// Writes the line of a dictionary that is refused.
+fn say_dela_error<E: Sink>(err: &mut E, file: &str, error: &DelaError) -> Result<(), SinkError>
+    ensures later { E.faults err.old ≤ E.faults err.new }
+    ensures cause { OnErr result (Rose (E.faults err.old) (E.faults err.new)) }
+    ensures line { OnOk result (Appended (E.written err.old) (E.written err.new)
+        (refusal file.now (dela_reason error.now))) }
+    ensures front { OnErr result (AppendedFront (E.written err.old) (E.written err.new)
+        (refusal file.now (dela_reason error.now))) }
+{
+    match error {
+        DelaError::NoComma { line, place } => say_place(err, file, "NoComma line=", *line, *place),
+        DelaError::NoDot { line, place } => say_place(err, file, "NoDot line=", *line, *place),
+        DelaError::EmptyForm { line, place } => {
+            say_place(err, file, "EmptyForm line=", *line, *place)
+        },
+        DelaError::EmptyCode { line, place } => {
+            say_place(err, file, "EmptyCode line=", *line, *place)
+        },
+        DelaError::BadEscape { line, place } => {
+            say_place(err, file, "BadEscape line=", *line, *place)
+        },
+        DelaError::BadClass { line, place } => say_place(
+            err,
+            file,
+            "BadClass line=",
+            *line,
+            *place,
+        ),
+        DelaError::NoMemory => say_name(err, file, "NoMemory"),
     }
 }

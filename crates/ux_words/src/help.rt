@@ -9,6 +9,8 @@ usage: unitex COMMAND ARGUMENTS
     --mode ignore              outputs of the grammar are left out (the default)
     --policy all               every hit is kept (the default)
   tokenize TEXT ALPHABET       reads a text and its letters, writes its tokens
+  check DIC                    reads a dictionary of forms, writes how many entries it has
+    --delas                    the dictionary is one of lemmas with their classes
 
 Options and names of files stand in any order, an option as --name value or --name=value. Behind --
 all words are names of files. --help and --version stand alone.

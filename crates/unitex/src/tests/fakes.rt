@@ -10,6 +10,9 @@ use std::alloc::Global;
 use std::test::Fail;
 use ux_base::{Folder, FolderError, Mem, MemFolder, MemSink};
 
+/// The words that check a dictionary.
+const CHECK: &[&str] = &["check", "d.dic"];
+
 /// A folder in memory with the usual files, in which these reads fail.
 fn folder(alloc: Global, failing: Vec<u64>) -> Mem<MemFolder> {
     let files = usual_files(alloc, LETTERS.as_bytes(), GRAPH.as_bytes(), CATS.as_bytes())?;
@@ -61,6 +64,7 @@ fn names_the_file_whose_read_fails(rt: HostRuntime) -> Result<(), Fail> {
         (SEARCH, 2, "read fault: t.txt\n"),
         (TOKENS, 0, "read fault: a.txt\n"),
         (TOKENS, 1, "read fault: t.txt\n"),
+        (CHECK, 0, "read fault: d.dic\n"),
     ];
     for row in ROWS {
         let got = given_without(rt.alloc(), row.0, row.1)?;
@@ -77,6 +81,7 @@ fn names_the_file_that_is_too_long(rt: HostRuntime) -> Result<(), Fail> {
         (SEARCH, "t.txt", "too large: t.txt\n"),
         (TOKENS, "a.txt", "too large: a.txt\n"),
         (TOKENS, "t.txt", "too large: t.txt\n"),
+        (CHECK, "d.dic", "too large: d.dic\n"),
     ];
     let alloc = rt.alloc();
     for row in ROWS {

@@ -85,7 +85,7 @@ fn answers_usage(rt: HostRuntime) -> Result<(), Fail> {
         (&["concord", "g.grf", "t.txt", "a.txt"], ""),
         (&["tokenize", "--x", "t.txt", "a.txt"], ""),
         (&["tokenize", "t.txt", "a.txt", "a.txt"], ""),
-        (&["check", "d.dic"], ""),
+        (&["compress", "d.dic"], ""),
         (&["--help", "locate"], ""),
     ];
     compare_words(&rt, ROWS, ("usage: unitex COMMAND ARGUMENTS\n", 1))
