@@ -1,6 +1,6 @@
-# `make example` proves and builds the program, and searches the text of examples/ by its graphs.
+# `make example` proves and builds the program, searches the text of examples/ by its graphs, and checks its dictionary.
 # `make install PREFIX=DIR` puts the built program and its manual page under DIR.
-# `make bench` times searches beside GNU grep, and the tokens of a text beside a C program.
+# `make bench` times searches beside GNU grep, the tokens of a text beside a C program, and dictionaries beside wc.
 
 PREFIX ?= /usr/local
 
@@ -8,6 +8,7 @@ PREFIX ?= /usr/local
 
 example:
 	@cd crates/unitex && rt run -- locate ../../examples/time.grf ../../examples/text.txt ../../examples/alphabet.txt
+	@crates/unitex/out/unitex check examples/animals.dic
 
 install:
 	@test -x crates/unitex/out/unitex || { echo 'build the program first: make example' >&2; exit 1; }
@@ -18,6 +19,7 @@ bench:
 	@bench/locate_word.sh
 	@bench/grammars.py
 	@bench/tokenize.py
+	@bench/check.py
 
 gate:
 	@rt ci
