@@ -1,0 +1,93 @@
+-- Rows of compound entries, of which only those with an entry are kept.
+use Rattle.std.proofs.Common.{arith, below_more, ◌≡◌, ◌≢◌, ℕ, zero, suc, ◌+◌, ◌<◌, ◌≤◌, List, [], ◌∷◌, ◌++◌, length, get_or, refl, sym, ◌∙◌, ap, subst}
+use Rattle.std.specs.Prelude.{Option, Some, None, IsSomeAnd, Vec, slice_get}
+use Rattle.std.specs.BTreeMap.{BTreeMap, is_at}
+use Rattle.std.specs.Map.{lookup}
+use Rattle.std.specs.Ordering.{nat_cmp}
+use Rattle.std.proofs.lemmas.List.{length_push, get_or_push, get_or_append_left}
+use Rattle.std.proofs.lemmas.Option.{same_Some, slice_get_within, slice_get-get_or, get_or_from_slice_get}
+use Rattle.ux_alphabet.specs.declared.line.Line.{Line}
+use Rattle.ux_dela.specs.declared.entry.Entry.{Entry}
+use Rattle.ux_tokens.specs.Tokens.{Token}
+use Rattle.ux_apply.specs.declared.priority.Priority.{Priority}
+use Rattle.ux_apply.specs.Tables.{IsCompoundRow, AreCompounds}
+use Rattle.ux_apply.specs.Kept.{AreRowsUpTo, items_in, row_of, table_of}
+
+module _ {X : Type 0} (at : ℕ → X) where
+  -- a table has a row for each place
+  pub length-table : (end : ℕ) → length (table_of at end) ≡ end
+  length-table zero = refl
+  length-table (suc end) =
+      length_push (table_of at end) (at end) ∙ omega (arith, length-table end)
+
+  get_or-table : (end place : ℕ) (d : X) → place < end → get_or (table_of at end) place d ≡ at place
+  get_or-table zero place d lt = absurd (omega arith)
+  get_or-table (suc end) place d lt =
+      let long = length-table end in
+      below_more (λ k. get_or (table_of at end ++ at end ∷ []) k d ≡ at k) end
+      (λ k below.
+      get_or_append_left (table_of at end) (at end ∷ []) d k (omega (arith, long, below))
+      ∙ get_or-table end k d below)
+      (get_or_push (table_of at end) (at end) d end long) place (omega (arith, lt))
+
+  -- which is what there is at the place
+  pub table-at : (end place : ℕ) → place < end → slice_get (table_of at end) place ≡ Some (at place)
+  table-at end place lt =
+      let long = length-table end in
+      slice_get-get_or (table_of at end) place (at place) (omega (arith, long, lt))
+      ∙ ap (λ (x : X). Some x) (get_or-table end place (at place) lt)
+
+  pub table-row : (end place : ℕ) (row : X) → slice_get (table_of at end) place ≡ Some row →
+      (place < end) × (row ≡ at place)
+  table-row end place row is =
+      let long = length-table end in
+      let within = slice_get_within (table_of at end) place row is in
+      let below : place < end = omega (arith, long, within) in
+      (below, same_Some row (at place) (sym is ∙ table-at end place below))
+
+  pub table-some : (end place : ℕ) (row : X) → place < end → row ≡ at place →
+      IsSomeAnd (slice_get (table_of at end) place) (λ given. row ≡ given)
+  table-some end place row lt is =
+      subst (λ (o : Option X). IsSomeAnd o (λ given. row ≡ given)) (sym (table-at end place lt)) is
+
+module _ {Z : Type 0} (lines : List Line) (dics : List (Priority × List Entry))
+    (tokens : List Token) where
+  -- no row is kept at first
+  pub rows-start : (rows : BTreeMap ℕ (Vec (ℕ × Entry) Z)) → rows.entries ≡ [] →
+      AreRowsUpTo lines dics tokens 0 rows
+  rows-start rows none = record {
+    each = λ first lt. absurd (omega arith);
+    others = λ first past. ap (λ (es : List (ℕ × Vec (ℕ × Entry) Z)).
+        items_in (lookup (is_at (nat_cmp first)) es)) none;
+  }
+
+  -- one row more
+  pub rows-more : (place : ℕ) (old new : BTreeMap ℕ (Vec (ℕ × Entry) Z)) (row : List (ℕ × Entry)) →
+      AreRowsUpTo lines dics tokens place old → IsCompoundRow lines dics tokens place row →
+      (row_of old place ≡ [] → row_of new place ≡ row) →
+      ((other : ℕ) → other ≢ place → row_of new other ≡ row_of old other) →
+      AreRowsUpTo lines dics tokens (place + 1) new
+  rows-more place old new row before is here others =
+      let own : row_of new place ≡ row = here (before.others place (omega arith)) in record {
+        each = below_more (λ first. IsCompoundRow lines dics tokens first (row_of new first)) place
+            (λ first lt.
+            let other : first ≢ place = omega (arith, lt) in
+            subst (IsCompoundRow lines dics tokens first) (sym (others first other))
+            (before.each first lt))
+            (subst (IsCompoundRow lines dics tokens place) (sym own) is);
+        others = λ first past.
+            let other : first ≢ place = omega (arith, past) in
+            others first other ∙ before.others first (omega (arith, past));
+      }
+
+  -- the table of all of them
+  pub rows-whole : (rows : BTreeMap ℕ (Vec (ℕ × Entry) Z)) (end : ℕ) → end ≡ length tokens →
+      AreRowsUpTo lines dics tokens (length tokens) rows →
+      AreCompounds lines dics tokens (table_of (row_of rows) end)
+  rows-whole rows end long all = record {
+    each_token = length-table (row_of rows) end ∙ long;
+    each = λ first row is.
+        let at = table-row (row_of rows) end first row is in
+        subst (IsCompoundRow lines dics tokens first) (sym at.1)
+        (all.each first (omega (arith, at.0, long)));
+  }

@@ -1,0 +1,42 @@
+use Rattle.std.proofs.Common.{List, ℕ, ◌+◌, ◌≡◌, arith, length, subst, sym}
+use Rattle.ux_dela.specs.declared.entry.Entry.{Entry}
+use Rattle.ux_apply.specs.Applying.{contents}
+use Rattle.ux_apply.specs.Tables.{AreCompoundUpTo, start, more}
+use Rattle.ux_apply.proofs.SpanLemmas.{front-start, row-whole}
+use Rattle.ux_apply.proofs.compounds.spans_from.Goals as goal
+
+pub loop-last-init : goal.loop-last-init
+loop-last-init g c = record {
+  row = subst
+      (λ (l : List (ℕ × Entry)). AreCompoundUpTo c.args.alphabet.now
+      (contents g.L.Lexicon.content c.args.dics.now) c.args.text.now c.args.first
+      (c.args.first + 1) l)
+      (sym c.new-row.ensures.items) start;
+  front = front-start c.args.text.now c.args.first c.requires.begins;
+}
+
+pub loop-last-preserved : goal.loop-last-preserved
+loop-last-preserved g c = record {
+  row = subst
+      (λ (l : List (ℕ × Entry)). AreCompoundUpTo c.args.alphabet.now
+      (contents g.L.Lexicon.content c.args.dics.now) c.args.text.now c.args.first
+      (c.loop-last.last + 1) l)
+      (sym c.in_ok-push_row-in-Some.ensures)
+      (more c.loop-last.last c.loop-last.row.items c.in-Some.entries.items
+      c.loop-last.invariant.row (rw c.in-Some.is at c.in_ok-entries.ensures.entries));
+  front = rw c.in-Some.is at c.in_ok-entries.ensures.goes_on;
+}
+
+pub returns-in-None : goal.returns-in-None
+returns-in-None g c =
+    row-whole c.args.alphabet.now (contents g.L.Lexicon.content c.args.dics.now) c.args.text.now
+    c.args.first c.loop-last.last c.loop-last.row.items (omega arith) c.loop-last.invariant.row
+    (rw c.in-None.is at c.in_ok-entries.ensures.entries)
+
+pub returns : goal.returns
+returns g c =
+    let end : c.loop-last.last ≡ length c.args.text.now = omega arith in
+    subst
+    (λ (k : ℕ). AreCompoundUpTo c.args.alphabet.now
+    (contents g.L.Lexicon.content c.args.dics.now) c.args.text.now c.args.first k
+    c.loop-last.row.items) end c.loop-last.invariant.row

@@ -1,0 +1,57 @@
+-- Which entries apply to one text, by the priorities of the dictionaries. The manual, on applying
+-- dictionaries.
+use Rattle.std.specs.Prelude.{◌≡◌, ◌≢◌, ℕ, Bool, true, false, cond, List, [], ◌∷◌, ◌++◌, Contains, map}
+use Rattle.ux_alphabet.specs.declared.line.Line.{Line}
+use Rattle.ux_dela.specs.declared.entry.Entry.{Entry}
+use Rattle.ux_dict.specs.Forms.{IsFitting}
+use Rattle.ux_apply.specs.declared.priority.Priority.{Priority}
+use Rattle.ux_apply.specs.declared.priority.Priority.TheVariants.{High, Normal, Low}
+
+-- each dictionary as its priority and its content
+abbrev pub contents : {L : Type 0} → (L → List Entry) → List (Priority × L) →
+    List (Priority × List Entry)
+contents content dics = map (λ dic. (dic.0, content dic.1)) dics
+
+-- whether both are one priority
+abbrev pub is_same : (priority other : Priority) → Bool
+is_same High High = true
+is_same High Normal = false
+is_same High Low = false
+is_same Normal High = false
+is_same Normal Normal = true
+is_same Normal Low = false
+is_same Low High = false
+is_same Low Normal = false
+is_same Low Low = true
+
+-- the entries of all dictionaries of a priority, one dictionary after the other
+abbrev pub content_at : Priority → List (Priority × List Entry) → List Entry
+content_at priority [] = []
+content_at priority (dic ∷ dics) =
+    cond (is_same dic.0 priority) dic.1 [] ++ content_at priority dics
+
+-- the second list has the entries of the first one, each at its first place alone
+pub data AreOnce : (all once : List Entry) → Type 0 where
+  empty : AreOnce [] []
+  new : (all once : List Entry) (entry : Entry) → AreOnce all once → (Contains once entry → ⊥) →
+      AreOnce (all ++ entry ∷ []) (once ++ entry ∷ [])
+  known : (all once : List Entry) (entry : Entry) → AreOnce all once → Contains once entry →
+      AreOnce (all ++ entry ∷ []) once
+
+-- the entries of dictionaries of this priority whose forms fit the text, each once
+pub record AreFound (lines : List Line) (dics : List (Priority × List Entry)) (text : List ℕ)
+    (priority : Priority) (entries : List Entry) : Type 0 where
+  pub fitting : List Entry
+  pub fit : IsFitting lines text (content_at priority dics) fitting
+  pub once : AreOnce fitting entries
+
+-- the entries that apply to the text are those of the highest priority that has any
+pub data AreApplying (lines : List Line) (dics : List (Priority × List Entry)) (text : List ℕ) :
+    (entries : List Entry) → Type 0 where
+  high : {entries : List Entry} → AreFound lines dics text High entries → entries ≢ [] →
+      AreApplying lines dics text entries
+  normal : {entries : List Entry} → AreFound lines dics text High [] →
+      AreFound lines dics text Normal entries → entries ≢ [] → AreApplying lines dics text entries
+  low : {entries : List Entry} → AreFound lines dics text High [] →
+      AreFound lines dics text Normal [] → AreFound lines dics text Low entries →
+      AreApplying lines dics text entries

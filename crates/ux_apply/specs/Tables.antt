@@ -1,0 +1,83 @@
+-- Which entries apply to the tokens and spans of a text. The manual, on applying dictionaries.
+use Rattle.std.specs.Prelude.{◌≡◌, ◌↔◌, ℕ, ◌+◌, ◌<◌, List, [], ◌∷◌, ◌++◌, Some, Contains, length, map, slice_get}
+use Rattle.std.specs.List.{AllZip}
+use Rattle.std.specs.List.Sorted.{IsStrictlyIncreasing}
+use Rattle.ux_alphabet.specs.declared.line.Line.{Line}
+use Rattle.ux_dela.specs.declared.entry.Entry.{Entry}
+use Rattle.ux_tokens.specs.declared.kind.Kind.{Kind}
+use Rattle.ux_tokens.specs.declared.kind.Kind.TheVariants.{Word, Space, Other, Sentence, Stop, Tag}
+use Rattle.ux_tokens.specs.Tokens.{Token}
+use Rattle.ux_tokens.specs.Numbers.{different_texts}
+use Rattle.ux_apply.specs.declared.priority.Priority.{Priority}
+use Rattle.ux_apply.specs.Applying.{AreApplying}
+use Rattle.ux_apply.specs.Spans.{IsSpan, text_of}
+
+-- the entries of a text: a row of simple ones and a row of compound ones for each token, these with
+-- their last tokens, and the numbers of the unknown words
+pub record Tables : Type 0 where
+  pub simple : List (List Entry)
+  pub compounds : List (List (ℕ × Entry))
+  pub unknown : List ℕ
+
+module _ (lines : List Line) (dics : List (Priority × List Entry)) where
+  -- a word has the simple entries that apply to its text, and another token has none
+  abbrev pub AreSimpleOf : Kind → (text : List ℕ) → List Entry → Type 0
+  AreSimpleOf Word text entries = AreApplying lines dics text entries
+  AreSimpleOf Space text entries = entries ≡ []
+  AreSimpleOf Other text entries = entries ≡ []
+  AreSimpleOf Sentence text entries = entries ≡ []
+  AreSimpleOf Stop text entries = entries ≡ []
+  AreSimpleOf Tag text entries = entries ≡ []
+
+  -- each token has its simple entries
+  abbrev pub AreSimple : List Token → List (List Entry) → Type 0
+  AreSimple tokens rows = AllZip (λ token entries. AreSimpleOf token.kind token.text entries) tokens rows
+
+module _ (lines : List Line) (dics : List (Priority × List Entry)) (tokens : List Token)
+    (first : ℕ) where
+  -- a span has the entries that apply to its text, and other neighbouring tokens have none
+  pub record AreOfSpan (last : ℕ) (entries : List Entry) : Type 0 where
+    pub applying : IsSpan tokens first last →
+        AreApplying lines dics (text_of tokens first last) entries
+    pub none : (IsSpan tokens first last → ⊥) → entries ≡ []
+
+  -- the row has the entries of all spans that begin at the token, have two or more tokens and end
+  -- before a place, in order of last token
+  pub data AreCompoundUpTo : (end : ℕ) (row : List (ℕ × Entry)) → Type 0 where
+    start : AreCompoundUpTo (first + 1) []
+    more : (last : ℕ) (row : List (ℕ × Entry)) (entries : List Entry) →
+        AreCompoundUpTo last row → AreOfSpan last entries →
+        AreCompoundUpTo (last + 1) (row ++ map (λ entry. (last, entry)) entries)
+
+module _ (lines : List Line) (dics : List (Priority × List Entry)) (tokens : List Token) where
+  -- the row has the compound entries that begin at a token
+  abbrev pub IsCompoundRow : (first : ℕ) (row : List (ℕ × Entry)) → Type 0
+  IsCompoundRow first row = AreCompoundUpTo lines dics tokens first (length tokens) row
+
+  -- each token has the compound entries that begin there
+  pub record AreCompounds (rows : List (List (ℕ × Entry))) : Type 0 where
+    pub each_token : length rows ≡ length tokens
+    pub each : (first : ℕ) (row : List (ℕ × Entry)) → slice_get rows first ≡ Some row →
+        IsCompoundRow first row
+
+module _ (tokens : List Token) (simple : List (List Entry)) where
+  -- a word of this number has no simple entry
+  pub record IsUnknown (number : ℕ) : Type 0 where
+    pub place : ℕ
+    pub token : Token
+    pub stands : slice_get tokens place ≡ Some token
+    pub word : token.kind ≡ Word
+    pub numbered : slice_get (different_texts tokens) number ≡ Some token.text
+    pub none : slice_get simple place ≡ Some []
+
+  -- the numbers are those of the unknown words, each once and ascending
+  pub record AreUnknown (numbers : List ℕ) : Type 0 where
+    pub ascending : IsStrictlyIncreasing numbers
+    pub exact : (number : ℕ) → Contains numbers number ↔ IsUnknown number
+
+-- the tables are those of the dictionaries over the tokens
+pub record AreApplied (lines : List Line) (dics : List (Priority × List Entry))
+    (tokens : List Token) (tables : Tables) : Type 0 where
+  pub simple : AreSimple lines dics tokens tables.simple
+  pub compounds : AreCompounds lines dics tokens tables.compounds
+  pub unknown : AreUnknown tokens tables.simple tables.unknown

@@ -1,0 +1,13 @@
+-- Words without a simple entry, by their numbers and the rows of these.
+use Rattle.std.specs.Prelude.{◌≡◌, ℕ, List, [], Option, None, Some, Contains, Vec}
+use Rattle.ux_dela.specs.declared.entry.Entry.{Entry}
+use Rattle.ux_apply.specs.Kept.{row_at}
+
+-- the word has the number, whose row is empty
+abbrev pub HasNoRow : {Z : Type 0} → List (Vec Entry Z) → (number : ℕ) (word : Option ℕ) → Type 0
+HasNoRow rows number word = (word ≡ Some number) × (row_at rows word ≡ [])
+
+-- some word has the number, whose row is empty
+abbrev pub IsWithoutRow : {Z : Type 0} → List (Option ℕ) → List (Vec Entry Z) → (number : ℕ) →
+    Type 0
+IsWithoutRow words rows number = Contains words (Some number) × (row_at rows (Some number) ≡ [])

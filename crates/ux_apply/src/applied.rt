@@ -1,0 +1,97 @@
+//! The entries that apply to a text.
+//!
+//! Simple entries are kept once for each different token, and compound ones only for the tokens at
+//! which some begin.
+
+ghost use Rattle.std.specs.Prelude.{◌≡◌, ◌<◌, IfOk, IsSomeAnd, length, slice_get};
+ghost use Rattle.ux_apply.specs.Applying.{contents};
+ghost use Rattle.ux_apply.specs.Tables.{AreApplied};
+
+use crate::compounds::{Rows, compounds};
+use crate::numbered::{begins_by_number, entries_by_number, first_places, word_numbers};
+use crate::priority::Priority;
+use crate::unknown::{row, unknown_numbers};
+use std::alloc::Global;
+use std::marker::Model;
+use ux_alphabet::Alphabet;
+use ux_base::Mem;
+use ux_dela::Entry;
+use ux_dict::Lexicon;
+use ux_tokens::Text;
+
+/// The entries that apply to a text. Contracts see it as the tables of them, with one row a token.
+#[derive(Drop)]
+pub struct Applied {
+    /// The number of each token that is a word.
+    words: Vec<Option<u32>>,
+    /// The entries of each different token, by its number.
+    entries: Vec<Vec<Entry>>,
+    compounds: Rows,
+    unknown: Vec<u32>,
+}
+
+impl Model for Applied {
+    ghost use Rattle.std.specs.Prelude.{map, length};
+    ghost use Rattle.ux_apply.specs.Tables.{Tables};
+    ghost use Rattle.ux_apply.specs.Kept.{row_at, row_of, table_of};
+
+    ghost Value = { Tables };
+
+    ghost view = { λ a. record {
+      simple = map (row_at a.entries.items) a.words.items;
+      compounds = table_of (row_of a.compounds) (length a.words.items);
+      unknown = a.unknown.items;
+    } };
+}
+
+impl Applied {
+    /// The entries of the dictionaries that apply to the text, by the priorities of these.
+    pub fn of<L: Lexicon>(
+        alloc: Global,
+        text: &Text,
+        alphabet: &Alphabet,
+        dics: &[(Priority, L)],
+    ) -> Mem<Applied>
+        ensures { IfOk result (AreApplied alphabet.now (contents L.content dics.now) text.now) }
+    {
+        let places = first_places(alloc, text)?;
+        let entries = entries_by_number(alloc, text, &places, alphabet, dics)?;
+        let begins = begins_by_number(alloc, text, &places, alphabet, dics)?;
+        let compounds = compounds(alloc, text, &begins, alphabet, dics)?;
+        let words = word_numbers(alloc, text)?;
+        let unknown = unknown_numbers(alloc, &words, &entries)?;
+        Ok(Applied {
+            words,
+            entries,
+            compounds,
+            unknown,
+        })
+    }
+
+    /// The simple entries of a token. Takes no memory.
+    pub fn simple(&self, i: usize) -> &[Entry]
+        requires { i < length self.now.simple }
+        ensures { IsSomeAnd (slice_get self.now.simple i) (λ row. result.now ≡ row) }
+    {
+        row(&self.entries, self.words[i])
+    }
+
+    /// The compound entries that begin at a token, each with its last token, in order of last
+    /// token. Takes no memory.
+    pub fn compounds(&self, i: usize) -> &[(usize, Entry)]
+        requires { i < length self.now.compounds }
+        ensures { IsSomeAnd (slice_get self.now.compounds i) (λ row. result.now ≡ row) }
+    {
+        match self.compounds.get(&i) {
+            Some(row) => row.as_slice(),
+            None => &[],
+        }
+    }
+
+    /// The numbers of the words without a simple entry, each once and ascending. Takes no memory.
+    pub fn unknown(&self) -> &[u32]
+        ensures { result.now ≡ self.now.unknown }
+    {
+        self.unknown.as_slice()
+    }
+}

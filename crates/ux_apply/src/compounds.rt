@@ -1,0 +1,184 @@
+//! The compound entries of a text: those of spans of two or more tokens.
+
+ghost use Rattle.std.specs.Prelude.{◌≡◌, ◌↔◌, ◌+◌, ◌<◌, ◌++◌, ◌≢◌, ℕ, [], Some, false, IfOk, IsFalse, IsTrue, MatchOption, OnOk, IfSome, IsSomeAnd, length, map, slice_get};
+ghost use Rattle.std.specs.List.{AllZip};
+ghost use Rattle.ux_tokens.specs.Numbers.{different_texts};
+ghost use Rattle.ux_apply.specs.Applying.{contents};
+ghost use Rattle.ux_apply.specs.Kept.{AreRowsUpTo, HaveNone, IsFront, IsMarked, row_of};
+ghost use Rattle.ux_apply.specs.Spans.{MayBound, MayStand};
+ghost use Rattle.ux_apply.specs.Tables.{AreOfSpan, IsCompoundRow};
+
+use crate::applying::{applying, may_begin};
+use crate::priority::Priority;
+use std::alloc::{AllocError, Global};
+use std::collections::BTreeMap;
+use ux_alphabet::Alphabet;
+use ux_base::Mem;
+use ux_dela::Entry;
+use ux_dict::Lexicon;
+use ux_tokens::Text;
+use ux_tokens::kind::Kind;
+
+/// Compound entries with their last tokens, by first token, where there are any.
+pub(crate) type Rows = BTreeMap<usize, Vec<(usize, Entry)>>;
+
+/// The compound entries of the text. No span is tried that is longer than the longest form, or
+/// behind one with which no form may begin.
+pub(crate) fn compounds<L: Lexicon>(
+    alloc: Global,
+    text: &Text,
+    begins: &[bool],
+    alphabet: &Alphabet,
+    dics: &[(Priority, L)],
+) -> Mem<Rows>
+    requires { AllZip (IsMarked alphabet.now (contents L.content dics.now))
+        (different_texts text.now) begins.now }
+    ensures { IfOk result
+        (AreRowsUpTo alphabet.now (contents L.content dics.now) text.now (length text.now)) }
+{
+    let mut rows = BTreeMap::new(alloc);
+    for first in 0..text.len() {
+        let row = row_from(alloc, text, first, begins, alphabet, dics)?;
+        put_row(&mut rows, first, row)?;
+    }
+    Ok(rows)
+}
+
+/// Keeps the row, if it isn't empty.
+fn put_row(rows: &mut Rows, first: usize, row: Vec<(usize, Entry)>) -> Mem<()>
+    ensures here { OnOk result (row_of rows.old first ≡ [] → row_of rows.new first ≡ row.items) }
+    ensures others { OnOk result ((other : ℕ) → other ≢ first →
+        row_of rows.new other ≡ row_of rows.old other) }
+{
+    if !row.is_empty() {
+        rows.insert(first, row)?;
+    }
+    Ok(())
+}
+
+/// The compound entries that begin at a token.
+fn row_from<L: Lexicon>(
+    alloc: Global,
+    text: &Text,
+    first: usize,
+    begins: &[bool],
+    alphabet: &Alphabet,
+    dics: &[(Priority, L)],
+) -> Mem<Vec<(usize, Entry)>>
+    requires marked { AllZip (IsMarked alphabet.now (contents L.content dics.now))
+        (different_texts text.now) begins.now }
+    requires within { first < length text.now }
+    ensures { IfOk result (λ row.
+        IsCompoundRow alphabet.now (contents L.content dics.now) text.now first row.items) }
+{
+    if !may_bound(text.kind(first)) {
+        return Ok(Vec::new(alloc));
+    }
+    if !is_marked(begins, text.number(first)) {
+        return Ok(Vec::new(alloc));
+    }
+    spans_from(alloc, text, first, alphabet, dics)
+}
+
+/// The compound entries of the spans that begin at a token, one span after the other.
+fn spans_from<L: Lexicon>(
+    alloc: Global,
+    text: &Text,
+    first: usize,
+    alphabet: &Alphabet,
+    dics: &[(Priority, L)],
+) -> Mem<Vec<(usize, Entry)>>
+    requires begins { IsSomeAnd (slice_get text.now first) (λ token. MayBound token.kind) }
+    requires within { first < length text.now }
+    ensures { IfOk result (λ row.
+        IsCompoundRow alphabet.now (contents L.content dics.now) text.now first row.items) }
+{
+    let end = text.len();
+    let mut row = Vec::new(alloc);
+    for last in first + 1..end {
+        match entries_of_span(alloc, text, first, last, alphabet, dics)? {
+            Some(entries) => push_row(&mut row, last, entries)?,
+            None => return Ok(row),
+        }
+    }
+    Ok(row)
+}
+
+/// Whether the token of this number is marked, or has no mark.
+fn is_marked(marks: &[bool], number: u32) -> bool
+    ensures { IsFalse result ↔ (slice_get marks.now number ≡ Some false) }
+{
+    match marks.get(number as usize) {
+        Some(mark) => *mark,
+        None => true,
+    }
+}
+
+/// Puts the entries last, with their last token.
+fn push_row(
+    row: &mut Vec<(usize, Entry)>,
+    last: usize,
+    entries: Vec<Entry>,
+) -> Result<(), AllocError>
+    ensures { OnOk result
+        (row.new.items ≡ row.old.items ++ map (λ entry. (last, entry)) entries.items) }
+{
+    for entry in entries {
+        row.push((last, entry))?;
+    }
+    Ok(())
+}
+
+/// The entries of the span from the first token to the last, or nothing where no longer span has
+/// any either.
+fn entries_of_span<L: Lexicon>(
+    alloc: Global,
+    text: &Text,
+    first: usize,
+    last: usize,
+    alphabet: &Alphabet,
+    dics: &[(Priority, L)],
+) -> Mem<Option<Vec<Entry>>>
+    requires front { IsFront text.now first last }
+    requires in_order { first < last }
+    requires within { last < length text.now }
+    ensures entries { IfOk result (λ found. MatchOption found
+        (HaveNone alphabet.now (contents L.content dics.now) text.now first last)
+        (λ entries. AreOfSpan alphabet.now (contents L.content dics.now) text.now first last
+        entries.items)) }
+    ensures goes_on { IfOk result (λ found. IfSome found
+        (λ _. IsFront text.now first (last + 1))) }
+{
+    let kind = text.kind(last);
+    if !may_stand(kind) {
+        return Ok(None);
+    }
+    let span = text.slice(first, last);
+    if !may_begin(alloc, span, alphabet, dics)? {
+        return Ok(None);
+    }
+    if !may_bound(kind) {
+        return Ok(Some(Vec::new(alloc)));
+    }
+    Ok(Some(applying(alloc, span, alphabet, dics)?))
+}
+
+/// Whether a token of this kind may stand in a span.
+fn may_stand(kind: Kind) -> bool
+    ensures { IsTrue result ↔ MayStand kind }
+{
+    match kind {
+        Kind::Word | Kind::Space | Kind::Other => true,
+        Kind::Sentence | Kind::Stop | Kind::Tag => false,
+    }
+}
+
+/// Whether a token of this kind may be the first or the last one of a span.
+fn may_bound(kind: Kind) -> bool
+    ensures { IsTrue result ↔ MayBound kind }
+{
+    match kind {
+        Kind::Word | Kind::Other => true,
+        Kind::Space | Kind::Sentence | Kind::Stop | Kind::Tag => false,
+    }
+}

@@ -1,0 +1,98 @@
+//! What is asked once for each different token of a text, in the order of their numbers.
+
+ghost use Rattle.std.specs.Prelude.{◌≡◌, ◌<◌, IfOk, IsSomeAnd, length, slice_get};
+ghost use Rattle.std.specs.List.{AllZip};
+ghost use Rattle.ux_tokens.specs.Numbers.{different_texts};
+ghost use Rattle.ux_apply.specs.Applying.{AreApplying, contents};
+ghost use Rattle.ux_apply.specs.Kept.{HasText, IsMarked, IsWordNumber};
+
+use crate::applying::{applying, may_begin};
+use crate::priority::Priority;
+use std::alloc::Global;
+use ux_alphabet::Alphabet;
+use ux_base::Mem;
+use ux_dela::Entry;
+use ux_dict::Lexicon;
+use ux_tokens::Text;
+use ux_tokens::kind::Kind;
+
+/// The places where the different tokens first appear.
+pub(crate) fn first_places(alloc: Global, text: &Text) -> Mem<Vec<usize>>
+    ensures { IfOk result (λ places.
+        AllZip (HasText text.now) (different_texts text.now) places.items) }
+{
+    let mut places = Vec::new(alloc);
+    for place in 0..text.len() {
+        let number = text.number(place);
+        if places.len() <= number as usize {
+            places.push(place)?;
+        }
+    }
+    Ok(places)
+}
+
+/// The entries that apply to the text of each different token.
+pub(crate) fn entries_by_number<L: Lexicon>(
+    alloc: Global,
+    text: &Text,
+    places: &[usize],
+    alphabet: &Alphabet,
+    dics: &[(Priority, L)],
+) -> Mem<Vec<Vec<Entry>>>
+    requires { AllZip (HasText text.now) (different_texts text.now) places.now }
+    ensures { IfOk result (λ rows. AllZip
+        (λ text row. AreApplying alphabet.now (contents L.content dics.now) text row.items)
+        (different_texts text.now) rows.items) }
+{
+    let mut rows = Vec::new(alloc);
+    for place in places {
+        let row = applying(alloc, text.token(*place), alphabet, dics)?;
+        rows.push(row)?;
+    }
+    Ok(rows)
+}
+
+/// Whether some form may begin with the text of each different token.
+pub(crate) fn begins_by_number<L: Lexicon>(
+    alloc: Global,
+    text: &Text,
+    places: &[usize],
+    alphabet: &Alphabet,
+    dics: &[(Priority, L)],
+) -> Mem<Vec<bool>>
+    requires { AllZip (HasText text.now) (different_texts text.now) places.now }
+    ensures { IfOk result (λ marks. AllZip
+        (IsMarked alphabet.now (contents L.content dics.now)) (different_texts text.now)
+        marks.items) }
+{
+    let mut marks = Vec::new(alloc);
+    for place in places {
+        let may = may_begin(alloc, text.token(*place), alphabet, dics)?;
+        marks.push(may)?;
+    }
+    Ok(marks)
+}
+
+/// The number of each token that is a word.
+pub(crate) fn word_numbers(alloc: Global, text: &Text) -> Mem<Vec<Option<u32>>>
+    ensures { IfOk result (λ numbers.
+        AllZip (IsWordNumber text.now) text.now numbers.items) }
+{
+    let mut numbers = Vec::new(alloc);
+    for place in 0..text.len() {
+        numbers.push(word_number(text, place))?;
+    }
+    Ok(numbers)
+}
+
+/// The number of the token at the place, if it is a word.
+fn word_number(text: &Text, place: usize) -> Option<u32>
+    requires { place < length text.now }
+    ensures { IsSomeAnd (slice_get text.now place)
+        (λ token. IsWordNumber text.now token result) }
+{
+    match text.kind(place) {
+        Kind::Word => Some(text.number(place)),
+        Kind::Space | Kind::Other | Kind::Sentence | Kind::Stop | Kind::Tag => None,
+    }
+}
