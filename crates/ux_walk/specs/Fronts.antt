@@ -178,17 +178,6 @@ pub record Gains (Told : ℕ → ℕ → Type 0) (front : ℕ) (old new : Fronts
   pub turns : (number to : ℕ) →
       TurnsTo new front number to ↔ (TurnsTo old front number to ⊎ Told number to)
 
-module _ (tokens : List Token) (start : ℕ) where
-  -- the position behind so many tokens that literals take from the start
-  abbrev pub behind : ℕ → ℕ
-  behind zero = start
-  behind (suc n) = skip tokens (behind n) + 1
-
-  -- the events of these tokens, latest first
-  abbrev pub taken : ℕ → List Event
-  taken zero = []
-  taken (suc n) = Take (behind n) (behind (suc n)) ∷ taken n
-
 -- the derivation that ends where a front was read, where one ends
 abbrev pub ends_of : Reading → ℕ → List Event → List (ℕ × List Event)
 ends_of Beyond at events = []

@@ -12,7 +12,6 @@ ghost use Rattle.ux_walk.specs.LookUps.{AreSound};
 use crate::fronts::{Fronts, Reading};
 use crate::look_ups::LookUps;
 use crate::matching::{may_stand_for, skip};
-use crate::straight::is_beyond;
 use crate::walking::walk_through;
 use std::alloc::{AllocError, Global};
 use std::collections::BTreeSet;
@@ -24,7 +23,9 @@ use ux_tokens::Text;
 
 /// Lets `ends` be the positions behind the start at which a derivation from it ends, in order.
 ///
-/// As `walk_with`, without the events: a walk of literals alone takes no memory but for `ends`.
+/// A walk of literals alone goes on through fronts that are kept from walk to walk, a step a token,
+/// and takes no memory but for `ends`. Another begins anew, by rounds: at a state of many edges and a
+/// token that were met before, the edges that may apply are looked up.
 pub fn ends_with(
     alloc: Global,
     net: &Net,
@@ -88,6 +89,13 @@ fn straight_ends(
         at = position + 1;
     }
     Ok(true)
+}
+
+/// Whether a walk can't go on from a front by its turns.
+fn is_beyond(reading: Reading) -> bool
+    ensures { IsTrue result ↔ (reading ≡ Reading.Beyond) }
+{
+    matches!(reading, Reading::Beyond)
 }
 
 /// Adds the position, where one ends there behind the start.

@@ -12,8 +12,8 @@
 //! `look_ups` lists those that may apply at a token, once, and no others are tried there.
 //!
 //! Nearly every walk over a text is of literals alone, and comes to its end after a token or two.
-//! Such a walk needs no rounds: `straight` takes it through `fronts`, one look-up a token. Most are
-//! told by their first two tokens, and `sieve` holds these back. `ends` lists no events.
+//! Such a walk needs no rounds: `ends` takes it through `fronts`, one look-up a token, and lists no
+//! events. Most are told by their first two tokens, and `sieve` holds these back.
 #![tactic(auto)]
 
 mod config;
@@ -28,7 +28,6 @@ mod reached;
 mod sets;
 mod sieve;
 mod slots;
-mod straight;
 mod tables;
 mod turns;
 mod walking;
@@ -38,4 +37,4 @@ pub use ends::ends_with;
 pub use fronts::Fronts;
 pub use look_ups::LookUps;
 pub use sieve::Sieve;
-pub use walking::{walk, walk_with};
+pub use walking::walk;

@@ -1,21 +1,18 @@
 //! The walk of the main graph over a text.
 
-ghost use Rattle.std.specs.Prelude.{◌≡◌, ◌≤◌, ◌↔◌, ℕ, List, Contains, IfOk, OnOk, length};
+ghost use Rattle.std.specs.Prelude.{◌≡◌, ◌≤◌, ◌↔◌, ℕ, List, Contains, IfOk, length};
 ghost use Rattle.ux_net.specs.Measured.{IsMeasured};
 ghost use Rattle.ux_net.specs.Nets.{net_grammar};
 ghost use Rattle.ux_outputs.specs.declared.event.Event.{Event};
 ghost use Rattle.ux_walk.specs.Derivations.{Der};
 ghost use Rattle.ux_walk.specs.Following.{Follows};
-ghost use Rattle.ux_walk.specs.Fronts.{AreKept};
 ghost use Rattle.ux_tokens.specs.Numbers.{different_texts};
 ghost use Rattle.ux_walk.specs.Links.{AreOnce};
 ghost use Rattle.ux_walk.specs.LookUps.{AreSound};
 
 use crate::config::{Config, Frame};
-use crate::fronts::Fronts;
 use crate::look_ups::LookUps;
 use crate::reached::Reached;
-use crate::straight::straight;
 use std::alloc::Global;
 use ux_alphabet::Alphabet;
 use ux_base::{Lst, Mem};
@@ -44,41 +41,6 @@ pub fn walk(
     ensures once { IfOk result (λ found. AreOnce found.items) }
 {
     walk_through(alloc, net, text, alphabet, &mut LookUps::new(alloc), start)
-}
-
-/// Each end and event list that the main graph derives from `start`, once.
-///
-/// As `walk`, with fronts and look-ups that are kept from walk to walk: a walk of literals alone goes
-/// on through fronts, and takes a step a token. Another begins anew, by rounds: at a state of many
-/// edges and a token that were met before, the edges that may apply are looked up.
-pub fn walk_with(
-    alloc: Global,
-    net: &Net,
-    text: &Text,
-    alphabet: &Alphabet,
-    fronts: &mut Fronts,
-    look_ups: &mut LookUps,
-    start: usize,
-) -> Mem<Vec<(usize, Lst<Event>)>>
-    requires measured { IsMeasured net.now }
-    requires kept { AreKept alphabet.now (different_texts text.now) net.now fronts.now }
-    requires sound { AreSound alphabet.now net.now (different_texts text.now) look_ups.now }
-    requires inside { start ≤ length text.now }
-    ensures kept { OnOk result
-        (AreKept alphabet.now (different_texts text.now) net.now fronts.new) }
-    ensures sound { AreSound alphabet.now net.now (different_texts text.now) look_ups.new }
-    ensures exactly { IfOk result (λ found. (end : ℕ) (events : List Event) →
-        Contains found.items (end, events)
-        ↔ Der alphabet.now text.now (net_grammar net.now) 1 start end events) }
-    ensures follows { IfOk result (λ found. (end : ℕ) (events : List Event) →
-        Contains found.items (end, events) →
-        Follows start end events × (end ≤ length text.now)) }
-    ensures once { IfOk result (λ found. AreOnce found.items) }
-{
-    if let Some(found) = straight(alloc, net, text, alphabet, fronts, start)? {
-        return Ok(found);
-    }
-    walk_through(alloc, net, text, alphabet, look_ups, start)
 }
 
 /// Each end and event list that the main graph derives from `start`, once, by rounds.
