@@ -115,7 +115,7 @@ pub record HasEmptyCode (line : List ℕ) (place : ℕ) : Type 0 where
   pub is_place :
       place ≡ length (written (form ++ bare COMMA ∷ (lemma ++ bare DOT ∷ []))) + behind
 
--- what is wrong with a line; no line has two of these faults
+-- what is wrong with a line: a line that has a fault says no entry
 abbrev pub HasFault : List ℕ → ℕ → DelaError → Type 0
 HasFault line number (NoComma n place) =
     (n ≡ number) × HasNoComma line × (place ≡ length line)

@@ -95,7 +95,7 @@ pub record HasEmptyLemma (line : List ℕ) : Type 0 where
   pub comment : List ℕ
   pub cut : IsStemCut line [] codes comment
 
--- what is wrong with a line; no line has two of these faults
+-- what is wrong with a line
 abbrev pub HasStemFault : List ℕ → ℕ → DelaError → Type 0
 HasStemFault line number (NoComma n place) =
     (n ≡ number) × HasNoComma line × (place ≡ length line)
