@@ -1,7 +1,6 @@
 -- The letters that fit a character.
-use Rattle.std.proofs.Common.{◌≡◌, ℕ, ◌+◌, ◌<◌, List, [], ◌∷◌, refl, sym, subst, inl, arith}
+use Rattle.std.proofs.Common.{ℕ, ◌+◌, ◌<◌, List, arith}
 use Rattle.std.specs.List.Sorted.{IsStrictlyIncreasing}
-use Rattle.std.proofs.lemmas.List.Elements.{All-cons, All-nil}
 use Rattle.std.proofs.lemmas.List.Kept.{AllPairs-from_increasing}
 use Rattle.ux_alphabet.specs.declared.line.Line.{Line}
 use Rattle.ux_alphabet.specs.Letters.{Fits}
@@ -21,15 +20,3 @@ AreCandidates-chosen lines letters found c rising chosen =
       fit = chosen-all P chosen;
       every = λ letter member fits. chosen-member P letter chosen member fits;
     }
-
--- the character alone, where no other fits it
-pub AreCandidates-alone : (lines : List Line) (letters found : List ℕ) (c : ℕ) →
-    ((letter : ℕ) → Fits lines letter c → letter ≡ c) → found ≡ c ∷ [] →
-    AreCandidates lines letters c found
-AreCandidates-alone lines letters found c alone is =
-    subst (λ (l : List ℕ). AreCandidates lines letters c l) (sym is) (record {
-      increasing = λ k lt. absurd (omega (arith, lt));
-      fit = All-cons (λ letter. Fits lines letter c) c [] (inl refl)
-          (All-nil (λ letter. Fits lines letter c));
-      every = λ letter member fits. (0, omega arith, sym (alone letter fits));
-    })

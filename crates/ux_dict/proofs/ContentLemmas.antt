@@ -21,7 +21,7 @@ use Rattle.std.proofs.lemmas.Option.{none-some, same_Some, slice_get_within}
 use Rattle.indexmap.specs.IndexSet.{insert_key, insert_all}
 use Rattle.ux_dela.specs.declared.entry.Entry.{Entry}
 use Rattle.ux_dela.specs.Sound.{IsSound}
-use Rattle.ux_dict.specs.Content.{IsBelow, IsFirstPlace, IsEarlier, ComesBefore, IsContent, IsUpTo, IsDictionary}
+use Rattle.ux_dict.specs.Content.{AreDifferent, IsBelow, IsFirstPlace, IsEarlier, ComesBefore, IsContent, IsUpTo, IsDictionary}
 use Rattle.ux_dict.specs.Equal.{entry_eq, entry_eq-Decides}
 use Rattle.ux_dict.proofs.PairLemmas.{place_of, Contains-at, slice_get-append_left, pair_kept, same_members}
 
@@ -155,15 +155,37 @@ AreFirsts-insert listed =
       pairs = λ i j d lt within. absurd (omega (arith, within));
     })
 
+-- no entry is earlier than itself
+earlier_than_itself : (listed : List Entry) (entry : Entry) → Contains listed entry →
+    IsEarlier listed entry entry → ⊥
+earlier_than_itself listed entry member earlier =
+    let place = place_of listed entry member in
+    let first = first_place listed entry place.0 place.1 in
+    absurd (omega (arith, earlier first.0 first.0 first.1 first.1))
+
+-- so the keys are the entries, each at its first place
+pub AreDifferent-insert : (listed : List Entry) →
+    AreDifferent listed (insert_all entry_eq [] listed)
+AreDifferent-insert listed =
+    let keys = insert_all entry_eq [] listed in
+    let firsts = AreFirsts-insert listed in
+    record {
+      members = firsts.members;
+      once = λ i j d lt within same.
+          let x = get_or keys i d in
+          let member = (firsts.members x).0 (Contains-get_or keys i d (omega (arith, lt, within))) in
+          earlier_than_itself listed x member
+          (subst (IsEarlier listed x) (sym same) (firsts.pairs i j d lt within));
+      ordered = firsts.pairs;
+    }
+
 -- no entry comes before itself
 ComesBefore-irreflexive : (listed : List Entry) (entry : Entry) → Contains listed entry →
     ComesBefore listed entry entry → ⊥
 ComesBefore-irreflexive listed entry member (inl below) =
     let tied = tied_itself nat_list_cmp_total entry.form in cc
 ComesBefore-irreflexive listed entry member (inr same) =
-    let place = place_of listed entry member in
-    let first = first_place listed entry place.0 place.1 in
-    absurd (omega (arith, same.1 first.0 first.0 first.1 first.1))
+    earlier_than_itself listed entry member same.1
 
 -- nor do two come before each other
 ComesBefore-strict : (listed : List Entry) (x y : Entry) → Contains listed x → Contains listed y →

@@ -60,7 +60,8 @@ module _ (front : List ℕ) (part : Part) (letters : List ℕ) (i c : ℕ) (lt :
       GoesOnWith front (c ∷ []) (get_or part.entries.now k d) →
       next_rank part.len (encode c) (get_or part.entries.now k d) ≡ 1
   middle k d inside goes =
-      rank_here front c part.len (get_or part.entries.now k d) is.long (is.utf8 k d inside)
+      rank_here front (c ∷ []) (encode c) part.len (get_or part.entries.now k d)
+      (sym (append-nil (encode c))) is.long (is.utf8 k d inside)
       (only_here (get_or part.entries.now k d) goes)
 
   low : (k : ℕ) (d : Entry) → k < length part.entries.now →

@@ -27,22 +27,22 @@ same_head x y text bytes same less =
     ∙ ap (λ o. ordering_then o (cut_cmp bytes text)) (tied_itself nat_cmp_total y) ∙ less
 
 -- the bytes of a character, by its class
-one : (c : ℕ) → c < 128 → encode c ≡ c ∷ []
+pub one : (c : ℕ) → c < 128 → encode c ≡ c ∷ []
 unfolding encode
 one c lt = rw (lt-ltb c 128 lt) refl
 
-two : (c : ℕ) → 128 ≤ c → c < 2048 → encode c ≡ (192 + c / 64) ∷ next c ∷ []
+pub two : (c : ℕ) → 128 ≤ c → c < 2048 → encode c ≡ (192 + c / 64) ∷ next c ∷ []
 unfolding encode
 two c le lt = rw (le-ltb c 128 le, lt-ltb c 2048 lt) refl
 
-three : (c : ℕ) → 2048 ≤ c → c < 65536 →
+pub three : (c : ℕ) → 2048 ≤ c → c < 65536 →
     encode c ≡ (224 + c / 4096) ∷ next (c / 64) ∷ next c ∷ []
 unfolding encode
 three c le lt =
     let first : 128 ≤ c = omega (arith, le) in
     rw (le-ltb c 128 first, le-ltb c 2048 le, lt-ltb c 65536 lt) refl
 
-four : (c : ℕ) → 65536 ≤ c →
+pub four : (c : ℕ) → 65536 ≤ c →
     encode c ≡ (240 + c / 262144) ∷ next (c / 4096) ∷ next (c / 64) ∷ next c ∷ []
 unfolding encode
 four c le =

@@ -1,6 +1,6 @@
 -- Parts that fit the front of a text, and how they go on with one more character of it.
 use Rattle.std.proofs.Common.{◌≡◌, ◌↔◌, ℕ, zero, suc, ◌+◌, ◌<◌, List, [], ◌∷◌, ◌++◌, true, length, take, get_or, refl, sym, ◌∙◌, ap, subst, arith, length-append}
-use Rattle.std.specs.Prelude.{All, AllPairs, Contains, IsUtf8, filter}
+use Rattle.std.specs.Prelude.{All, AllPairs, Contains, IsUtf8, filter, map}
 use Rattle.std.specs.List.{AllZip}
 use Rattle.std.specs.List.Sorted.{IsPartitionedBy}
 use Rattle.std.specs.Str.{chars}
@@ -15,7 +15,8 @@ use Rattle.ux_dela.specs.declared.entry.Entry.{Entry}
 use Rattle.ux_dict.specs.declared.parts.Part.{Part}
 use Rattle.ux_dict.specs.Content.{IsUpTo}
 use Rattle.ux_dict.specs.Forms.{IsChosen, none, kept, MayBegin}
-use Rattle.ux_dict.specs.Kept.{IsSpelled}
+use Rattle.ux_dict.specs.Keys.{key_of}
+use Rattle.ux_dict.specs.Kept.{IsSpelled, IsKept}
 use Rattle.ux_dict.specs.Parts.{ends_by, BeginsWith, IsPart, GoesOnWith, entries_of, IsContinued, AreCandidates, BeginsFittingAll, IsFittingPart, AreFittingParts, GoOn}
 use Rattle.ux_dict.proofs.ChosenLemmas.{chosen-all, chosen-same, chosen-append, chosen-again, chosen-within, chosen-filter, chosen-member, chosen-from}
 use Rattle.ux_dict.proofs.PartLemmas.{form_is, ends_parted}
@@ -33,19 +34,28 @@ zip_split R (x ∷ xs) (z ∷ ys) y zip =
     (x ∷ rest.0, rest.1, ap (λ (l : List ℕ). x ∷ l) rest.2, (zip.0, rest.3), rest.4)
 
 -- two fronts of one list that are as long are one
-same_front : (xs ys us vs : List ℕ) → xs ++ us ≡ ys ++ vs → length xs ≡ length ys → xs ≡ ys
+pub same_front : (xs ys us vs : List ℕ) → xs ++ us ≡ ys ++ vs → length xs ≡ length ys → xs ≡ ys
 same_front xs ys us vs is long =
     sym (take_at xs us (length xs) refl) ∙ ap (take (length xs)) is
     ∙ take_at ys vs (length xs) (sym long)
 
+-- a list beside two lists, one behind the other, is two lists as well
+pub zip_apart : (R : ℕ → ℕ → Type 0) (xs ys zs : List ℕ) → AllZip R xs (ys ++ zs) →
+    (front rest : List ℕ) × (xs ≡ front ++ rest) × AllZip R front ys × AllZip R rest zs
+zip_apart R xs [] zs zip = ([], xs, refl, tt, zip)
+zip_apart R [] (y ∷ ys) zs zip = absurd zip
+zip_apart R (x ∷ xs) (y ∷ ys) zs zip =
+    let rest = zip_apart R xs ys zs zip.1 in
+    (x ∷ rest.0, rest.1, ap (λ (l : List ℕ). x ∷ l) rest.2, (zip.0, rest.3), rest.4)
+
 -- what begins with characters that fit more begins with some that fit less
-fits_less : (lines : List Line) (front : List ℕ) (c : ℕ) (entry : Entry) →
-    BeginsFittingAll lines (front ++ c ∷ []) entry → BeginsFittingAll lines front entry
-fits_less lines front c entry (fitting, zip, (rest, is)) =
-    let split = zip_split (Fits lines) fitting front c zip in
+pub fits_less : (lines : List Line) (front more : List ℕ) (entry : Entry) →
+    BeginsFittingAll lines (front ++ more) entry → BeginsFittingAll lines front entry
+fits_less lines front more entry (fitting, zip, (rest, is)) =
+    let split = zip_apart (Fits lines) fitting front more zip in
     let whole = is ∙ ap (λ (l : List ℕ). l ++ rest) split.2
-    ∙ append_assoc split.0 (split.1 ∷ []) rest in
-    (split.0, split.3, (split.1 ∷ rest, whole))
+    ∙ append_assoc split.0 split.1 rest in
+    (split.0, split.3, (split.1 ++ rest, whole))
 
 -- no parts go on as none
 pub GoOn-none : (lines : List Line) (letters : List ℕ) (c : ℕ) (parts next : List Part) →
@@ -55,7 +65,7 @@ GoOn-none lines letters c parts next is also front all spelled fit =
     let whole = subst (λ (p : List Part). IsChosen P all (entries_of p)) is fit.whole in
     subst (AreFittingParts lines (front ++ c ∷ []) all) (sym also) (record {
       whole = chosen-again (BeginsFittingAll lines front)
-          (BeginsFittingAll lines (front ++ c ∷ [])) (fits_less lines front c) whole none;
+          (BeginsFittingAll lines (front ++ c ∷ [])) (fits_less lines front (c ∷ [])) whole none;
       each = All-nil (IsFittingPart lines (front ++ c ∷ []));
     })
 
@@ -179,33 +189,35 @@ GoOn-from lines letters c parts next goes front all spelled fit =
     let P = BeginsFittingAll lines front in
     let step = goes front fit.each (chosen-within P (IsSpelled letters) fit.whole spelled) in
     record {
-      whole = chosen-again P (BeginsFittingAll lines (front ++ c ∷ [])) (fits_less lines front c)
+      whole = chosen-again P (BeginsFittingAll lines (front ++ c ∷ [])) (fits_less lines front (c ∷ []))
           fit.whole step.whole;
       each = step.each;
     }
 
--- all entries are one part, whose forms begin with no character
-pub fitting_whole : (lines : List Line) (letters : List ℕ) (entries : List Entry) (part : Part) →
-    All (IsSpelled letters) entries → AllPairs IsUpTo entries → part.entries.now ≡ entries →
-    part.len ≡ 0 → AreFittingParts lines [] entries (part ∷ [])
-fitting_whole lines letters entries part spelled ordered is len =
+-- all entries of a dictionary are one part, whose forms begin with no character
+pub IsPart-whole : (keys letters : List ℕ) (longest : ℕ) (entries : List Entry) (part : Part) →
+    IsKept entries keys letters longest → part.entries.now ≡ entries → part.keys.now ≡ keys →
+    part.len ≡ 0 → IsPart [] part
+IsPart-whole keys letters longest entries part is same also len = record {
+  keyed = also ∙ is.keyed ∙ ap (map key_of) (sym same);
+  long = sym len;
+  utf8 = subst (All (λ (e : Entry). IsUtf8 e.form)) (sym same)
+      (λ k d lt. (is.spelled k d lt).utf8);
+  shared = λ k d lt. (chars (get_or part.entries.now k d).form, refl);
+  ordered = subst (AllPairs IsUpTo) (sym same) is.dictionary.ordered;
+}
+
+pub fitting_whole : (lines : List Line) (part : Part) → IsPart [] part →
+    AreFittingParts lines [] part.entries.now (part ∷ [])
+fitting_whole lines part is =
     let begins : (entry : Entry) → BeginsFittingAll lines [] entry =
     λ entry. ([], tt, (chars entry.form, refl)) in
     record {
-      whole = subst (IsChosen (BeginsFittingAll lines []) entries)
-          (sym (append-nil part.entries.now ∙ is))
-          (chosen-every (BeginsFittingAll lines []) entries begins);
-      each = All-cons (IsFittingPart lines []) part [] (
-        [],
-        tt,
-        record {
-          long = sym len;
-          utf8 = subst (All (λ (e : Entry). IsUtf8 e.form)) (sym is)
-              (λ k d lt. (spelled k d lt).utf8);
-          shared = λ k d lt. (chars (get_or part.entries.now k d).form, refl);
-          ordered = subst (AllPairs IsUpTo) (sym is) ordered;
-        },
-      ) (All-nil (IsFittingPart lines []));
+      whole = subst (IsChosen (BeginsFittingAll lines []) part.entries.now)
+          (sym (append-nil part.entries.now))
+          (chosen-every (BeginsFittingAll lines []) part.entries.now begins);
+      each = All-cons (IsFittingPart lines []) part [] ([], tt, is)
+          (All-nil (IsFittingPart lines []));
     }
   where
     chosen-every : (P : Entry → Type 0) (xs : List Entry) → ((x : Entry) → P x) → IsChosen P xs xs

@@ -9,3 +9,6 @@ pub mod EncodeOrder
 pub mod PartLemmas
 pub mod ContinuedLemmas
 pub mod FittingLemmas
+pub mod KeyLemmas
+pub mod NearLemmas
+pub mod RunLemmas

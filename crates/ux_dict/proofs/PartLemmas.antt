@@ -1,7 +1,7 @@
 -- A part of a dictionary: its forms begin with the same characters, so that those that go on with a
 -- letter stand next to each other.
 use Rattle.std.proofs.Common.{◌≡◌, ◌↔◌, ℕ, ◌+◌, ◌<◌, ◌≤◌, List, [], ◌∷◌, ◌++◌, true, false, length, take, drop, get_or, refl, sym, ◌∙◌, ap, subst, inl, inr, arith, length-append}
-use Rattle.std.specs.Prelude.{◌==◌, Contains, IsUtf8, filter}
+use Rattle.std.specs.Prelude.{◌==◌, Bool, Contains, IsUtf8, filter, map}
 use Rattle.std.specs.List.Sorted.{IsNonDecreasingBy, IsPartitionedBy}
 use Rattle.std.specs.Str.{chars}
 use Rattle.std.specs.Cmp.Lexicographic.{slice_cmp, nat_list_cmp_total}
@@ -9,7 +9,7 @@ use Rattle.std.specs.Ordering.{nat_cmp, is_lt, ordering_index}
 use Rattle.std.proofs.lemmas.Bool.{cases_eq, eqb-true, leb-true, le-leb}
 use Rattle.std.proofs.lemmas.Cmp.{tied_itself}
 use Rattle.std.proofs.lemmas.List.{append_assoc, append-nil, drop_at, take_at, take-append-drop, nil_from_length}
-use Rattle.std.proofs.lemmas.List.Elements.{All-nil, All-cons, All-contains}
+use Rattle.std.proofs.lemmas.List.Elements.{All-nil, All-cons, All-contains, All-weaker}
 use Rattle.std.proofs.lemmas.List.Sorted.{searchable_from_sorted}
 use Rattle.std.proofs.lemmas.Map.Lookups.{exact_bytes}
 use Rattle.std.proofs.lemmas.Str.{encodes-append, encodes-chars, cons_from_encodes}
@@ -18,7 +18,8 @@ use Rattle.ux_dela.specs.declared.entry.Entry.{Entry}
 use Rattle.ux_dict.specs.declared.parts.Part.{Part}
 use Rattle.ux_dict.specs.Content.{IsUpTo}
 use Rattle.ux_dict.specs.Forms.{IsChosen}
-use Rattle.ux_dict.specs.Parts.{rank_of, next_rank, goes_on, ends_by, BeginsWith, IsPart, GoesOnWith, IsContinued}
+use Rattle.ux_dict.specs.Keys.{key_of}
+use Rattle.ux_dict.specs.Parts.{rank_of, next_rank, goes_on, ends_by, BeginsWith, IsPart, IsSifted, IsFollowed, GoesOnWith, IsContinued}
 use Rattle.ux_dict.proofs.ChosenLemmas.{chosen-filter, chosen-all, chosen-within, chosen-pairs, chosen-same}
 use Rattle.ux_dict.proofs.EncodeOrder.{below_encode}
 use Rattle.ux_dict.proofs.PairLemmas.{Contains-nil, Contains-cons_cases}
@@ -103,82 +104,148 @@ ends_parted front part is i j d le lt ends =
           (is.utf8 i d inside) (is.utf8 j d lt) bx.1 by.1 (is.ordered i j d before lt) ends)
     ]
 
--- a form that begins with the front and a letter has the letter's bytes behind the front
-letter_behind : (front rest : List ℕ) (c len : ℕ) (entry : Entry) →
+-- a form that begins with the front and more has the bytes of these behind the front
+more_behind : (front more rest : List ℕ) (len : ℕ) (entry : Entry) →
     length (encodes front) ≡ len → IsUtf8 entry.form →
-    chars entry.form ≡ (front ++ c ∷ []) ++ rest →
-    drop len entry.form ≡ encode c ++ encodes rest
-letter_behind front rest c len entry long utf8 is =
-    behind entry.form front (c ∷ rest) len utf8 (is ∙ append_assoc front (c ∷ []) rest) long
+    chars entry.form ≡ (front ++ more) ++ rest →
+    drop len entry.form ≡ encodes more ++ encodes rest
+more_behind front more rest len entry long utf8 is =
+    behind entry.form front (more ++ rest) len utf8 (is ∙ append_assoc front more rest) long
+    ∙ encodes-append more rest
 
 -- it is of the middle rank
-pub rank_here : (front : List ℕ) (c len : ℕ) (entry : Entry) → length (encodes front) ≡ len →
-    IsUtf8 entry.form → BeginsWith (front ++ c ∷ []) entry → next_rank len (encode c) entry ≡ 1
-rank_here front c len entry long utf8 begins =
-    let after = letter_behind front begins.0 c len entry long utf8 begins.1 in
-    let cut = ap (take (length (encode c))) after
-    ∙ take_at (encode c) (encodes begins.0) (length (encode c)) refl in
-    ap (λ (l : List ℕ). ordering_index (slice_cmp nat_cmp l (encode c))) cut
-    ∙ ap ordering_index (tied_itself nat_list_cmp_total (encode c))
+pub rank_here : (front more bytes : List ℕ) (len : ℕ) (entry : Entry) → bytes ≡ encodes more →
+    length (encodes front) ≡ len → IsUtf8 entry.form → BeginsWith (front ++ more) entry →
+    next_rank len bytes entry ≡ 1
+rank_here front more bytes len entry same long utf8 begins =
+    let after = more_behind front more begins.0 len entry long utf8 begins.1
+    ∙ ap (λ (l : List ℕ). l ++ encodes begins.0) (sym same) in
+    let cut = ap (take (length bytes)) after
+    ∙ take_at bytes (encodes begins.0) (length bytes) refl in
+    ap (λ (l : List ℕ). ordering_index (slice_cmp nat_cmp l bytes)) cut
+    ∙ ap ordering_index (tied_itself nat_list_cmp_total bytes)
 
 -- and below where the letter is a lower one
 pub rank_lower : (front : List ℕ) (f c len : ℕ) (entry : Entry) → f < c →
     length (encodes front) ≡ len → IsUtf8 entry.form → BeginsWith (front ++ f ∷ []) entry →
     next_rank len (encode c) entry ≡ 0
 rank_lower front f c len entry lt long utf8 begins =
-    let after = letter_behind front begins.0 f len entry long utf8 begins.1 in
+    let after = more_behind front (f ∷ []) begins.0 len entry long utf8 begins.1
+    ∙ ap (λ (l : List ℕ). l ++ encodes begins.0) (append-nil (encode f)) in
     ap (rank_of (encode c)) after ∙ ap ordering_index (below_encode f c (encodes begins.0) lt)
 
--- a form goes on with a letter's bytes exactly where it begins with the front and the letter
-pub goes : (front : List ℕ) (c len : ℕ) (entry : Entry) → length (encodes front) ≡ len →
-    IsUtf8 entry.form → BeginsWith front entry →
-    (goes_on len (encode c) entry ≡ true) ↔ BeginsWith (front ++ c ∷ []) entry
-goes front c len entry long utf8 begins = (
+-- what begins with the bytes of characters begins with these
+front_from_encodes : (cs more rest : List ℕ) → encodes cs ≡ encodes more ++ rest →
+    (behind : List ℕ) × (cs ≡ more ++ behind)
+front_from_encodes cs [] rest is = (cs, refl)
+front_from_encodes cs (c ∷ more) rest is =
+    let split = cons_from_encodes cs (encodes more ++ rest) c
+    (is ∙ append_assoc (encode c) (encodes more) rest) in
+    let later = front_from_encodes split.0 more rest split.2 in
+    (later.0, split.1 ∙ ap (λ (l : List ℕ). c ∷ l) later.1)
+
+-- where a form goes on with some bytes, these stand in it
+pub bytes_behind : (len : ℕ) (bytes : List ℕ) (entry : Entry) → goes_on len bytes entry ≡ true →
+    drop len entry.form ≡ bytes ++ drop (length bytes) (drop len entry.form)
+bytes_behind len bytes entry h =
+    let n = length bytes in
+    let text = drop len entry.form in
+    let rank = eqb-true (next_rank len bytes entry) 1 h in
+    let same = exact_bytes (take n text) bytes (index_equal _ rank) in
+    sym (take-append-drop n text) ∙ ap (λ (l : List ℕ). l ++ drop n text) same
+
+-- a form goes on with the bytes of characters exactly where it begins with the front and these
+pub goes : (front more bytes : List ℕ) (len : ℕ) (entry : Entry) → bytes ≡ encodes more →
+    length (encodes front) ≡ len → IsUtf8 entry.form → BeginsWith front entry →
+    (goes_on len bytes entry ≡ true) ↔ BeginsWith (front ++ more) entry
+goes front more bytes len entry same long utf8 begins = (
   λ h.
-      let n = length (encode c) in
       let after = behind entry.form front begins.0 len utf8 begins.1 long in
-      let rank = eqb-true (next_rank len (encode c) entry) 1 h in
-      let same = exact_bytes (take n (drop len entry.form)) (encode c) (index_equal _ rank) in
-      let text = encodes begins.0 in
-      let cut : text ≡ encode c ++ drop n text =
-      sym (take-append-drop n text)
-      ∙ ap (λ (l : List ℕ). l ++ drop n text) (ap (take n) (sym after) ∙ same) in
-      let split = cons_from_encodes begins.0 (drop n text) c cut in (
+      let split = front_from_encodes begins.0 more (drop (length bytes) (drop len entry.form))
+      (sym after ∙ bytes_behind len bytes entry h
+      ∙ ap (λ (l : List ℕ). l ++ drop (length bytes) (drop len entry.form)) same) in (
         split.0,
         begins.1 ∙ ap (λ (l : List ℕ). front ++ l) split.1
-            ∙ sym (append_assoc front (c ∷ []) split.0),
+            ∙ sym (append_assoc front more split.0),
       ),
-  λ more. ap (λ k. k == 1) (rank_here front c len entry long utf8 more),
+  λ begun. ap (λ k. k == 1) (rank_here front more bytes len entry same long utf8 begun),
 )
 
--- the entries that go on with a letter
-pub chosen-going : (front : List ℕ) (c : ℕ) (part : Part) → IsPart front part →
-    IsChosen (BeginsWith (front ++ c ∷ [])) part.entries.now
-    (filter (goes_on part.len (encode c)) part.entries.now)
-chosen-going front c part is =
-    chosen-filter (BeginsWith (front ++ c ∷ [])) (goes_on part.len (encode c)) part.entries.now
-    (λ k d lt. goes front c part.len (get_or part.entries.now k d) is.long (is.utf8 k d lt)
-    (is.shared k d lt))
+module _ (front more bytes : List ℕ) (part : Part) (same : bytes ≡ encodes more)
+    (is : IsPart front part) where
+  -- the entries that go on with characters
+  pub chosen-going : IsChosen (BeginsWith (front ++ more)) part.entries.now
+      (filter (goes_on part.len bytes) part.entries.now)
+  chosen-going =
+      chosen-filter (BeginsWith (front ++ more)) (goes_on part.len bytes) part.entries.now
+      (λ k d lt. goes front more bytes part.len (get_or part.entries.now k d) same is.long
+      (is.utf8 k d lt) (is.shared k d lt))
 
--- are a part, whose front has the letter's bytes more
-pub IsPart-going : (front : List ℕ) (c : ℕ) (part next : Part) → IsPart front part →
-    next.entries.now ≡ filter (goes_on part.len (encode c)) part.entries.now →
-    next.len ≡ part.len + length (encode c) → IsPart (front ++ c ∷ []) next
-IsPart-going front c part next is same len =
-    let P = BeginsWith (front ++ c ∷ []) in
-    let chosen = subst (IsChosen P part.entries.now) (sym same) (chosen-going front c part is) in
-    let size : length (encodes (front ++ c ∷ [])) ≡ length (encodes front) + length (encode c) =
-    ap length (encodes-append front (c ∷ []) ∙ ap (λ (l : List ℕ). encodes front ++ l)
-    (append-nil (encode c))) ∙ length-append (encodes front) (encode c) in
-    record {
-      long = omega (arith, size, len, is.long);
-      utf8 = chosen-within P (λ e. IsUtf8 e.form) chosen is.utf8;
-      shared = chosen-all P chosen;
-      ordered = chosen-pairs P IsUpTo chosen is.ordered;
+  module _ (sifted : Part) (going : IsSifted (goes_on part.len bytes) part sifted) where
+    going_chosen : IsChosen (BeginsWith (front ++ more)) part.entries.now sifted.entries.now
+    going_chosen =
+        subst (IsChosen (BeginsWith (front ++ more)) part.entries.now) (sym going.entries)
+        chosen-going
+
+    -- are a part, whose front has these more
+    pub IsPart-going : (next : Part) → next.entries.now ≡ sifted.entries.now →
+        next.keys.now ≡ sifted.keys.now → next.len ≡ part.len + length bytes →
+        IsPart (front ++ more) next
+    IsPart-going next entries keys len =
+        let P = BeginsWith (front ++ more) in
+        let chosen = subst (IsChosen P part.entries.now) (sym entries) going_chosen in
+        let size : length (encodes (front ++ more)) ≡ length (encodes front) + length bytes =
+        ap length (encodes-append front more ∙ ap (λ (l : List ℕ). encodes front ++ l) (sym same))
+        ∙ length-append (encodes front) bytes in
+        record {
+          keyed = keys ∙ going.keyed ∙ ap (map key_of) (sym entries);
+          long = omega (arith, size, len, is.long);
+          utf8 = chosen-within P (λ e. IsUtf8 e.form) chosen is.utf8;
+          shared = chosen-all P chosen;
+          ordered = chosen-pairs P IsUpTo chosen is.ordered;
+        }
+
+    -- a part is put last, or none where there is no entry
+    pub IsFollowed-pushed : (next : Part) (old new : List Part) →
+        next.entries.now ≡ sifted.entries.now → next.keys.now ≡ sifted.keys.now →
+        next.len ≡ part.len + length bytes → new ≡ old ++ next ∷ [] →
+        IsFollowed front more part old new
+    IsFollowed-pushed next old new entries keys len put = record {
+      pushed = next ∷ [];
+      is = put;
+      chosen = subst (IsChosen (BeginsWith (front ++ more)) part.entries.now)
+          (sym (append-nil next.entries.now ∙ entries)) going_chosen;
+      each = All-cons (IsPart (front ++ more)) next [] (IsPart-going next entries keys len)
+          (All-nil (IsPart (front ++ more)));
     }
 
+    pub IsFollowed-none : (old : List Part) → sifted.entries.now ≡ [] →
+        IsFollowed front more part old old
+    IsFollowed-none old empty = record {
+      pushed = [];
+      is = sym (append-nil old);
+      chosen = subst (IsChosen (BeginsWith (front ++ more)) part.entries.now) empty going_chosen;
+      each = All-nil (IsPart (front ++ more));
+    }
+
+    -- the front and these have no more bytes than a form that has both
+    pub front_fits : (first : Entry) → Contains sifted.entries.now first →
+        part.len + length bytes ≤ length first.form
+    front_fits first member =
+        let P = BeginsWith (front ++ more) in
+        let begins = All-contains P sifted.entries.now first (chosen-all P going_chosen) member in
+        let utf8 = All-contains (λ (e : Entry). IsUtf8 e.form) sifted.entries.now first
+        (chosen-within P (λ e. IsUtf8 e.form) going_chosen is.utf8) member in
+        let whole = form_is first.form front (more ++ begins.0) utf8
+        (begins.1 ∙ append_assoc front more begins.0)
+        ∙ ap (λ (l : List ℕ). encodes front ++ l) (encodes-append more begins.0) in
+        let size = ap length whole ∙ length-append (encodes front) (encodes more ++ encodes begins.0)
+        in
+        let tail = length-append (encodes more) (encodes begins.0) in
+        omega (arith, size, tail, is.long, ap length same)
+
 -- to go on with one letter is to begin with the front and that letter
-pub GoesOnWith-one : (front : List ℕ) (c : ℕ) (entry : Entry) →
+GoesOnWith-one : (front : List ℕ) (c : ℕ) (entry : Entry) →
     BeginsWith (front ++ c ∷ []) entry ↔ GoesOnWith front (c ∷ []) entry
 GoesOnWith-one front c entry = (
   λ begins. (c, (0, omega arith, refl), begins),
@@ -188,50 +255,30 @@ GoesOnWith-one front c entry = (
   ],
 )
 
--- a part is put last, or none where there is no entry
-pub IsContinued-pushed : (front : List ℕ) (c : ℕ) (part next : Part) (old new : List Part) →
-    IsPart front part →
-    next.entries.now ≡ filter (goes_on part.len (encode c)) part.entries.now →
-    next.len ≡ part.len + length (encode c) → new ≡ old ++ next ∷ [] →
-    IsContinued front (c ∷ []) part old new
-IsContinued-pushed front c part next old new is same len put = record {
-  pushed = next ∷ [];
-  is = put;
+pub IsContinued-one : (front : List ℕ) (c : ℕ) (part : Part) (old new : List Part) →
+    IsFollowed front (c ∷ []) part old new → IsContinued front (c ∷ []) part old new
+IsContinued-one front c part old new followed = record {
+  pushed = followed.pushed;
+  is = followed.is;
   chosen = chosen-same (BeginsWith (front ++ c ∷ [])) (GoesOnWith front (c ∷ []))
-      (λ k d lt. GoesOnWith-one front c (get_or part.entries.now k d))
-      (subst (IsChosen (BeginsWith (front ++ c ∷ [])) part.entries.now)
-      (sym (append-nil next.entries.now ∙ same)) (chosen-going front c part is));
-  each = All-cons (λ (p : Part). (d : ℕ) × Contains (c ∷ []) d × IsPart (front ++ d ∷ []) p)
-      next [] (c, (0, omega arith, refl), IsPart-going front c part next is same len)
-      (All-nil (λ (p : Part). (d : ℕ) × Contains (c ∷ []) d × IsPart (front ++ d ∷ []) p));
+      (λ k d lt. GoesOnWith-one front c (get_or part.entries.now k d)) followed.chosen;
+  each = All-weaker (IsPart (front ++ c ∷ [])) (λ (p : Part). (d : ℕ) × Contains (c ∷ []) d
+      × IsPart (front ++ d ∷ []) p) (λ p is. (c, (0, omega arith, refl), is)) followed.pushed
+      followed.each;
 }
 
-pub IsContinued-none : (front : List ℕ) (c : ℕ) (part : Part) (old : List Part)
-    (found : List Entry) → IsPart front part →
-    found ≡ filter (goes_on part.len (encode c)) part.entries.now → found ≡ [] →
-    IsContinued front (c ∷ []) part old old
-IsContinued-none front c part old found is same empty = record {
-  pushed = [];
-  is = sym (append-nil old);
-  chosen = chosen-same (BeginsWith (front ++ c ∷ [])) (GoesOnWith front (c ∷ []))
-      (λ k d lt. GoesOnWith-one front c (get_or part.entries.now k d))
-      (subst (IsChosen (BeginsWith (front ++ c ∷ [])) part.entries.now) (sym same ∙ empty)
-      (chosen-going front c part is));
-  each = All-nil (λ (p : Part). (d : ℕ) × Contains (c ∷ []) d × IsPart (front ++ d ∷ []) p);
-}
-
--- the front and the letter have no more bytes than a form that has both
-pub front_fits : (front : List ℕ) (c : ℕ) (part : Part) (found : List Entry) (first : Entry) →
-    IsPart front part → found ≡ filter (goes_on part.len (encode c)) part.entries.now →
-    Contains found first → part.len + length (encode c) ≤ length first.form
-front_fits front c part found first is same member =
-    let P = BeginsWith (front ++ c ∷ []) in
-    let chosen = subst (IsChosen P part.entries.now) (sym same) (chosen-going front c part is) in
-    let begins = All-contains P found first (chosen-all P chosen) member in
-    let utf8 = All-contains (λ (e : Entry). IsUtf8 e.form) found first
-    (chosen-within P (λ e. IsUtf8 e.form) chosen is.utf8) member in
-    let whole = form_is first.form front (c ∷ begins.0) utf8
-    (begins.1 ∙ append_assoc front (c ∷ []) begins.0) in
-    let size = ap length whole ∙ length-append (encodes front) (encode c ++ encodes begins.0) in
-    let tail = length-append (encode c) (encodes begins.0) in
-    omega (arith, size, tail, is.long)
+-- what is sifted is a part as well
+pub IsPart-sifted : (front : List ℕ) (passes : Entry → Bool) (part sifted : Part) →
+    IsPart front part → IsSifted passes part sifted → IsPart front sifted
+IsPart-sifted front passes part sifted is sift =
+    let P : Entry → Type 0 = λ e. passes e ≡ true in
+    let chosen : IsChosen P part.entries.now sifted.entries.now =
+    subst (IsChosen P part.entries.now) (sym sift.entries)
+    (chosen-filter P passes part.entries.now (λ k d lt. (λ h. h, λ h. h))) in
+    record {
+      keyed = sift.keyed;
+      long = is.long ∙ sym sift.len;
+      utf8 = chosen-within P (λ e. IsUtf8 e.form) chosen is.utf8;
+      shared = chosen-within P (BeginsWith front) chosen is.shared;
+      ordered = chosen-pairs P IsUpTo chosen is.ordered;
+    }

@@ -25,6 +25,12 @@ abbrev pub IsEarlier : (listed : List Entry) (entry other : Entry) → Type 0
 IsEarlier listed entry other = (i j : ℕ) → IsFirstPlace listed entry i →
     IsFirstPlace listed other j → i < j
 
+-- the second list has the entries of the first one, each at its first place alone
+pub record AreDifferent (listed different : List Entry) : Type 0 where
+  pub members : (entry : Entry) → Contains different entry ↔ Contains listed entry
+  pub once : AllPairs (λ entry other. entry ≢ other) different
+  pub ordered : AllPairs (IsEarlier listed) different
+
 -- the form of one entry is below that of the other, or the forms are equal and its first place is
 -- before that of the other
 abbrev pub ComesBefore : (listed : List Entry) (entry other : Entry) → Type 0

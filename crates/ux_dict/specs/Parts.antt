@@ -1,6 +1,6 @@
 -- Parts of a dictionary: entries whose forms begin with the same characters, which fit the front of
 -- a text.
-use Rattle.std.specs.Prelude.{◌≡◌, ◌==◌, ℕ, List, [], ◌∷◌, ◌++◌, Bool, nat_le, All, AllPairs, Contains, IsUtf8, length, take, drop, flat_map, encode_utf8_all}
+use Rattle.std.specs.Prelude.{◌≡◌, ◌==◌, ℕ, List, [], ◌∷◌, ◌++◌, Bool, nat_le, All, AllPairs, Contains, IsUtf8, length, take, drop, map, filter, flat_map, encode_utf8_all}
 use Rattle.std.specs.List.{AllZip}
 use Rattle.std.specs.List.Sorted.{IsStrictlyIncreasing}
 use Rattle.std.specs.Cmp.Lexicographic.{slice_cmp}
@@ -13,6 +13,7 @@ use Rattle.ux_dict.specs.declared.parts.Part.{Part}
 use Rattle.ux_dict.specs.Content.{IsUpTo}
 use Rattle.ux_dict.specs.Forms.{IsChosen}
 use Rattle.ux_dict.specs.Kept.{IsSpelled}
+use Rattle.ux_dict.specs.Keys.{key_of}
 
 -- 0, 1 or 2 where the front of the text, of as many bytes as these, is below, equal to or above
 -- them
@@ -35,13 +36,29 @@ ends_by len entry = nat_le (length entry.form) len
 abbrev pub BeginsWith : (front : List ℕ) → Entry → Type 0
 BeginsWith front entry = (rest : List ℕ) × (chars entry.form ≡ front ++ rest)
 
+-- the keys are those of the entries
+abbrev pub IsKeyed : Part → Type 0
+IsKeyed part = part.keys.now ≡ map key_of part.entries.now
+
 -- the forms are texts that begin with the characters, whose bytes are as many as noted, and they
 -- are in order
 pub record IsPart (front : List ℕ) (part : Part) : Type 0 where
+  pub keyed : IsKeyed part
   pub long : length (encode_utf8_all front) ≡ part.len
   pub utf8 : All (λ entry. IsUtf8 entry.form) part.entries.now
   pub shared : All (BeginsWith front) part.entries.now
   pub ordered : AllPairs IsUpTo part.entries.now
+
+-- the second part has the entries of the first one that pass, and their keys
+pub record IsSifted (passes : Entry → Bool) (part sifted : Part) : Type 0 where
+  pub entries : sifted.entries.now ≡ filter passes part.entries.now
+  pub keyed : IsKeyed sifted
+  pub len : sifted.len ≡ part.len
+
+-- the second part has those entries of the first one that pass, and maybe others
+pub record IsNarrowed (front : List ℕ) (passes : Entry → Bool) (part narrowed : Part) : Type 0 where
+  pub is : IsPart front narrowed
+  pub same : filter passes narrowed.entries.now ≡ filter passes part.entries.now
 
 -- the form begins with the characters and then one of these
 abbrev pub GoesOnWith : (front letters : List ℕ) → Entry → Type 0
@@ -51,12 +68,23 @@ GoesOnWith front letters entry = (c : ℕ) × Contains letters c × BeginsWith (
 abbrev pub entries_of : List Part → List Entry
 entries_of parts = flat_map (λ part. part.entries.now) parts
 
+-- the new parts have the entries of a part whose forms go on with the characters
+pub record IsFollowed (front more : List ℕ) (part : Part) (old new : List Part) : Type 0 where
+  pub pushed : List Part
+  pub is : new ≡ old ++ pushed
+  pub chosen : IsChosen (BeginsWith (front ++ more)) part.entries.now (entries_of pushed)
+  pub each : All (IsPart (front ++ more)) pushed
+
 -- the new parts have the entries of a part whose forms go on with one of the letters
 pub record IsContinued (front letters : List ℕ) (part : Part) (old new : List Part) : Type 0 where
   pub pushed : List Part
   pub is : new ≡ old ++ pushed
   pub chosen : IsChosen (GoesOnWith front letters) part.entries.now (entries_of pushed)
   pub each : All (λ next. (c : ℕ) × Contains letters c × IsPart (front ++ c ∷ []) next) pushed
+
+-- no other character fits this one
+abbrev pub IsAlone : List Line → ℕ → Type 0
+IsAlone lines c = (letter : ℕ) → Fits lines letter c → letter ≡ c
 
 -- the letters that fit a character of a text, in order
 pub record AreCandidates (lines : List Line) (letters : List ℕ) (c : ℕ) (candidates : List ℕ) :
@@ -81,6 +109,12 @@ pub record AreFittingParts (lines : List Line) (front : List ℕ) (all : List En
     (parts : List Part) : Type 0 where
   pub whole : IsChosen (BeginsFittingAll lines front) all (entries_of parts)
   pub each : All (IsFittingPart lines front) parts
+
+-- where the parts fit the front of a text, the next ones fit more characters, which no others fit
+abbrev pub GoOnAlone : (more : List ℕ) (parts next : List Part) → Type 0
+GoOnAlone more parts next = (lines : List Line) (front : List ℕ) (all : List Entry) →
+    All (IsAlone lines) more → AreFittingParts lines front all parts →
+    AreFittingParts lines (front ++ more) all next
 
 -- where the parts fit the front of a text, the next ones fit one character more
 abbrev pub GoOn : List Line → (letters : List ℕ) (c : ℕ) (parts next : List Part) → Type 0

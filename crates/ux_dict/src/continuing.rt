@@ -1,51 +1,81 @@
 //! How parts go on with the next character of a text.
 
-ghost use Rattle.std.specs.Prelude.{◌≡◌, ℕ, List, All, AllPairs, OnOk, IfOk, [], ◌∷◌};
+ghost use Rattle.std.specs.Prelude.{◌≡◌, ℕ, List, All, OnOk, IfOk, [], ◌∷◌};
 ghost use Rattle.std.specs.List.Sorted.{IsStrictlyIncreasing};
 ghost use Rattle.std.specs.Str.{chars};
 ghost use Rattle.ux_alphabet.specs.declared.line.Line.{Line};
-ghost use Rattle.ux_dict.specs.Content.{IsUpTo};
 ghost use Rattle.ux_dict.specs.Kept.{IsSpelled};
-ghost use Rattle.ux_dict.specs.Parts.{AreCandidates, AreFittingParts, GoOn, IsContinued, IsPart};
+ghost use Rattle.ux_dict.specs.Parts.{AreCandidates, AreFittingParts, GoOn, GoOnAlone, IsContinued, IsFollowed, IsPart};
 
-use crate::candidates::candidates;
+use crate::candidates::{fits_alone, fitting_letters};
 use crate::parts::{Part, form_len, going_on};
 use std::alloc::{AllocError, Global};
 use ux_alphabet::Alphabet;
-use ux_dela::Entry;
 
-/// The parts whose forms begin with characters that fit the text. Takes for each character of the
-/// text a few binary searches for each part, of which there are as many as ways to write the front
-/// of the text with lower-case letters; where a character has other ones that fit it, also a step
-/// for each different character of all forms.
+/// The parts whose forms begin with characters that fit the text. Characters next to each other that
+/// no others fit are gone on with at once, so that most texts take a few binary searches. Another
+/// character takes a step for each different character of all forms, and a few binary searches for
+/// each part, of which there are as many as ways to write the front of the text with lower-case
+/// letters.
 pub(crate) fn fitting_parts<'a>(
     alloc: Global,
-    entries: &'a [Entry],
+    whole: Part<'a>,
     letters: &[char],
     text: &str,
     alphabet: &Alphabet,
 ) -> Result<Vec<Part<'a>>, AllocError>
-    requires spelled { All (IsSpelled letters.now) entries.now }
-    requires ordered { AllPairs IsUpTo entries.now }
+    requires spelled { All (IsSpelled letters.now) whole.entries.now }
+    requires part { IsPart [] whole }
     requires increasing { IsStrictlyIncreasing letters.now }
     ensures { IfOk result (λ parts.
-        AreFittingParts alphabet.now (chars text.now) entries.now parts.items) }
+        AreFittingParts alphabet.now (chars text.now) whole.entry.entries.now parts.items) }
 {
-    let mut parts = whole(alloc, entries)?;
+    let mut parts = one(alloc, whole)?;
+    // The characters behind those that the parts fit.
+    let mut run = String::with_capacity(alloc, text.len())?;
     for c in text.chars() {
-        parts = next_parts(alloc, &parts, letters, c, alphabet)?;
+        if fits_alone(alphabet, c) {
+            run.push(c)?;
+            continue;
+        }
+        let behind = behind_run(alloc, parts, run.as_str())?;
+        parts = next_parts(alloc, &behind, letters, c, alphabet)?;
+        run.clear();
     }
+    behind_run(alloc, parts, run.as_str())
+}
+
+fn one<'a>(alloc: Global, part: Part<'a>) -> Result<Vec<Part<'a>>, AllocError>
+    ensures { IfOk result (λ parts. parts.items ≡ part.entry ∷ []) }
+{
+    let mut parts = Vec::new(alloc);
+    parts.push(part)?;
     Ok(parts)
 }
 
-/// All entries as one part, whose forms begin with no character.
-fn whole<'a>(alloc: Global, entries: &'a [Entry]) -> Result<Vec<Part<'a>>, AllocError>
-    ensures { IfOk result (λ parts.
-        parts.items ≡ record { entries = entries.entry; len = 0 } ∷ []) }
+/// The parts whose forms go on with the characters, which no others fit.
+fn behind_run<'a>(
+    alloc: Global,
+    parts: Vec<Part<'a>>,
+    run: &str,
+) -> Result<Vec<Part<'a>>, AllocError>
+    ensures { IfOk result (λ next. GoOnAlone (chars run.now) parts.entry.items next.items) }
 {
-    let mut parts = Vec::new(alloc);
-    parts.push(Part { entries, len: 0 })?;
-    Ok(parts)
+    if run.is_empty() {
+        return Ok(parts);
+    }
+    followed(alloc, &parts, run)
+}
+
+/// The parts of which each goes on with the text.
+fn followed<'a>(alloc: Global, parts: &[Part<'a>], more: &str) -> Result<Vec<Part<'a>>, AllocError>
+    ensures { IfOk result (λ next. GoOnAlone (chars more.now) parts.now next.items) }
+{
+    let mut next = Vec::new(alloc);
+    for part in parts {
+        push_going_on(&mut next, part, more)?;
+    }
+    Ok(next)
 }
 
 /// The parts whose forms go on with a letter that fits the character.
@@ -62,8 +92,8 @@ fn next_parts<'a>(
     if parts.is_empty() {
         return Ok(Vec::new(alloc));
     }
-    let candidates = candidates(alloc, letters, c, alphabet)?;
-    continued(alloc, parts, &candidates)
+    let fitting = fitting_letters(alloc, letters, c, alphabet)?;
+    continued(alloc, parts, &fitting)
 }
 
 /// The parts of which each goes on with one of the letters.
@@ -94,13 +124,13 @@ fn push_continued<'a>(
         IsContinued front letters.now part.now parts.old.items parts.new.items) }
 {
     for letter in letters {
-        push_going_on(parts, part, *letter)?;
+        push_letter(parts, part, *letter)?;
     }
     Ok(())
 }
 
 /// Puts the entries of a part that go on with the letter last, if there are any.
-fn push_going_on<'a>(
+fn push_letter<'a>(
     parts: &mut Vec<Part<'a>>,
     part: &Part<'a>,
     letter: char,
@@ -109,14 +139,26 @@ fn push_going_on<'a>(
         IsContinued front (letter ∷ []) part.now parts.old.items parts.new.items) }
 {
     let mut buffer = [0; 4];
-    let bytes = letter.encode_utf8(&mut buffer).as_bytes();
-    let entries = going_on(part.entries, part.len, bytes);
-    if let Some(first) = entries.first() {
+    push_going_on(parts, part, letter.encode_utf8(&mut buffer))
+}
+
+/// Puts the entries of a part that go on with the text last, if there are any.
+fn push_going_on<'a>(
+    parts: &mut Vec<Part<'a>>,
+    part: &Part<'a>,
+    more: &str,
+) -> Result<(), AllocError>
+    ensures { OnOk result ((front : List ℕ) → IsPart front part.now →
+        IsFollowed front (chars more.now) part.now parts.old.items parts.new.items) }
+{
+    let next = going_on(part, more.as_bytes());
+    if let Some(first) = next.entries.first() {
         // The first form has all these bytes, so that their number fits.
         let _len = form_len(first);
         parts.push(Part {
-            entries,
-            len: part.len.saturating_add(bytes.len()),
+            entries: next.entries,
+            keys: next.keys,
+            len: part.len.saturating_add(more.len()),
         })?;
     }
     Ok(())

@@ -13,13 +13,16 @@
 pub mod any_lexicon;
 mod candidates;
 mod continuing;
-mod different;
+mod entry_table;
+mod keys;
 pub mod lexicon;
 pub mod list_lexicon;
 mod measures;
+pub mod once;
 pub mod parts;
 mod sorting;
 
 pub use any_lexicon::AnyLexicon;
 pub use lexicon::Lexicon;
 pub use list_lexicon::ListLexicon;
+pub use once::different;

@@ -3,14 +3,15 @@
 //! The entries stand in order of form, so that those of a form, and those whose forms begin alike,
 //! are found by binary searches.
 
-ghost use Rattle.std.specs.Prelude.{◌≡◌, ◌↔◌, ◌<◌, ◌++◌, All, IsTrue, IfOk, OnOk, length};
+ghost use Rattle.std.specs.Prelude.{◌≡◌, ◌↔◌, ◌<◌, ◌++◌, All, IsTrue, IfOk, OnOk, [], length};
 ghost use Rattle.std.specs.Str.{chars};
 ghost use Rattle.ux_dela.specs.Sound.{IsSound};
 ghost use Rattle.ux_dict.specs.Content.{IsContent, IsDictionary};
-ghost use Rattle.ux_dict.specs.Parts.{AreFittingParts, AreWhole, entries_of};
+ghost use Rattle.ux_dict.specs.Parts.{AreFittingParts, AreWhole, IsPart, entries_of};
 
 use crate::continuing::fitting_parts;
-use crate::different::different;
+use crate::entry_table::first_ones;
+use crate::keys::keys_of;
 use crate::lexicon::Lexicon;
 use crate::measures::{letters_of, longest_form};
 use crate::parts::{Part, ending, of_form};
@@ -25,6 +26,8 @@ use ux_dela::Entry;
 #[derive(Drop)]
 pub struct ListLexicon {
     entries: Vec<Entry>,
+    /// The key of each entry.
+    keys: Vec<u64>,
     /// The different characters of all forms, in order.
     letters: Vec<char>,
     /// The length in characters of the longest form.
@@ -41,8 +44,8 @@ impl Model for ListLexicon {
 
     ghost use Rattle.ux_dict.specs.Kept.{IsKept};
 
-    ghost invariant = { λ lexicon. IsKept lexicon.entries.items lexicon.letters.items
-        lexicon.longest };
+    ghost invariant = { λ lexicon. IsKept lexicon.entries.items lexicon.keys.items
+        lexicon.letters.items lexicon.longest };
 }
 
 impl ListLexicon {
@@ -53,10 +56,12 @@ impl ListLexicon {
         ensures { IfOk result (IsContent entries.items) }
     {
         let entries = content_of(alloc, entries)?;
+        let keys = keys_of(alloc, &entries)?;
         let letters = letters_of(alloc, &entries)?;
         let longest = longest_form(&entries);
         Ok(ListLexicon {
             entries,
+            keys,
             letters,
             longest,
         })
@@ -72,7 +77,19 @@ impl ListLexicon {
             AreFittingParts alphabet.now (chars text.now) self.now parts.items) }
         ensures dictionary { IsDictionary self.now }
     {
-        fitting_parts(alloc, &self.entries, &self.letters, text, alphabet)
+        fitting_parts(alloc, self.whole(), &self.letters, text, alphabet)
+    }
+
+    /// All entries as one part, whose forms begin with no character.
+    fn whole(&self) -> Part<'_>
+        ensures entries { result.entries.now ≡ self.now }
+        ensures part { IsPart [] result }
+    {
+        Part {
+            entries: &self.entries,
+            keys: &self.keys,
+            len: 0,
+        }
     }
 }
 
@@ -80,7 +97,7 @@ impl ListLexicon {
 fn content_of(alloc: Global, entries: Vec<Entry>) -> Result<Vec<Entry>, AllocError>
     ensures { IfOk result (λ content. IsContent entries.items content.items) }
 {
-    let mut content = different(alloc, entries)?;
+    let mut content = first_ones(alloc, entries)?;
     sort_by_form(&mut content)?;
     Ok(content)
 }
@@ -104,7 +121,7 @@ impl Lexicon for ListLexicon {
 
     /// The number of entries of exactly this form. Takes two binary searches.
     fn exact(&self, form: &str) -> Option<usize> {
-        match of_form(&self.entries, form).len() {
+        match of_form(&self.whole(), form).len() {
             0 => None,
             count => Some(count),
         }

@@ -15,6 +15,6 @@ returns-then-is_empty c =
 pub returns : goal.returns
 returns c =
     let are = subst (AreCandidates c.args.alphabet.now c.args.letters.now c.args.c)
-    (sym c.deref.ensures.value) c.in_ok-candidates.ensures in
+    (sym c.deref.ensures.value) c.in_ok-fitting.ensures in
     IfOk-weaker c.continued.result _ _
     (λ next goes. goes c.args.alphabet.now c.args.letters.now c.args.c are) c.continued.ensures

@@ -11,8 +11,8 @@ pub loop-letter-preserved : goal.loop-letter-preserved
 loop-letter-preserved c front is =
     IsContinued-more front c.args.part.now c.args.letters.now c.loop-letter.letter-index
     c.letter-item.result (omega arith) c.letter-item.is c.requires is c.args.parts.now.items
-    c.loop-letter.parts.items c.push_going_on.new.parts.items (c.loop-letter.invariant front is)
-    (c.in_ok-push_going_on.ensures front is)
+    c.loop-letter.parts.items c.push_letter.new.parts.items (c.loop-letter.invariant front is)
+    (c.in_ok-push_letter.ensures front is)
 
 pub returns : goal.returns
 returns c front is =

@@ -1,25 +1,10 @@
-use Rattle.std.proofs.Common.{ltb, List, rules, subst, sym}
-use Rattle.std.proofs.lemmas.List.{take_rest}
-use Rattle.std.proofs.lemmas.List.Sorted.{IsPartitionPoint-from_clause, IsPartitionedBy-ltb, IsNonDecreasingBy-drop}
-use Rattle.std.specs.List.Sorted.{IsNonDecreasingBy}
-use Rattle.ux_dela.specs.declared.entry.Entry.{Entry}
-use Rattle.ux_dict.specs.Parts.{next_rank}
-use Rattle.ux_dict.proofs.CutLemmas.{filter_run}
+use Rattle.ux_dict.proofs.NearLemmas.{IsSifted-narrowed}
+use Rattle.ux_dict.proofs.PartLemmas.{next_rises}
 use Rattle.ux_dict.proofs.parts.going_on.Goals as goal
 
 pub returns : goal.returns
-returns c rises =
-    let n = next_rank c.args.len c.args.letter.now in
-    let entries = c.args.entries.now in
-    let start = c.partition_point-start.result in
-    let is = take_rest entries start in
-    let first = IsPartitionPoint-from_clause (λ (e : Entry). ltb (n e) 1) entries start
-    c.partition_point-start.ensures.partitioned (IsPartitionedBy-ltb n entries 1 rises)
-    (λ a r q k. search rules) in
-    let later = subst (λ (l : List Entry). IsNonDecreasingBy n l) (sym is)
-    (IsNonDecreasingBy-drop n start entries rises) in
-    let second = IsPartitionPoint-from_clause (λ (e : Entry). ltb (n e) 2) _
-    c.partition_point-end.result c.partition_point-end.ensures.partitioned
-    (IsPartitionedBy-ltb n _ 2 later) (λ a r q k. search rules) in
-    filter_run n entries _ start c.partition_point-end.result is first second
-    c.partition_point-end.ensures.bound
+returns c front is =
+    let few = c.narrowed-few.result in
+    let narrow = c.narrowed-few.ensures front is in
+    let sift = c.sifted.ensures (next_rises front few c.args.more.now narrow.is) narrow.is.keyed in
+    IsSifted-narrowed front c.args.more.now c.args.part.now few c.sifted.result is narrow sift

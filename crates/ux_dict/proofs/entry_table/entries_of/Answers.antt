@@ -5,7 +5,7 @@ use Rattle.std.proofs.lemmas.Iterator.{YieldsList-from_map, items_from_collect}
 use Rattle.std.proofs.lemmas.Iterator.Consumers.{YieldsList-from_rest}
 use Rattle.std.proofs.lemmas.Result.{IfOk-weaker}
 use Rattle.ux_dela.specs.declared.entry.Entry.{Entry}
-use Rattle.ux_dict.proofs.different.entries_of.Goals as goal
+use Rattle.ux_dict.proofs.entry_table.entries_of.Goals as goal
 
 pub returns : goal.returns
 returns c =

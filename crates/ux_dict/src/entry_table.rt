@@ -80,7 +80,7 @@ impl Hash for Whole {
 }
 
 /// The entries that differ, in the order of their first places. Takes a step an entry.
-pub fn different(alloc: Global, entries: Vec<Entry>) -> Result<Vec<Entry>, AllocError>
+pub(crate) fn first_ones(alloc: Global, entries: Vec<Entry>) -> Result<Vec<Entry>, AllocError>
     ensures { IfOk result (λ kept. kept.items ≡ insert_all entry_eq [] entries.items) }
 {
     let table = table_of(alloc, entries)?;

@@ -1,7 +1,7 @@
 use Rattle.std.proofs.Common.{take}
 use Rattle.ux_alphabet.specs.Letters.{Fits}
 use Rattle.ux_dict.specs.Forms.{IsChosen}
-use Rattle.ux_dict.proofs.candidates.fitting_letters.Given as goal
+use Rattle.ux_dict.proofs.candidates.chosen_letters.Given as goal
 
 -- those that fit of the letters so far
 abbrev pub invariant-loop-letter : goal.invariant-loop-letter

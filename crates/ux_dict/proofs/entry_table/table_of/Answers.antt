@@ -7,7 +7,7 @@ use Rattle.std.proofs.lemmas.Result.{IfOk-weaker}
 use Rattle.indexmap.specs.IndexSet.{insert_all}
 use Rattle.ux_dela.specs.declared.entry.Entry.{Entry}
 use Rattle.ux_dict.specs.Equal.{entry_eq}
-use Rattle.ux_dict.proofs.different.table_of.Goals as goal
+use Rattle.ux_dict.proofs.entry_table.table_of.Goals as goal
 
 pub returns : goal.returns
 returns c =

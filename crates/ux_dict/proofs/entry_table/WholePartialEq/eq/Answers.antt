@@ -2,7 +2,7 @@
 use Rattle.std.proofs.Common.{◌≡◌, ◌∙◌}
 use Rattle.std.specs.Bool.{one_answer}
 use Rattle.ux_dict.specs.Equal.{entry_eq, entry_eq-Decides}
-use Rattle.ux_dict.proofs.different.WholePartialEq.eq.Goals as goal
+use Rattle.ux_dict.proofs.entry_table.WholePartialEq.eq.Goals as goal
 
 pub returns : goal.returns
 returns c =
