@@ -6,6 +6,7 @@ mod fakes;
 mod grammars;
 mod plain;
 mod refusals;
+mod reports;
 mod requests;
 mod rows;
 mod searches;

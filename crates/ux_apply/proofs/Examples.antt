@@ -1,5 +1,5 @@
 -- Small cases of the definitions, worked by hand.
-use Rattle.std.proofs.Common.{arith, ◌≡◌, ℕ, zero, suc, ◌<◌, List, [], ◌∷◌, length, get_or, refl, inl, inr}
+use Rattle.std.proofs.Common.{arith, ◌≡◌, ℕ, zero, suc, ◌<◌, List, [], ◌∷◌, get_or, refl, inl}
 use Rattle.std.specs.Prelude.{Contains, codes}
 use Rattle.ux_tokens.specs.declared.kind.Kind.TheVariants.{Word, Space}
 use Rattle.ux_tokens.specs.Tokens.{Token}

@@ -1,54 +1,17 @@
 -- The entries that dictionaries of one priority have for a text, one dictionary at a time.
-use Rattle.std.proofs.Common.{arith, ◌≡◌, ◌≢◌, ℕ, zero, suc, ◌+◌, ◌<◌, ◌≤◌, length, take, get_or, map, Bool, true, false, cond, List, [], ◌∷◌, ◌++◌, append_assoc, append-nil, refl, sym, ◌∙◌, ap, subst, inl, inr}
-use Rattle.std.specs.Prelude.{Contains, ◌==◌}
+use Rattle.std.proofs.Common.{◌≡◌, ◌≢◌, ℕ, ◌+◌, ◌<◌, ◌≤◌, length, take, get_or, map, Bool, true, false, cond, List, [], ◌∷◌, ◌++◌, append_assoc, append-nil, sym, ◌∙◌, ap, subst}
+use Rattle.std.specs.Prelude.{◌==◌}
 use Rattle.std.proofs.lemmas.Bool.{false≢true}
 use Rattle.std.proofs.lemmas.Bool.Decides.{Decides-eqb}
 use Rattle.std.proofs.lemmas.List.{map_more, nil_from_length, take_all}
 use Rattle.std.proofs.lemmas.List.Elements.{All-push}
 use Rattle.ux_alphabet.specs.declared.line.Line.{Line}
 use Rattle.ux_dela.specs.declared.entry.Entry.{Entry}
-use Rattle.ux_dict.specs.Forms.{IsFitting, FitsForm, MayBegin, none}
+use Rattle.ux_dict.specs.Forms.{IsFitting, FitsForm, MayBegin}
 use Rattle.ux_apply.specs.declared.priority.Priority.{Priority}
-use Rattle.ux_apply.specs.Applying.{AreFound, AreOnce, empty, new, known, contents, content_at, is_same}
-use Rattle.ux_apply.specs.Kept.{AreAdded, IsGrown, IsPut, NoneBegins}
+use Rattle.ux_apply.specs.Applying.{contents, content_at, is_same}
+use Rattle.ux_apply.specs.Kept.{AreAdded, NoneBegins}
 use Rattle.ux_apply.proofs.NothingLemmas.{chosen-append}
-
--- no entry more
-pub grown-none : (old : List Entry) → IsGrown old [] old
-grown-none old all once = subst (λ (l : List Entry). AreOnce l old) (sym (append-nil all)) once
-
--- one entry more that wasn't there
-grown-new : (old more entries all_new : List Entry) (entry : Entry) →
-    IsGrown old more entries → (Contains entries entry → ⊥) → all_new ≡ entries ++ entry ∷ [] →
-    IsGrown old (more ++ entry ∷ []) all_new
-grown-new old more entries all_new entry before absent is all once =
-    subst (AreOnce (all ++ (more ++ entry ∷ []))) (sym is)
-    (subst (λ (l : List Entry). AreOnce l (entries ++ entry ∷ []))
-    (append_assoc all more (entry ∷ []))
-    (new (all ++ more) entries entry (before all once) absent))
-
--- and one that was there
-grown-known : (old more entries all_new : List Entry) (entry : Entry) →
-    IsGrown old more entries → Contains entries entry → all_new ≡ entries →
-    IsGrown old (more ++ entry ∷ []) all_new
-grown-known old more entries all_new entry before there is all once =
-    subst (AreOnce (all ++ (more ++ entry ∷ []))) (sym is)
-    (subst (λ (l : List Entry). AreOnce l entries)
-    (append_assoc all more (entry ∷ []))
-    (known (all ++ more) entries entry (before all once) there))
-
-pub grown-put : (old more entries : List Entry) (entry : Entry) (all_new : List Entry) →
-    IsGrown old more entries → IsPut entries entry all_new →
-    IsGrown old (more ++ entry ∷ []) all_new
-grown-put old more entries entry all_new before (inl there) =
-    grown-known old more entries all_new entry before there.0 there.1
-grown-put old more entries entry all_new before (inr absent) =
-    grown-new old more entries all_new entry before absent.0 absent.1
-
--- no dictionary has none
-pub found-none : (lines : List Line) (text : List ℕ) (priority : Priority) →
-    AreFound lines [] text priority []
-found-none lines text priority = record { fitting = []; fit = none; once = empty }
 
 module _ (priority : Priority) (dic : Priority × List Entry) where
   -- the entries of one dictionary more
@@ -63,35 +26,30 @@ module _ (priority : Priority) (dic : Priority × List Entry) where
       (cond (is_same dic.0 priority) dic.1 []))
 
   module _ (lines : List Line) (dics : List (Priority × List Entry)) (text : List ℕ)
-      (old : List Entry) (before : AreFound lines dics text priority old) where
+      (old : List Entry) (before : IsFitting lines text (content_at priority dics) old) where
     -- a dictionary of the priority has its entries added
-    pub found-more : (all_new : List Entry) → is_same dic.0 priority ≡ true →
+    pub fitting-more : (all_new : List Entry) → is_same dic.0 priority ≡ true →
         AreAdded lines text dic.1 old all_new →
-        AreFound lines (dics ++ dic ∷ []) text priority all_new
-    found-more all_new same added =
+        IsFitting lines text (content_at priority (dics ++ dic ∷ [])) all_new
+    fitting-more all_new same added =
         let content : content_at priority (dics ++ dic ∷ []) ≡ content_at priority dics ++ dic.1 =
         content_at-push dics
-        ∙ ap (λ (b : Bool). content_at priority dics ++ cond b dic.1 []) same in record {
-          fitting = before.fitting ++ added.more;
-          fit = subst (λ (l : List Entry). IsFitting lines text l (before.fitting ++ added.more))
-              (sym content)
-              (chosen-append (λ (e : Entry). FitsForm lines e.form text) before.fit added.fit);
-          once = added.grown before.fitting before.once;
-        }
+        ∙ ap (λ (b : Bool). content_at priority dics ++ cond b dic.1 []) same in
+        subst
+        (λ (l : List Entry). IsFitting lines text (content_at priority (dics ++ dic ∷ [])) l)
+        (sym added.added)
+        (subst (λ (l : List Entry). IsFitting lines text l (old ++ added.more)) (sym content)
+        (chosen-append (λ (e : Entry). FitsForm lines e.form text) before added.fit))
 
     -- and another one is passed over
-    pub found-skip : is_same dic.0 priority ≡ false →
-        AreFound lines (dics ++ dic ∷ []) text priority old
-    found-skip other =
+    pub fitting-skip : is_same dic.0 priority ≡ false →
+        IsFitting lines text (content_at priority (dics ++ dic ∷ [])) old
+    fitting-skip other =
         let content : content_at priority (dics ++ dic ∷ []) ≡ content_at priority dics =
         content_at-push dics
         ∙ (ap (λ (b : Bool). content_at priority dics ++ cond b dic.1 []) other
-        ∙ append-nil (content_at priority dics)) in record {
-          fitting = before.fitting;
-          fit = subst (λ (l : List Entry). IsFitting lines text l before.fitting) (sym content)
-              before.fit;
-          once = before.once;
-        }
+        ∙ append-nil (content_at priority dics)) in
+        subst (λ (l : List Entry). IsFitting lines text l old) (sym content) before
 
 -- the contents of one dictionary more
 module _ {L : Type 0} (content : L → List Entry) (dics : List (Priority × L)) (i : ℕ)

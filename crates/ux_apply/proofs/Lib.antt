@@ -2,8 +2,11 @@ mod Examples
 pub mod NamesLemmas
 pub mod ZipLemmas
 pub mod FoundLemmas
+pub mod OnceLemmas
 pub mod NothingLemmas
 pub mod FirstLemmas
+pub mod OwnLemmas
 pub mod SpanLemmas
+pub mod StartLemmas
 pub mod RowLemmas
 pub mod UnknownLemmas

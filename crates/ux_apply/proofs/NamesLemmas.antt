@@ -1,5 +1,5 @@
 -- The last dot of a name cuts off its extension.
-use Rattle.std.proofs.Common.{arith, ◌≡◌, ◌≢◌, ℕ, ◌+◌, ◌<◌, List, ◌∷◌, ◌++◌, length, get_or, take, drop, refl, sym, ◌∙◌, ap, inl}
+use Rattle.std.proofs.Common.{arith, ◌≡◌, ◌≢◌, ℕ, ◌+◌, ◌<◌, List, ◌∷◌, ◌++◌, length, get_or, take, drop, sym, ◌∙◌, ap, inl}
 use Rattle.std.specs.Prelude.{Option, None, Some, MatchOption, Contains}
 use Rattle.std.proofs.lemmas.List.{take-append-drop, drop_more, get_or_default, get_or-drop, length-drop}
 use Rattle.ux_apply.specs.Names.{DOT, IsLastDot, IsStem}

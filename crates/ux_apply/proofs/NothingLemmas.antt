@@ -1,5 +1,5 @@
 -- Where no form begins with characters that fit a text, no entry applies to it or to a longer one.
-use Rattle.std.proofs.Common.{arith, ◌≡◌, ℕ, zero, suc, ◌+◌, ◌<◌, ◌≤◌, Bool, true, false, cond, List, [], ◌∷◌, ◌++◌, length, length-append, get_or, refl, sym, ◌∙◌, ap, subst, max}
+use Rattle.std.proofs.Common.{arith, ◌≡◌, ℕ, zero, suc, ◌+◌, ◌<◌, ◌≤◌, Bool, true, false, cond, List, [], ◌∷◌, ◌++◌, length, length-append, get_or, ◌∙◌, ap, subst}
 use Rattle.std.specs.Prelude.{All, IsUtf8}
 use Rattle.std.specs.List.{AllZip}
 use Rattle.std.specs.Str.{chars}
@@ -12,8 +12,9 @@ use Rattle.ux_dela.specs.declared.entry.Entry.{Entry}
 use Rattle.ux_dict.specs.Forms.{FitsForm, BeginsFitting, MayBegin, IsChosen, none, kept, left, IsFitting, longest_of}
 use Rattle.ux_apply.specs.declared.priority.Priority.{Priority}
 use Rattle.ux_apply.specs.declared.priority.Priority.TheVariants.{High, Normal, Low}
-use Rattle.ux_apply.specs.Applying.{AreFound, AreApplying, AreOnce, low, empty, content_at, is_same}
+use Rattle.ux_apply.specs.Applying.{AreFound, AreApplying, low, content_at, is_same}
 use Rattle.ux_apply.specs.Kept.{NoneBegins}
+use Rattle.ux_apply.proofs.OnceLemmas.{once-short}
 use Rattle.ux_apply.proofs.ZipLemmas.{zip-split, zip-length}
 
 module _ {X : Type 0} (P : X → Type 0) where
@@ -98,5 +99,5 @@ module _ (lines : List Line) (text : List ℕ) where
         found priority = record {
           fitting = [];
           fit = none-at priority dics begin;
-          once = empty;
+          once = once-short [] (omega arith);
         }

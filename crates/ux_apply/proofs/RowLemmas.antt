@@ -1,9 +1,10 @@
 -- Rows of compound entries, of which only those with an entry are kept.
-use Rattle.std.proofs.Common.{arith, below_more, ◌≡◌, ◌≢◌, ℕ, zero, suc, ◌+◌, ◌<◌, ◌≤◌, List, [], ◌∷◌, ◌++◌, length, get_or, refl, sym, ◌∙◌, ap, subst}
-use Rattle.std.specs.Prelude.{Option, Some, None, IsSomeAnd, Vec, slice_get}
+use Rattle.std.proofs.Common.{arith, below_more, ◌≡◌, ◌≢◌, ℕ, zero, suc, ◌+◌, ◌<◌, ◌≤◌, List, [], ◌∷◌, ◌++◌, length, get_or, take, refl, sym, ◌∙◌, ap, subst}
+use Rattle.std.specs.Prelude.{Option, Some, IsSomeAnd, Vec, slice_get}
 use Rattle.std.specs.BTreeMap.{BTreeMap, is_at}
 use Rattle.std.specs.Map.{lookup}
 use Rattle.std.specs.Ordering.{nat_cmp}
+use Rattle.std.specs.List.{AllZip}
 use Rattle.std.proofs.lemmas.List.{length_push, get_or_push, get_or_append_left}
 use Rattle.std.proofs.lemmas.Option.{same_Some, slice_get_within, slice_get-get_or, get_or_from_slice_get}
 use Rattle.ux_alphabet.specs.declared.line.Line.{Line}
@@ -12,6 +13,7 @@ use Rattle.ux_tokens.specs.Tokens.{Token}
 use Rattle.ux_apply.specs.declared.priority.Priority.{Priority}
 use Rattle.ux_apply.specs.Tables.{IsCompoundRow, AreCompounds}
 use Rattle.ux_apply.specs.Kept.{AreRowsUpTo, items_in, row_of, table_of}
+use Rattle.ux_apply.proofs.ZipLemmas.{zip-more}
 
 module _ {X : Type 0} (at : ℕ → X) where
   -- a table has a row for each place
@@ -50,44 +52,63 @@ module _ {X : Type 0} (at : ℕ → X) where
   table-some end place row lt is =
       subst (λ (o : Option X). IsSomeAnd o (λ given. row ≡ given)) (sym (table-at end place lt)) is
 
-module _ {Z : Type 0} (lines : List Line) (dics : List (Priority × List Entry))
-    (tokens : List Token) where
+module _ {X Z : Type 0} (IsRow : ℕ → List X → Type 0) where
   -- no row is kept at first
-  pub rows-start : (rows : BTreeMap ℕ (Vec (ℕ × Entry) Z)) → rows.entries ≡ [] →
-      AreRowsUpTo lines dics tokens 0 rows
+  pub rows-start : (rows : BTreeMap ℕ (Vec X Z)) → rows.entries ≡ [] → AreRowsUpTo IsRow 0 rows
   rows-start rows none = record {
     each = λ first lt. absurd (omega arith);
-    others = λ first past. ap (λ (es : List (ℕ × Vec (ℕ × Entry) Z)).
+    others = λ first past. ap (λ (es : List (ℕ × Vec X Z)).
         items_in (lookup (is_at (nat_cmp first)) es)) none;
   }
 
   -- one row more
-  pub rows-more : (place : ℕ) (old new : BTreeMap ℕ (Vec (ℕ × Entry) Z)) (row : List (ℕ × Entry)) →
-      AreRowsUpTo lines dics tokens place old → IsCompoundRow lines dics tokens place row →
+  pub rows-more : (place : ℕ) (old new : BTreeMap ℕ (Vec X Z)) (row : List X) →
+      AreRowsUpTo IsRow place old → IsRow place row →
       (row_of old place ≡ [] → row_of new place ≡ row) →
       ((other : ℕ) → other ≢ place → row_of new other ≡ row_of old other) →
-      AreRowsUpTo lines dics tokens (place + 1) new
+      AreRowsUpTo IsRow (place + 1) new
   rows-more place old new row before is here others =
       let own : row_of new place ≡ row = here (before.others place (omega arith)) in record {
-        each = below_more (λ first. IsCompoundRow lines dics tokens first (row_of new first)) place
+        each = below_more (λ first. IsRow first (row_of new first)) place
             (λ first lt.
             let other : first ≢ place = omega (arith, lt) in
-            subst (IsCompoundRow lines dics tokens first) (sym (others first other))
+            subst (IsRow first) (sym (others first other))
             (before.each first lt))
-            (subst (IsCompoundRow lines dics tokens place) (sym own) is);
+            (subst (IsRow place) (sym own) is);
         others = λ first past.
             let other : first ≢ place = omega (arith, past) in
             others first other ∙ before.others first (omega (arith, past));
       }
 
-  -- the table of all of them
-  pub rows-whole : (rows : BTreeMap ℕ (Vec (ℕ × Entry) Z)) (end : ℕ) → end ≡ length tokens →
-      AreRowsUpTo lines dics tokens (length tokens) rows →
-      AreCompounds lines dics tokens (table_of (row_of rows) end)
-  rows-whole rows end long all = record {
-    each_token = length-table (row_of rows) end ∙ long;
-    each = λ first row is.
-        let at = table-row (row_of rows) end first row is in
-        subst (IsCompoundRow lines dics tokens first) (sym at.1)
-        (all.each first (omega (arith, at.0, long)));
-  }
+-- the table of all of them
+pub rows-whole : {Z : Type 0} (lines : List Line) (dics : List (Priority × List Entry))
+    (tokens : List Token) (rows : BTreeMap ℕ (Vec (ℕ × Entry) Z)) (end : ℕ) →
+    end ≡ length tokens →
+    AreRowsUpTo (IsCompoundRow lines dics tokens) (length tokens) rows →
+    AreCompounds lines dics tokens (table_of (row_of rows) end)
+rows-whole lines dics tokens rows end long all = record {
+  each_token = length-table (row_of rows) end ∙ long;
+  each = λ first row is.
+      let at = table-row (row_of rows) end first row is in
+      subst (IsCompoundRow lines dics tokens first) (sym at.1)
+      (all.each first (omega (arith, at.0, long)));
+}
+
+-- what stands at a place
+some-at : {A : Type 0} (xs : List A) (i : ℕ) → i < length xs → (x : A) × (slice_get xs i ≡ Some x)
+some-at [] i lt = absurd (omega (arith, lt))
+some-at (x ∷ xs) zero lt = (x, refl)
+some-at (x ∷ xs) (suc i) lt = some-at xs i (omega (arith, lt))
+
+-- a table whose rows belong to the members of a list
+pub zip-table : {A B : Type 0} (R : A → B → Type 0) (xs : List A) (at : ℕ → B) (end : ℕ) →
+    end ≤ length xs → ((i : ℕ) (x : A) → slice_get xs i ≡ Some x → R x (at i)) →
+    AllZip R (take end xs) (table_of at end)
+zip-table R xs at zero within each = tt
+zip-table R xs at (suc end) within each =
+    let x = some-at xs end (omega (arith, within)) in
+    let next : end + 1 ≡ suc end = omega arith in
+    subst (λ (k : ℕ). AllZip R (take k xs) (table_of at end ++ at end ∷ [])) next
+    (zip-more R xs (table_of at end) end x.0 (at end) (omega (arith, within))
+    (get_or_from_slice_get xs end x.0 x.0 x.1)
+    (zip-table R xs at end (omega (arith, within)) each) (each end x.0 x.1))

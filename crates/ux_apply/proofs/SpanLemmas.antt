@@ -1,7 +1,6 @@
 -- Where no span that begins at a token has an entry, however far it goes.
-use Rattle.std.proofs.Common.{arith, below_more, ◌≡◌, ℕ, zero, suc, ◌+◌, ◌-◌, ◌<◌, ◌≤◌, Bool, false, List, [], ◌∷◌, ◌++◌, map, length, take, drop, refl, sym, ◌∙◌, ap, subst, append_assoc, append-nil}
-use Rattle.std.specs.Prelude.{Option, Some, None, IsSomeAnd, IsUtf8, slice_get, slice_range}
-use Rattle.std.specs.List.{AllZip}
+use Rattle.std.proofs.Common.{arith, below_more, ◌≡◌, ℕ, zero, suc, ◌+◌, ◌-◌, ◌<◌, ◌≤◌, List, [], ◌∷◌, ◌++◌, map, length, take, drop, refl, sym, ◌∙◌, ap, subst, append_assoc, append-nil}
+use Rattle.std.specs.Prelude.{Option, Some, None, IsSomeAnd, IsUtf8, slice_get}
 use Rattle.std.proofs.lemmas.List.{take-append-drop, take-take, drop-take}
 use Rattle.std.proofs.lemmas.Option.{none-some, same_Some}
 use Rattle.ux_alphabet.specs.declared.line.Line.{Line}
@@ -9,14 +8,12 @@ use Rattle.ux_dela.specs.declared.entry.Entry.{Entry}
 use Rattle.ux_tokens.specs.declared.kind.Kind.{Kind}
 use Rattle.ux_tokens.specs.declared.kind.Kind.TheVariants.{Word, Space, Other, Sentence, Stop, Tag}
 use Rattle.ux_tokens.specs.Tokens.{Token, joined}
-use Rattle.ux_tokens.specs.Numbers.{different_texts}
 use Rattle.ux_apply.specs.declared.priority.Priority.{Priority}
 use Rattle.ux_apply.specs.Applying.{AreApplying}
 use Rattle.ux_apply.specs.Spans.{IsSpan, MayBound, MayStand, text_of}
-use Rattle.ux_apply.specs.Tables.{AreOfSpan, AreCompoundUpTo, start, more}
-use Rattle.ux_apply.specs.Kept.{HaveNone, IsFront, IsMarked, NoneBegins}
+use Rattle.ux_apply.specs.Tables.{AreOfSpan, AreCompoundUpTo, more}
+use Rattle.ux_apply.specs.Kept.{HaveNone, IsFront, NoneBegins}
 use Rattle.ux_apply.proofs.NothingLemmas.{nothing-applies}
-use Rattle.ux_apply.proofs.ZipLemmas.{zip-at}
 
 -- what is known of a token's kind
 kind_has : (P : Kind → Type 0) (o : Option Token) (kind : Kind) →
@@ -164,26 +161,6 @@ module _ (lines : List Line) (dics : List (Priority × List Entry)) (tokens : Li
       one_text t is =
           let one : first + 1 - first ≡ 1 = omega arith in
           sym (ap (λ (k : ℕ). joined (take k (drop first tokens))) one ∙ head tokens t first is)
-
-  -- so there are none where the first token is marked so
-  pub none-marked : (marks : List Bool) (n : ℕ) →
-      AllZip (IsMarked lines dics) (different_texts tokens) marks →
-      slice_get marks n ≡ Some false →
-      IsSomeAnd (slice_get tokens first)
-      (λ t. slice_get (different_texts tokens) n ≡ Some t.text) →
-      HaveNone lines dics tokens first (first + 1)
-  none-marked marks n marked at there = go (slice_get tokens first) refl there
-    where
-      go : (o : Option Token) → slice_get tokens first ≡ o →
-          IsSomeAnd o (λ t. slice_get (different_texts tokens) n ≡ Some t.text) →
-          HaveNone lines dics tokens first (first + 1)
-      go None is has = absurd has
-      go (Some token) is has =
-          let back = zip-at (IsMarked lines dics) (different_texts tokens) marks n token.text marked
-          has in
-          let mark : back.0 ≡ false = same_Some back.0 false (sym back.1 ∙ at) in
-          let begin = back.2 mark in
-          none-first token is begin.0 begin.1
 
   -- where a form may begin with a span, its entries are those that apply
   pub of_span : (last : ℕ) (text : List ℕ) (entries : List Entry) →

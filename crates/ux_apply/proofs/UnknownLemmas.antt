@@ -1,31 +1,32 @@
 -- Words without a simple entry, as their numbers are collected, and as the tables tell them.
-use Rattle.std.proofs.Common.{arith, rules, ◌≡◌, ◌≢◌, ◌↔◌, ◌⊎◌, ℕ, ◌+◌, ◌<◌, ◌≤◌, Bool, true, false, cond, List, [], ◌∷◌, ◌++◌, map, length, get_or, take, refl, sym, ◌∙◌, ap, subst, inl, inr}
-use Rattle.std.specs.Prelude.{Option, Some, None, IsSomeAnd, Contains, Vec, slice_get, option_map}
+use Rattle.std.proofs.Common.{arith, rules, ◌≡◌, ◌↔◌, ◌⊎◌, ℕ, ◌+◌, ◌<◌, Bool, true, false, cond, List, [], ◌∷◌, ◌++◌, length, get_or, take, refl, sym, ◌∙◌, ap, subst, inl, inr}
+use Rattle.std.specs.Prelude.{Option, Some, None, IsSomeAnd, Contains, Vec, slice_get}
 use Rattle.std.specs.List.{AllZip}
 use Rattle.std.specs.List.Sorted.{IsStrictlyIncreasing}
 use Rattle.std.specs.Ordering.{nat_cmp}
 use Rattle.std.specs.Cmp.{nat_cmp_total}
-use Rattle.std.specs.BTreeMap.{is_at}
+use Rattle.std.specs.BTreeMap.{BTreeMap, is_at}
 use Rattle.std.specs.BTreeSet.{BTreeSet, contains, Updates}
 use Rattle.std.proofs.lemmas.Map.Lookups.{exact_unsigned}
 use Rattle.std.proofs.lemmas.Map.Views.{btree_set_contains_iff}
-use Rattle.std.proofs.lemmas.Bool.{cases_Bool}
 use Rattle.std.proofs.lemmas.List.{take_more, take_all}
 use Rattle.std.proofs.lemmas.List.Elements.{Contains-append_left, Contains-push, Contains-push_cases}
-use Rattle.std.proofs.lemmas.Option.{none-some, same_Some, slice_get-map, slice_get_within, slice_get-get_or, get_or_from_slice_get}
+use Rattle.std.proofs.lemmas.Option.{slice_get_within, slice_get-get_or, get_or_from_slice_get}
 use Rattle.ux_alphabet.specs.declared.line.Line.{Line}
 use Rattle.ux_dela.specs.declared.entry.Entry.{Entry}
 use Rattle.ux_tokens.specs.declared.kind.Kind.{Kind}
-use Rattle.ux_tokens.specs.declared.kind.Kind.TheVariants.{Word, Space, Other, Sentence, Stop, Tag}
+use Rattle.ux_tokens.specs.declared.kind.Kind.TheVariants.{Word}
 use Rattle.ux_tokens.specs.Tokens.{Token}
 use Rattle.ux_tokens.specs.Numbers.{different_texts}
 use Rattle.ux_tokens.proofs.DistinctLemmas.{different_texts-once}
 use Rattle.ux_apply.specs.declared.priority.Priority.{Priority}
 use Rattle.ux_apply.specs.Applying.{AreApplying}
-use Rattle.ux_apply.specs.Tables.{AreSimpleOf, AreSimple, AreUnknown, IsUnknown}
-use Rattle.ux_apply.specs.Kept.{IsWordNumber, row_at, items_in}
+use Rattle.ux_apply.specs.Tables.{AreOwnSimple, AreSimpleOf, AreSimple, AreUnknown, IsUnknown}
+use Rattle.ux_apply.specs.Kept.{AreRowsUpTo, IsOwnRow, IsWordNumber, items_in, row_at, row_by, row_of, simple_at, table_of}
 use Rattle.ux_apply.specs.Unknown.{HasNoRow, IsWithoutRow}
-use Rattle.ux_apply.proofs.ZipLemmas.{zip-at, zip-back, zip-more}
+use Rattle.ux_apply.proofs.OwnLemmas.{simple-own}
+use Rattle.ux_apply.proofs.RowLemmas.{table-at, table-row, zip-table}
+use Rattle.ux_apply.proofs.ZipLemmas.{zip-at, zip-back, zip-length, zip-more}
 
 reads : (s : BTreeSet ℕ) (q : ℕ) → (contains nat_cmp s q ≡ true) ↔ Contains s.keys q
 reads s q = let h = btree_set_contains_iff nat_cmp_total exact_unsigned s q in h
@@ -114,18 +115,23 @@ words-more tokens i numbers all_new word there before grown =
         is
 
 module _ {Z : Type 0} (tokens : List Token) (rows : List (Vec Entry Z))
-    (words : List (Option ℕ)) (numbered : AllZip (IsWordNumber tokens) tokens words) where
+    (tags : BTreeMap ℕ (Vec Entry Z)) (words : List (Option ℕ))
+    (numbered : AllZip (IsWordNumber tokens) tokens words) where
+  -- the simple entries of each token
+  abbrev pub table : List (List Entry)
+  table = table_of (simple_at words rows tags) (length words)
+
   -- the tables tell the same
   pub unknown-whole : (numbers : List ℕ) → IsStrictlyIncreasing numbers →
       ((n : ℕ) → Contains numbers n ↔ IsWithoutRow words rows n) →
-      AreUnknown tokens (map (row_at rows) words) numbers
+      AreUnknown tokens table numbers
   unknown-whole numbers rising are = record {
     ascending = rising;
     exact = λ n. (λ has. told n ((are n).0 has), λ is. (are n).1 (found n is));
   }
     where
       told : (n : ℕ) → IsWithoutRow words rows n →
-          IsUnknown tokens (map (row_at rows) words) n
+          IsUnknown tokens table n
       told n without =
           let k = without.0.0 in
           let at : slice_get words k ≡ Some (Some n) =
@@ -137,12 +143,12 @@ module _ {Z : Type 0} (tokens : List Token) (rows : List (Vec Entry Z))
             stands = back.1;
             word = back.2.0;
             numbered = back.2.1;
-            none = slice_get-map (row_at rows) words k
-                ∙ (ap (option_map (row_at rows)) at
-                ∙ ap (λ (l : List Entry). Some l) without.1);
+            none = table-at (simple_at words rows tags) (length words) k
+                (slice_get_within words k (Some n) at)
+                ∙ ap (λ (l : List Entry). Some l) (ap (row_by rows tags k) at ∙ without.1);
           }
 
-      by : (n : ℕ) (is : IsUnknown tokens (map (row_at rows) words) n) (w : Option ℕ) →
+      by : (n : ℕ) (is : IsUnknown tokens table n) (w : Option ℕ) →
           slice_get words is.place ≡ Some w → IsWordNumber tokens is.token w →
           IsWithoutRow words rows n
       by n is None at isnt = absurd (isnt is.word)
@@ -151,10 +157,9 @@ module _ {Z : Type 0} (tokens : List Token) (rows : List (Vec Entry Z))
           different_texts-once tokens m n is.token.text has.1 is.numbered in
           let here : slice_get words is.place ≡ Some (Some n) =
           at ∙ ap (λ (k : ℕ). Some (Some k)) one in
+          let kept = table-row (simple_at words rows tags) (length words) is.place [] is.none in
           let row : row_at rows (Some n) ≡ [] =
-          same_Some (row_at rows (Some n)) []
-          (sym (slice_get-map (row_at rows) words is.place
-          ∙ ap (option_map (row_at rows)) here) ∙ is.none) in (
+          sym (kept.1 ∙ ap (row_by rows tags is.place) here) in (
             (
               is.place,
               slice_get_within words is.place (Some n) here,
@@ -163,7 +168,7 @@ module _ {Z : Type 0} (tokens : List Token) (rows : List (Vec Entry Z))
             row,
           )
 
-      found : (n : ℕ) → IsUnknown tokens (map (row_at rows) words) n → IsWithoutRow words rows n
+      found : (n : ℕ) → IsUnknown tokens table n → IsWithoutRow words rows n
       found n is =
           let at = zip-at (IsWordNumber tokens) tokens words is.place is.token numbered is.stands in
           by n is at.0 at.1 at.2
@@ -171,19 +176,10 @@ module _ {Z : Type 0} (tokens : List Token) (rows : List (Vec Entry Z))
   module _ (lines : List Line) (dics : List (Priority × List Entry))
       (are : AllZip (λ (text : List ℕ) (row : Vec Entry Z). AreApplying lines dics text row.items)
       (different_texts tokens) rows) where
-    -- a token has the row of its number, if it is a word
-    simple-of : (token : Token) (word : Option ℕ) → IsWordNumber tokens token word →
-        AreSimpleOf lines dics token.kind token.text (row_at rows word)
-    simple-of token None isnt = by token.kind isnt
-      where
-        by : (kind : Kind) → (kind ≢ Word) → AreSimpleOf lines dics kind token.text []
-        by Word no_word = absurd (no_word refl)
-        by Space no_word = refl
-        by Other no_word = refl
-        by Sentence no_word = refl
-        by Stop no_word = refl
-        by Tag no_word = refl
-    simple-of token (Some n) has =
+    -- a word has the row of its number
+    simple-of : (token : Token) (n : ℕ) → IsWordNumber tokens token (Some n) →
+        AreSimpleOf lines dics token.kind token.text (row_at rows (Some n))
+    simple-of token n has =
         let at = zip-at (λ (text : List ℕ) (row : Vec Entry Z). AreApplying lines dics text row.items)
         (different_texts tokens) rows n token.text are has.1 in
         subst (λ (kind : Kind). AreSimpleOf lines dics kind token.text (row_at rows (Some n)))
@@ -191,14 +187,32 @@ module _ {Z : Type 0} (tokens : List Token) (rows : List (Vec Entry Z))
         (subst (λ (o : Option (Vec Entry Z)). AreApplying lines dics token.text (items_in o))
         (sym at.1) at.2)
 
-    simple-rows : (some : List Token) (ws : List (Option ℕ)) →
-        AllZip (IsWordNumber tokens) some ws →
-        AreSimple lines dics some (map (row_at rows) ws)
-    simple-rows [] [] all = tt
-    simple-rows [] (w ∷ ws) all = absurd all
-    simple-rows (t ∷ some) [] all = absurd all
-    simple-rows (t ∷ some) (w ∷ ws) all = (simple-of t w all.0, simple-rows some ws all.1)
+    module _ (own : AreRowsUpTo (IsOwnRow lines tokens) (length tokens) tags) where
+      simple-there : (i : ℕ) (token : Token) → slice_get tokens i ≡ Some token →
+          AreSimpleOf lines dics token.kind token.text (simple_at words rows tags i)
+      simple-there i token at =
+          let word = zip-at (IsWordNumber tokens) tokens words i token numbered at in
+          subst (AreSimpleOf lines dics token.kind token.text)
+          (sym (ap (row_by rows tags i) word.1)) (by word.0 word.2)
+        where
+          by : (w : Option ℕ) → IsWordNumber tokens token w →
+              AreSimpleOf lines dics token.kind token.text (row_by rows tags i (Some w))
+          by None isnt =
+              simple-own lines dics token.kind token.text (row_of tags i) isnt
+              (subst
+              (λ (o : Option Token).
+              IsSomeAnd o (λ t. AreOwnSimple lines t.kind t.text (row_of tags i))) at
+              (own.each i (slice_get_within tokens i token at)))
+          by (Some n) has = simple-of token n has
 
-    -- so each token has its simple entries
-    pub simple-whole : AreSimple lines dics tokens (map (row_at rows) words)
-    simple-whole = simple-rows tokens words numbered
+      -- so each token has its simple entries
+      pub simple-whole : AreSimple lines dics tokens table
+      simple-whole =
+          let long = zip-length (IsWordNumber tokens) tokens words numbered in
+          subst
+          (λ (l : List Token).
+          AllZip (λ (t : Token) (row : List Entry). AreSimpleOf lines dics t.kind t.text row) l table)
+          (take_all (length words) tokens (omega (arith, long)))
+          (zip-table
+          (λ (t : Token) (row : List Entry). AreSimpleOf lines dics t.kind t.text row) tokens
+          (simple_at words rows tags) (length words) (omega (arith, long)) simple-there)

@@ -1,8 +1,9 @@
 -- Which entries apply to one text, by the priorities of the dictionaries. The manual, on applying
 -- dictionaries.
-use Rattle.std.specs.Prelude.{◌≡◌, ◌≢◌, ℕ, Bool, true, false, cond, List, [], ◌∷◌, ◌++◌, Contains, map}
+use Rattle.std.specs.Prelude.{◌≢◌, ℕ, Bool, true, false, cond, List, [], ◌∷◌, ◌++◌, map}
 use Rattle.ux_alphabet.specs.declared.line.Line.{Line}
 use Rattle.ux_dela.specs.declared.entry.Entry.{Entry}
+use Rattle.ux_dict.specs.Content.{AreDifferent}
 use Rattle.ux_dict.specs.Forms.{IsFitting}
 use Rattle.ux_apply.specs.declared.priority.Priority.{Priority}
 use Rattle.ux_apply.specs.declared.priority.Priority.TheVariants.{High, Normal, Low}
@@ -30,20 +31,12 @@ content_at priority [] = []
 content_at priority (dic ∷ dics) =
     cond (is_same dic.0 priority) dic.1 [] ++ content_at priority dics
 
--- the second list has the entries of the first one, each at its first place alone
-pub data AreOnce : (all once : List Entry) → Type 0 where
-  empty : AreOnce [] []
-  new : (all once : List Entry) (entry : Entry) → AreOnce all once → (Contains once entry → ⊥) →
-      AreOnce (all ++ entry ∷ []) (once ++ entry ∷ [])
-  known : (all once : List Entry) (entry : Entry) → AreOnce all once → Contains once entry →
-      AreOnce (all ++ entry ∷ []) once
-
 -- the entries of dictionaries of this priority whose forms fit the text, each once
 pub record AreFound (lines : List Line) (dics : List (Priority × List Entry)) (text : List ℕ)
     (priority : Priority) (entries : List Entry) : Type 0 where
   pub fitting : List Entry
   pub fit : IsFitting lines text (content_at priority dics) fitting
-  pub once : AreOnce fitting entries
+  pub once : AreDifferent fitting entries
 
 -- the entries that apply to the text are those of the highest priority that has any
 pub data AreApplying (lines : List Line) (dics : List (Priority × List Entry)) (text : List ℕ) :

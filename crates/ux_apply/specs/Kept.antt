@@ -1,33 +1,25 @@
 -- What is kept of a text's entries, and how it is collected.
-use Rattle.std.specs.Prelude.{◌≡◌, ◌≢◌, ◌⊎◌, Contains, ℕ, zero, suc, ◌<◌, ◌≤◌, Bool, true, false, List, [], ◌∷◌, ◌++◌, Option, None, Some, All, IsSomeAnd, IsUtf8, IsFalse, Vec, length, map, slice_get}
+use Rattle.std.specs.Prelude.{◌≡◌, ◌≢◌, ◌⊎◌, ℕ, zero, suc, ◌+◌, ◌<◌, ◌≤◌, List, [], ◌∷◌, ◌++◌, Option, None, Some, All, IsSomeAnd, IsUtf8, Vec, slice_get}
 use Rattle.std.specs.BTreeMap.{BTreeMap, get}
 use Rattle.std.specs.Ordering.{nat_cmp}
 use Rattle.ux_alphabet.specs.declared.line.Line.{Line}
 use Rattle.ux_dela.specs.declared.entry.Entry.{Entry}
 use Rattle.ux_dict.specs.Forms.{IsFitting, MayBegin}
-use Rattle.ux_tokens.specs.declared.kind.Kind.TheVariants.{Word}
-use Rattle.ux_tokens.specs.Tokens.{Token}
+use Rattle.ux_tokens.specs.declared.kind.Kind.TheVariants.{Word, Space}
+use Rattle.ux_tokens.specs.Tokens.{Token, SPACE}
 use Rattle.ux_tokens.specs.Numbers.{different_texts}
 use Rattle.ux_apply.specs.declared.priority.Priority.{Priority}
-use Rattle.ux_apply.specs.Applying.{AreApplying, AreOnce}
+use Rattle.ux_apply.specs.declared.starts.Start.{Start}
+use Rattle.ux_apply.specs.declared.starts.Start.TheVariants.{Never, Unspaced, Spaced}
 use Rattle.ux_apply.specs.Spans.{MayBound, MayStand}
-use Rattle.ux_apply.specs.Tables.{AreOfSpan, IsCompoundRow}
-
--- the entries with more of them, each that isn't there yet
-abbrev pub IsGrown : (old more new : List Entry) → Type 0
-IsGrown old more new = (all : List Entry) → AreOnce all old → AreOnce (all ++ more) new
-
--- the entry goes last, if it isn't there yet
-abbrev pub IsPut : (old : List Entry) (entry : Entry) (new : List Entry) → Type 0
-IsPut old entry new = (Contains old entry × (new ≡ old))
-    ⊎ ((Contains old entry → ⊥) × (new ≡ old ++ entry ∷ []))
+use Rattle.ux_apply.specs.Tables.{AreOfSpan, AreOwnSimple}
 
 -- the entries with those of a content that fit the text
 pub record AreAdded (lines : List Line) (text : List ℕ) (content old new : List Entry) :
     Type 0 where
   pub more : List Entry
   pub fit : IsFitting lines text content more
-  pub grown : IsGrown old more new
+  pub added : new ≡ old ++ more
 
 -- no form of any dictionary begins with characters that fit the text
 abbrev pub NoneBegins : List Line → List (Priority × List Entry) → (text : List ℕ) → Type 0
@@ -37,9 +29,28 @@ NoneBegins lines dics text = All (λ dic. MayBegin lines text dic.1 → ⊥) dic
 abbrev pub HasText : List Token → (text : List ℕ) (place : ℕ) → Type 0
 HasText tokens text place = IsSomeAnd (slice_get tokens place) (λ token. text ≡ token.text)
 
--- where no form may begin with the text, it is marked so
-abbrev pub IsMarked : List Line → List (Priority × List Entry) → (text : List ℕ) → Bool → Type 0
-IsMarked lines dics text begins = IsFalse begins → IsUtf8 text × NoneBegins lines dics text
+-- no form begins with the text, or none with a space behind it, or some may
+abbrev pub IsStart : List Line → List (Priority × List Entry) → (text : List ℕ) → Start → Type 0
+IsStart lines dics text Never = IsUtf8 text × NoneBegins lines dics text
+IsStart lines dics text Unspaced =
+    IsUtf8 (text ++ SPACE ∷ []) × NoneBegins lines dics (text ++ SPACE ∷ [])
+IsStart lines dics text Spaced = Unit {0}
+
+-- a space stands at the place
+abbrev pub IsSpaceAt : List Token → (place : ℕ) → Type 0
+IsSpaceAt tokens place =
+    IsSomeAnd (slice_get tokens place) (λ token. (Space ≡ token.kind) × (SPACE ∷ [] ≡ token.text))
+
+-- no form begins with the token, or none with the space behind it
+abbrev pub IsOver : List Token → (first : ℕ) → Start → Type 0
+IsOver tokens first Never = Unit {0}
+IsOver tokens first Unspaced = IsSpaceAt tokens (first + 1)
+IsOver tokens first Spaced = ⊥
+
+-- the token is the next one, or the one behind a space
+abbrev pub IsNearestLast : List Token → (first last : ℕ) → Type 0
+IsNearestLast tokens first last =
+    (last ≡ first + 1) ⊎ ((last ≡ first + 2) × IsSpaceAt tokens (first + 1))
 
 -- the tokens before the place may be the front of a span that begins at the first one
 pub record IsFront (tokens : List Token) (first place : ℕ) : Type 0 where
@@ -78,9 +89,25 @@ abbrev pub table_of : {X : Type 0} → (ℕ → X) → (end : ℕ) → List X
 table_of at zero = []
 table_of at (suc end) = table_of at end ++ at end ∷ []
 
--- the rows of the places before one are those of compound entries, and the others are empty
-pub record AreRowsUpTo {Z : Type 0} (lines : List Line) (dics : List (Priority × List Entry))
-    (tokens : List Token) (place : ℕ) (rows : BTreeMap ℕ (Vec (ℕ × Entry) Z)) : Type 0 where
-  pub each : (first : ℕ) → first < place →
-      IsCompoundRow lines dics tokens first (row_of rows first)
+-- the row of a token, by its number if it is a word, and else by its place
+abbrev pub row_by : {Z : Type 0} → List (Vec Entry Z) → BTreeMap ℕ (Vec Entry Z) → (place : ℕ) →
+    Option (Option ℕ) → List Entry
+row_by rows tags place None = []
+row_by rows tags place (Some None) = row_of tags place
+row_by rows tags place (Some (Some number)) = row_at rows (Some number)
+
+-- the row of simple entries at a place
+abbrev pub simple_at : {Z : Type 0} → List (Option ℕ) → List (Vec Entry Z) →
+    BTreeMap ℕ (Vec Entry Z) → (place : ℕ) → List Entry
+simple_at words rows tags place = row_by rows tags place (slice_get words place)
+
+-- the row has the own simple entry of the token at the place
+abbrev pub IsOwnRow : List Line → List Token → (place : ℕ) → List Entry → Type 0
+IsOwnRow lines tokens place row =
+    IsSomeAnd (slice_get tokens place) (λ token. AreOwnSimple lines token.kind token.text row)
+
+-- the rows of the places before one are such rows, and the others are empty
+pub record AreRowsUpTo {X Z : Type 0} (IsRow : ℕ → List X → Type 0) (place : ℕ)
+    (rows : BTreeMap ℕ (Vec X Z)) : Type 0 where
+  pub each : (first : ℕ) → first < place → IsRow first (row_of rows first)
   pub others : (first : ℕ) → place ≤ first → row_of rows first ≡ []

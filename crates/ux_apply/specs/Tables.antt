@@ -1,12 +1,14 @@
 -- Which entries apply to the tokens and spans of a text. The manual, on applying dictionaries.
-use Rattle.std.specs.Prelude.{◌≡◌, ◌↔◌, ℕ, ◌+◌, ◌<◌, List, [], ◌∷◌, ◌++◌, Some, Contains, length, map, slice_get}
+use Rattle.std.specs.Prelude.{◌≡◌, ◌↔◌, ℕ, ◌+◌, List, [], ◌∷◌, ◌++◌, Some, All, Contains, IsSomeAnd, length, map, slice_get}
 use Rattle.std.specs.List.{AllZip}
 use Rattle.std.specs.List.Sorted.{IsStrictlyIncreasing}
+use Rattle.std.specs.Str.{chars}
 use Rattle.ux_alphabet.specs.declared.line.Line.{Line}
+use Rattle.ux_alphabet.specs.Letters.{IsLetter}
 use Rattle.ux_dela.specs.declared.entry.Entry.{Entry}
 use Rattle.ux_tokens.specs.declared.kind.Kind.{Kind}
 use Rattle.ux_tokens.specs.declared.kind.Kind.TheVariants.{Word, Space, Other, Sentence, Stop, Tag}
-use Rattle.ux_tokens.specs.Tokens.{Token}
+use Rattle.ux_tokens.specs.Tokens.{Token, IsTag}
 use Rattle.ux_tokens.specs.Numbers.{different_texts}
 use Rattle.ux_apply.specs.declared.priority.Priority.{Priority}
 use Rattle.ux_apply.specs.Applying.{AreApplying}
@@ -19,15 +21,53 @@ pub record Tables : Type 0 where
   pub compounds : List (List (ℕ × Entry))
   pub unknown : List ℕ
 
+-- the form of the entry has letters alone
+abbrev pub IsSimpleForm : List Line → Entry → Type 0
+IsSimpleForm lines entry = All (IsLetter lines) (chars entry.form)
+
+-- the entry of a tag is its simple one, if the form has letters alone
+pub record IsOwnSimple (lines : List Line) (text : List ℕ) (entries : List Entry) : Type 0 where
+  pub entry : Entry
+  pub tag : IsTag text entry
+  pub letters : IsSimpleForm lines entry → entries ≡ entry ∷ []
+  pub others : (IsSimpleForm lines entry → ⊥) → entries ≡ []
+
+-- and otherwise it is its compound one, with the tag as its last token
+pub record IsOwnCompound (lines : List Line) (text : List ℕ) (place : ℕ)
+    (row : List (ℕ × Entry)) : Type 0 where
+  pub entry : Entry
+  pub tag : IsTag text entry
+  pub letters : IsSimpleForm lines entry → row ≡ []
+  pub others : (IsSimpleForm lines entry → ⊥) → row ≡ (place, entry) ∷ []
+
+-- a tag has its own simple entry, and another token has none
+abbrev pub AreOwnSimple : List Line → Kind → (text : List ℕ) → List Entry → Type 0
+AreOwnSimple lines Word text entries = entries ≡ []
+AreOwnSimple lines Space text entries = entries ≡ []
+AreOwnSimple lines Other text entries = entries ≡ []
+AreOwnSimple lines Sentence text entries = entries ≡ []
+AreOwnSimple lines Stop text entries = entries ≡ []
+AreOwnSimple lines Tag text entries = IsOwnSimple lines text entries
+
+-- a tag has its own compound entry, and another token has none
+abbrev pub AreOwnCompound : List Line → Kind → (text : List ℕ) → (place : ℕ) →
+    List (ℕ × Entry) → Type 0
+AreOwnCompound lines Word text place row = row ≡ []
+AreOwnCompound lines Space text place row = row ≡ []
+AreOwnCompound lines Other text place row = row ≡ []
+AreOwnCompound lines Sentence text place row = row ≡ []
+AreOwnCompound lines Stop text place row = row ≡ []
+AreOwnCompound lines Tag text place row = IsOwnCompound lines text place row
+
 module _ (lines : List Line) (dics : List (Priority × List Entry)) where
-  -- a word has the simple entries that apply to its text, and another token has none
+  -- a word has the simple entries that apply to its text, a tag its own, and another token has none
   abbrev pub AreSimpleOf : Kind → (text : List ℕ) → List Entry → Type 0
   AreSimpleOf Word text entries = AreApplying lines dics text entries
   AreSimpleOf Space text entries = entries ≡ []
   AreSimpleOf Other text entries = entries ≡ []
   AreSimpleOf Sentence text entries = entries ≡ []
   AreSimpleOf Stop text entries = entries ≡ []
-  AreSimpleOf Tag text entries = entries ≡ []
+  AreSimpleOf Tag text entries = IsOwnSimple lines text entries
 
   -- each token has its simple entries
   abbrev pub AreSimple : List Token → List (List Entry) → Type 0
@@ -41,10 +81,12 @@ module _ (lines : List Line) (dics : List (Priority × List Entry)) (tokens : Li
         AreApplying lines dics (text_of tokens first last) entries
     pub none : (IsSpan tokens first last → ⊥) → entries ≡ []
 
-  -- the row has the entries of all spans that begin at the token, have two or more tokens and end
-  -- before a place, in order of last token
+  -- the row has the token's own compound entry, and those of all spans that begin there, have two
+  -- or more tokens and end before a place, in order of last token
   pub data AreCompoundUpTo : (end : ℕ) (row : List (ℕ × Entry)) → Type 0 where
-    start : AreCompoundUpTo (first + 1) []
+    start : (row : List (ℕ × Entry)) → IsSomeAnd (slice_get tokens first)
+        (λ token. AreOwnCompound lines token.kind token.text first row) →
+        AreCompoundUpTo (first + 1) row
     more : (last : ℕ) (row : List (ℕ × Entry)) (entries : List Entry) →
         AreCompoundUpTo last row → AreOfSpan last entries →
         AreCompoundUpTo (last + 1) (row ++ map (λ entry. (last, entry)) entries)

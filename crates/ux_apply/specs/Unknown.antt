@@ -1,5 +1,5 @@
 -- Words without a simple entry, by their numbers and the rows of these.
-use Rattle.std.specs.Prelude.{◌≡◌, ℕ, List, [], Option, None, Some, Contains, Vec}
+use Rattle.std.specs.Prelude.{◌≡◌, ℕ, List, [], Option, Some, Contains, Vec}
 use Rattle.ux_dela.specs.declared.entry.Entry.{Entry}
 use Rattle.ux_apply.specs.Kept.{row_at}
 

@@ -8,9 +8,10 @@ ghost use Rattle.ux_apply.specs.Applying.{contents};
 ghost use Rattle.ux_apply.specs.Tables.{AreApplied};
 
 use crate::compounds::{Rows, compounds};
-use crate::numbered::{begins_by_number, entries_by_number, first_places, word_numbers};
+use crate::numbered::{entries_by_number, first_places, starts_by_number, word_numbers};
 use crate::priority::Priority;
-use crate::unknown::{row, unknown_numbers};
+use crate::tagged::{Tagged, own_at, tagged};
+use crate::unknown::{row_of_number, unknown_numbers};
 use std::alloc::Global;
 use std::marker::Model;
 use ux_alphabet::Alphabet;
@@ -26,19 +27,21 @@ pub struct Applied {
     words: Vec<Option<u32>>,
     /// The entries of each different token, by its number.
     entries: Vec<Vec<Entry>>,
+    /// The own entries of tags, by place.
+    tags: Tagged,
     compounds: Rows,
     unknown: Vec<u32>,
 }
 
 impl Model for Applied {
-    ghost use Rattle.std.specs.Prelude.{map, length};
+    ghost use Rattle.std.specs.Prelude.{length};
     ghost use Rattle.ux_apply.specs.Tables.{Tables};
-    ghost use Rattle.ux_apply.specs.Kept.{row_at, row_of, table_of};
+    ghost use Rattle.ux_apply.specs.Kept.{row_of, simple_at, table_of};
 
     ghost Value = { Tables };
 
     ghost view = { λ a. record {
-      simple = map (row_at a.entries.items) a.words.items;
+      simple = table_of (simple_at a.words.items a.entries.items a.tags) (length a.words.items);
       compounds = table_of (row_of a.compounds) (length a.words.items);
       unknown = a.unknown.items;
     } };
@@ -56,13 +59,15 @@ impl Applied {
     {
         let places = first_places(alloc, text)?;
         let entries = entries_by_number(alloc, text, &places, alphabet, dics)?;
-        let begins = begins_by_number(alloc, text, &places, alphabet, dics)?;
-        let compounds = compounds(alloc, text, &begins, alphabet, dics)?;
+        let starts = starts_by_number(alloc, text, &places, alphabet, dics)?;
+        let compounds = compounds(alloc, text, &starts, alphabet, dics)?;
         let words = word_numbers(alloc, text)?;
+        let tags = tagged(alloc, text, alphabet)?;
         let unknown = unknown_numbers(alloc, &words, &entries)?;
         Ok(Applied {
             words,
             entries,
+            tags,
             compounds,
             unknown,
         })
@@ -73,7 +78,10 @@ impl Applied {
         requires { i < length self.now.simple }
         ensures { IsSomeAnd (slice_get self.now.simple i) (λ row. result.now ≡ row) }
     {
-        row(&self.entries, self.words[i])
+        match self.words[i] {
+            Some(number) => row_of_number(&self.entries, number),
+            None => own_at(&self.tags, i),
+        }
     }
 
     /// The compound entries that begin at a token, each with its last token, in order of last

@@ -1,17 +1,18 @@
 //! The entries that apply to one text.
 
-ghost use Rattle.std.specs.Prelude.{◌≡◌, ◌↔◌, Contains, IfOk, IsFalse, IsTrue, OnOk, length};
+ghost use Rattle.std.specs.Prelude.{◌≡◌, ◌↔◌, IfOk, IsFalse, IsTrue, OnOk, length};
 ghost use Rattle.std.specs.Str.{chars};
-ghost use Rattle.ux_dict.specs.Forms.{MayBegin};
-ghost use Rattle.ux_apply.specs.Applying.{AreApplying, AreFound, contents};
-ghost use Rattle.ux_apply.specs.Kept.{AreAdded, IsGrown, IsPut, NoneBegins};
+ghost use Rattle.ux_dict.specs.Content.{AreDifferent};
+ghost use Rattle.ux_dict.specs.Forms.{IsFitting, MayBegin};
+ghost use Rattle.ux_apply.specs.Applying.{AreApplying, AreFound, content_at, contents};
+ghost use Rattle.ux_apply.specs.Kept.{AreAdded, NoneBegins};
 
 use crate::priority::Priority;
-use std::alloc::{AllocError, Global};
+use std::alloc::Global;
 use ux_alphabet::Alphabet;
 use ux_base::Mem;
 use ux_dela::Entry;
-use ux_dict::Lexicon;
+use ux_dict::{Lexicon, different};
 
 /// The entries that apply to the text: those of the highest priority of which some dictionary has
 /// any. Takes one look-up a dictionary at most.
@@ -35,7 +36,7 @@ pub(crate) fn applying<L: Lexicon>(
     found(alloc, text, alphabet, dics, Priority::Low)
 }
 
-/// The entries that dictionaries of one priority have for the text.
+/// The entries that dictionaries of one priority have for the text, each once.
 fn found<L: Lexicon>(
     alloc: Global,
     text: &str,
@@ -46,6 +47,22 @@ fn found<L: Lexicon>(
     ensures { IfOk result (λ entries.
         AreFound alphabet.now (contents L.content dics.now) text.now priority entries.items) }
 {
+    let fitting = fitting_entries(alloc, text, alphabet, dics, priority)?;
+    each_once(alloc, fitting)
+}
+
+/// The entries of all dictionaries of one priority that fit the text, one dictionary after the
+/// other.
+fn fitting_entries<L: Lexicon>(
+    alloc: Global,
+    text: &str,
+    alphabet: &Alphabet,
+    dics: &[(Priority, L)],
+    priority: Priority,
+) -> Mem<Vec<Entry>>
+    ensures { IfOk result (λ entries. IsFitting alphabet.now text.now
+        (content_at priority (contents L.content dics.now)) entries.items) }
+{
     let mut entries = Vec::new(alloc);
     for (own, lexicon) in dics {
         if own.is(priority) {
@@ -55,7 +72,7 @@ fn found<L: Lexicon>(
     Ok(entries)
 }
 
-/// Puts the entries of a dictionary last that fit the text, each that isn't there yet.
+/// Puts the entries of a dictionary last that fit the text.
 fn push_fitting<L: Lexicon>(
     entries: &mut Vec<Entry>,
     alloc: Global,
@@ -66,38 +83,19 @@ fn push_fitting<L: Lexicon>(
     ensures { OnOk result (AreAdded alphabet.now text.now (L.content lexicon.now)
         entries.old.items entries.new.items) }
 {
-    let more = lexicon.fitting(alloc, text, alphabet)?;
-    push_new(entries, more)?;
+    let mut more = lexicon.fitting(alloc, text, alphabet)?;
+    entries.append(&mut more)?;
     Ok(())
 }
 
-/// Puts the entries last, each that isn't there yet. Takes a step for each pair of a new entry and
-/// one that is there, of which a text has few.
-fn push_new(entries: &mut Vec<Entry>, more: Vec<Entry>) -> Result<(), AllocError>
-    ensures { OnOk result (IsGrown entries.old.items more.items entries.new.items) }
+/// The entries, each at its first place alone. Takes a step an entry, and no table for one alone.
+fn each_once(alloc: Global, entries: Vec<Entry>) -> Mem<Vec<Entry>>
+    ensures { IfOk result (λ once. AreDifferent entries.items once.items) }
 {
-    for entry in more {
-        put(entries, entry)?;
+    if entries.len() < 2 {
+        return Ok(entries);
     }
-    Ok(())
-}
-
-/// Puts the entry last, if it isn't there yet.
-fn put(entries: &mut Vec<Entry>, entry: Entry) -> Result<(), AllocError>
-    ensures { OnOk result (IsPut entries.old.items entry entries.new.items) }
-{
-    if has(entries, &entry) {
-        return Ok(());
-    }
-    entries.push(entry)?;
-    Ok(())
-}
-
-/// Whether the entry is among these.
-fn has(entries: &[Entry], entry: &Entry) -> bool
-    ensures { IsTrue result ↔ Contains entries.now entry.now }
-{
-    entries.iter().any(|other| entry.same(other))
+    different(alloc, entries)
 }
 
 /// Whether some form may begin with characters that fit the text.

@@ -1,15 +1,17 @@
 //! The compound entries of a text: those of spans of two or more tokens.
 
-ghost use Rattle.std.specs.Prelude.{◌≡◌, ◌↔◌, ◌+◌, ◌<◌, ◌++◌, ◌≢◌, ℕ, [], Some, false, IfOk, IsFalse, IsTrue, MatchOption, OnOk, IfSome, IsSomeAnd, length, map, slice_get};
+ghost use Rattle.std.specs.Prelude.{◌≡◌, ◌↔◌, ◌+◌, ◌<◌, ◌∷◌, ◌++◌, ◌≢◌, ℕ, [], IfOk, IsTrue, MatchOption, OnOk, IfSome, IsSomeAnd, length, map, slice_get};
 ghost use Rattle.std.specs.List.{AllZip};
 ghost use Rattle.ux_tokens.specs.Numbers.{different_texts};
 ghost use Rattle.ux_apply.specs.Applying.{contents};
-ghost use Rattle.ux_apply.specs.Kept.{AreRowsUpTo, HaveNone, IsFront, IsMarked, row_of};
+ghost use Rattle.ux_apply.specs.Kept.{AreRowsUpTo, HaveNone, IsNearestLast, IsFront, IsStart, row_of};
 ghost use Rattle.ux_apply.specs.Spans.{MayBound, MayStand};
-ghost use Rattle.ux_apply.specs.Tables.{AreOfSpan, IsCompoundRow};
+ghost use Rattle.ux_apply.specs.Tables.{AreOfSpan, IsCompoundRow, IsSimpleForm};
 
 use crate::applying::{applying, may_begin};
 use crate::priority::Priority;
+use crate::starts::{Start, nearest_last, start_at};
+use crate::tagged::is_simple;
 use std::alloc::{AllocError, Global};
 use std::collections::BTreeMap;
 use ux_alphabet::Alphabet;
@@ -27,25 +29,30 @@ pub(crate) type Rows = BTreeMap<usize, Vec<(usize, Entry)>>;
 pub(crate) fn compounds<L: Lexicon>(
     alloc: Global,
     text: &Text,
-    begins: &[bool],
+    starts: &[Start],
     alphabet: &Alphabet,
     dics: &[(Priority, L)],
 ) -> Mem<Rows>
-    requires { AllZip (IsMarked alphabet.now (contents L.content dics.now))
-        (different_texts text.now) begins.now }
+    requires { AllZip (IsStart alphabet.now (contents L.content dics.now))
+        (different_texts text.now) starts.now }
     ensures { IfOk result
-        (AreRowsUpTo alphabet.now (contents L.content dics.now) text.now (length text.now)) }
+        (AreRowsUpTo (IsCompoundRow alphabet.now (contents L.content dics.now) text.now)
+        (length text.now)) }
 {
     let mut rows = BTreeMap::new(alloc);
     for first in 0..text.len() {
-        let row = row_from(alloc, text, first, begins, alphabet, dics)?;
+        let row = row_from(alloc, text, first, starts, alphabet, dics)?;
         put_row(&mut rows, first, row)?;
     }
     Ok(rows)
 }
 
 /// Keeps the row, if it isn't empty.
-fn put_row(rows: &mut Rows, first: usize, row: Vec<(usize, Entry)>) -> Mem<()>
+pub(crate) fn put_row<T: Drop>(
+    rows: &mut BTreeMap<usize, Vec<T>>,
+    first: usize,
+    row: Vec<T>,
+) -> Mem<()>
     ensures here { OnOk result (row_of rows.old first ≡ [] → row_of rows.new first ≡ row.items) }
     ensures others { OnOk result ((other : ℕ) → other ≢ first →
         row_of rows.new other ≡ row_of rows.old other) }
@@ -61,57 +68,73 @@ fn row_from<L: Lexicon>(
     alloc: Global,
     text: &Text,
     first: usize,
-    begins: &[bool],
+    starts: &[Start],
     alphabet: &Alphabet,
     dics: &[(Priority, L)],
 ) -> Mem<Vec<(usize, Entry)>>
-    requires marked { AllZip (IsMarked alphabet.now (contents L.content dics.now))
-        (different_texts text.now) begins.now }
+    requires started { AllZip (IsStart alphabet.now (contents L.content dics.now))
+        (different_texts text.now) starts.now }
     requires within { first < length text.now }
     ensures { IfOk result (λ row.
         IsCompoundRow alphabet.now (contents L.content dics.now) text.now first row.items) }
 {
+    if let Some(entry) = text.tag(first) {
+        return own_row(alloc, first, entry, alphabet);
+    }
     if !may_bound(text.kind(first)) {
         return Ok(Vec::new(alloc));
     }
-    if !is_marked(begins, text.number(first)) {
-        return Ok(Vec::new(alloc));
+    let start = start_at(starts, text.number(first));
+    match nearest_last(text, first, start) {
+        Some(last) => spans_from(alloc, text, first, last, alphabet, dics),
+        None => Ok(Vec::new(alloc)),
     }
-    spans_from(alloc, text, first, alphabet, dics)
 }
 
-/// The compound entries of the spans that begin at a token, one span after the other.
+/// The own compound entry of a tag at the place, if the form has a character that is no letter.
+fn own_row(
+    alloc: Global,
+    place: usize,
+    entry: &Entry,
+    alphabet: &Alphabet,
+) -> Mem<Vec<(usize, Entry)>>
+    ensures letters { IfOk result (λ row. IsSimpleForm alphabet.now entry.now → row.items ≡ []) }
+    ensures others { IfOk result (λ row. (IsSimpleForm alphabet.now entry.now → ⊥) →
+        row.items ≡ (place, entry.now) ∷ []) }
+{
+    let mut row = Vec::new(alloc);
+    if is_simple(entry, alphabet) {
+        return Ok(row);
+    }
+    row.push((place, entry.copy()?))?;
+    Ok(row)
+}
+
+/// The compound entries of the spans that begin at a token, from the one with this last token on,
+/// one span after the other.
 fn spans_from<L: Lexicon>(
     alloc: Global,
     text: &Text,
     first: usize,
+    nearest: usize,
     alphabet: &Alphabet,
     dics: &[(Priority, L)],
 ) -> Mem<Vec<(usize, Entry)>>
     requires begins { IsSomeAnd (slice_get text.now first) (λ token. MayBound token.kind) }
+    requires from { IsNearestLast text.now first nearest }
     requires within { first < length text.now }
     ensures { IfOk result (λ row.
         IsCompoundRow alphabet.now (contents L.content dics.now) text.now first row.items) }
 {
     let end = text.len();
     let mut row = Vec::new(alloc);
-    for last in first + 1..end {
+    for last in nearest..end {
         match entries_of_span(alloc, text, first, last, alphabet, dics)? {
             Some(entries) => push_row(&mut row, last, entries)?,
             None => return Ok(row),
         }
     }
     Ok(row)
-}
-
-/// Whether the token of this number is marked, or has no mark.
-fn is_marked(marks: &[bool], number: u32) -> bool
-    ensures { IsFalse result ↔ (slice_get marks.now number ≡ Some false) }
-{
-    match marks.get(number as usize) {
-        Some(mark) => *mark,
-        None => true,
-    }
 }
 
 /// Puts the entries last, with their last token.

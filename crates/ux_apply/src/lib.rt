@@ -3,8 +3,8 @@
 //! Begin with `applied`, whose `Applied::of` looks up every token and span of a text. Which entries
 //! apply to one text, by the priorities of the dictionaries, stands in `specs/Applying.antt`, and
 //! which spans have entries in `specs/Spans.antt` and `specs/Tables.antt`. Inside, `applying` asks
-//! the dictionaries about one text, `numbered` about each different token once, and `compounds`
-//! about the spans of two or more tokens.
+//! the dictionaries about one text, `numbered` about each different token once, `starts` how spans
+//! may begin with it, and `compounds` about the spans of two or more tokens.
 //!
 //! ```text
 //! let dics = [(Priority::of("animals.dic"), lexicon)];
@@ -18,6 +18,8 @@ mod applying;
 mod compounds;
 mod numbered;
 pub mod priority;
+mod starts;
+mod tagged;
 mod unknown;
 
 pub use applied::Applied;

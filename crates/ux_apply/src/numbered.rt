@@ -1,13 +1,14 @@
 //! What is asked once for each different token of a text, in the order of their numbers.
 
-ghost use Rattle.std.specs.Prelude.{◌≡◌, ◌<◌, IfOk, IsSomeAnd, length, slice_get};
+ghost use Rattle.std.specs.Prelude.{◌<◌, IfOk, IsSomeAnd, length, slice_get};
 ghost use Rattle.std.specs.List.{AllZip};
 ghost use Rattle.ux_tokens.specs.Numbers.{different_texts};
 ghost use Rattle.ux_apply.specs.Applying.{AreApplying, contents};
-ghost use Rattle.ux_apply.specs.Kept.{HasText, IsMarked, IsWordNumber};
+ghost use Rattle.ux_apply.specs.Kept.{HasText, IsStart, IsWordNumber};
 
-use crate::applying::{applying, may_begin};
+use crate::applying::applying;
 use crate::priority::Priority;
+use crate::starts::{Start, start_of};
 use std::alloc::Global;
 use ux_alphabet::Alphabet;
 use ux_base::Mem;
@@ -52,25 +53,25 @@ pub(crate) fn entries_by_number<L: Lexicon>(
     Ok(rows)
 }
 
-/// Whether some form may begin with the text of each different token.
-pub(crate) fn begins_by_number<L: Lexicon>(
+/// How spans with entries may begin with the text of each different token.
+pub(crate) fn starts_by_number<L: Lexicon>(
     alloc: Global,
     text: &Text,
     places: &[usize],
     alphabet: &Alphabet,
     dics: &[(Priority, L)],
-) -> Mem<Vec<bool>>
+) -> Mem<Vec<Start>>
     requires { AllZip (HasText text.now) (different_texts text.now) places.now }
-    ensures { IfOk result (λ marks. AllZip
-        (IsMarked alphabet.now (contents L.content dics.now)) (different_texts text.now)
-        marks.items) }
+    ensures { IfOk result (λ starts. AllZip
+        (IsStart alphabet.now (contents L.content dics.now)) (different_texts text.now)
+        starts.items) }
 {
-    let mut marks = Vec::new(alloc);
+    let mut starts = Vec::new(alloc);
     for place in places {
-        let may = may_begin(alloc, text.token(*place), alphabet, dics)?;
-        marks.push(may)?;
+        let start = start_of(alloc, text.token(*place), alphabet, dics)?;
+        starts.push(start)?;
     }
-    Ok(marks)
+    Ok(starts)
 }
 
 /// The number of each token that is a word.

@@ -66,7 +66,7 @@ fn unknown_at(word: Option<u32>, rows: &[Vec<Entry>]) -> Option<u32>
 }
 
 /// The row of the word, if it is one.
-pub(crate) fn row(rows: &[Vec<Entry>], word: Option<u32>) -> &[Entry]
+fn row(rows: &[Vec<Entry>], word: Option<u32>) -> &[Entry]
     ensures { result.now ≡ row_at rows.now word }
 {
     match word {
@@ -75,7 +75,8 @@ pub(crate) fn row(rows: &[Vec<Entry>], word: Option<u32>) -> &[Entry]
     }
 }
 
-fn row_of_number(rows: &[Vec<Entry>], number: u32) -> &[Entry]
+/// The row of a number, if there is one.
+pub(crate) fn row_of_number(rows: &[Vec<Entry>], number: u32) -> &[Entry]
     ensures { result.now ≡ items_in (slice_get rows.now number) }
 {
     match rows.get(number as usize) {

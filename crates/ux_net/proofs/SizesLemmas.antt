@@ -52,7 +52,7 @@ token_some alphabet kind.Other text t =
     omega (arith, len, some)
 token_some alphabet kind.Sentence text t = rw t (omega arith)
 token_some alphabet kind.Stop text t = rw t (omega arith)
-token_some alphabet kind.Tag text t = absurd t
+token_some alphabet kind.Tag text (entry, (body, is, tag)) = rw is (omega arith)
 
 -- a text has no more tokens than bytes
 tokens_few : (alphabet : List Line) (tokens : List Token) →

@@ -1,7 +1,8 @@
 -- A run whose files are all accepted ends well, unless a read or a write failed.
-use Rattle.std.proofs.Common.{arith, true, false, ◌≡◌, ◌≢◌, ℕ, zero, suc, ◌<◌, ◌≤◌, ◌⊎◌, inl, inr, List, [], ◌∷◌, ◌++◌, Option, Some, Result, Ok, Err, length, take, refl, sym, ap, ◌∙◌, subst}
-use Rattle.std.specs.Prelude.{IsSomeAnd, slice_get}
-use Rattle.std.proofs.lemmas.Option.{none-some, same_Some, slice_get_within}
+use Rattle.std.proofs.Common.{arith, true, false, ◌≡◌, ◌≢◌, ℕ, zero, suc, ◌<◌, ◌≤◌, ◌⊎◌, inl, inr, List, [], ◌∷◌, ◌++◌, Option, Some, Result, Ok, Err, get_or, length, take, refl, sym, ap, ◌∙◌, subst}
+use Rattle.std.specs.Prelude.{All, IsSomeAnd, slice_get}
+use Rattle.std.proofs.lemmas.List.Elements.{All-get_or}
+use Rattle.std.proofs.lemmas.Option.{none-some, same_Some, slice_get-get_or, slice_get_within}
 use Rattle.std.proofs.lemmas.Bool.{cases_lt}
 use Rattle.std.proofs.lemmas.List.{take_all}
 use Rattle.ux_base.specs.Outside.{Files, Rose, file_named, MAX}
@@ -22,18 +23,17 @@ use Rattle.ux_net.specs.declared.error.NetError.{NetError}
 use Rattle.ux_net.specs.declared.error.NetError.TheVariants as net_error
 use Rattle.ux_net.proofs.RefusingLemmas.{compilable_not_refused}
 use Rattle.ux_tokens.specs.Tokens.{AreTokens, Token}
-use Rattle.ux_tokens.specs.Reading.{HasOpenBrace}
 use Rattle.ux_tokens.proofs.UniqueLemmas.{tokens_unique}
 use Rattle.ux_run.specs.declared.status.Status.{Status}
 use Rattle.ux_run.specs.declared.status.Status.TheVariants.{Done, Usage, Absent, Refused, ReadFault, WriteFault, TooLarge, NoMemory}
 use Rattle.ux_run.specs.declared.status.Reason.{Reason}
-use Rattle.ux_run.specs.declared.status.Reason.TheVariants.{Decode, Alphabet, Grf, Net, Text, Dela, TooManyGraphs}
+use Rattle.ux_run.specs.declared.status.Reason.TheVariants.{Decode, Alphabet, Grf, Net, Dela, TooManyGraphs}
 use Rattle.ux_run.specs.Grammars.{file_of, next_name, MOST_GRAPHS}
 use Rattle.ux_words.specs.declared.request.Request.{Request}
 use Rattle.ux_words.specs.declared.request.Request.TheVariants.{Locate, Concord, Tokenize, Check, Dico, Fst2, Inflect, Compress, Tfst, Elag, Bench, Help, Version}
 use Rattle.ux_words.specs.declared.request.Search.{Search}
-use Rattle.ux_run.specs.Running.{AreAccepted, AreRead, AreTokensOf, Format, IsLong, NamesFile, Stops, StopsGrammar, StopsNet, Explains, ExplainsSearch, ExplainsTokens, Denies, HasText, HasAlphabet, HasGrammar, HasGraph, HasTokens, IsAccepted, IsAnswerable, HasEntries, HasTooManyTokens, IsNoText, RefusesAlphabet, RefusesDictionary, RefusesGraph, RefusesGraphAt, RefusesText, alphabet_format, dictionary_format, graph_format, text_format}
-use Rattle.ux_run.proofs.Dictionaries.{entries_not_refused, stems_not_refused}
+use Rattle.ux_run.specs.Running.{AreAccepted, AreRead, AreTokensOf, Format, IsLong, NamesFile, Stops, StopsGrammar, StopsNet, Explains, ExplainsReport, ExplainsSearch, ExplainsTokens, Denies, IsDictionary, StopsDictionaries, HasText, HasAlphabet, HasGrammar, HasGraph, HasTokens, IsAccepted, IsAnswerable, HasEntries, HasTooManyTokens, IsNoText, RefusesAlphabet, RefusesDictionary, RefusesFile, RefusesGraph, RefusesGraphAt, alphabet_format, dictionary_format, graph_format, text_format}
+use Rattle.ux_run.proofs.DelaRefusals.{entries_not_refused, stems_not_refused}
 use Rattle.ux_run.proofs.GraphRefusals.{drawn_not_refused, drawn_once}
 
 module _ (files : Files) (old new : Counts) (sound : Rose old.faults new.faults → ⊥) where
@@ -90,7 +90,6 @@ alphabet_taken told name alphabet has (Alphabet error) refused =
     read_not_refused (alphabet_of has.text) alphabet error has.lines
     (ap alphabet_of (sym (same_text told name has.text has.has refused.0 refused.1)) ∙ refused.2)
 alphabet_taken told name alphabet has (Grf error) refused = refused
-alphabet_taken told name alphabet has (Text error) refused = refused
 alphabet_taken told name alphabet has (Net error) refused = refused
 alphabet_taken told name alphabet has (Dela error) refused = refused
 alphabet_taken told name alphabet has TooManyGraphs refused = refused
@@ -104,7 +103,6 @@ graph_taken told name boxes has (Grf error) refused =
     let same = same_text told name has.text has.has refused.0 refused.1 in
     drawn_not_refused has.text (record { boxes = boxes }) error has.draws refused.3
     (subst (λ (t : List ℕ). grf.Refuses t error) same refused.2)
-graph_taken told name boxes has (Text error) refused = refused
 graph_taken told name boxes has (Net error) refused = refused
 graph_taken told name boxes has (Dela error) refused = refused
 graph_taken told name boxes has TooManyGraphs refused = refused
@@ -118,14 +116,11 @@ graph_taken_at n told name boxes has few reason (inr many) = omega (arith, few, 
 
 text_taken : (told : Option Files) (name : List ℕ) (alphabet : List Line) (tokens : List Token)
     (has : HasTokens told name alphabet tokens) (reason : Reason) →
-    RefusesText has.has.file reason → ⊥
+    RefusesFile has.has.file reason → ⊥
 text_taken told name alphabet tokens has (Decode error) refused =
     decoded told name has.text has.has error refused
 text_taken told name alphabet tokens has (Alphabet error) refused = refused
 text_taken told name alphabet tokens has (Grf error) refused = refused
-text_taken told name alphabet tokens has (Text error) refused =
-    has.no_open_brace (subst HasOpenBrace
-    (same_text told name has.text has.has refused.0 refused.1) refused.3)
 text_taken told name alphabet tokens has (Net error) refused = refused
 text_taken told name alphabet tokens has (Dela error) refused = refused
 text_taken told name alphabet tokens has TooManyGraphs refused = refused
@@ -276,7 +271,6 @@ module _ {T : Type 0} (AreSaid : List ℕ → List T → Type 0)
       decoded told name has.text has.has error refused
   dictionary_taken told name entries has (Alphabet error) refused = refused
   dictionary_taken told name entries has (Grf error) refused = refused
-  dictionary_taken told name entries has (Text error) refused = refused
   dictionary_taken told name entries has (Dela error) refused =
       excluded has.text entries error has.are (subst (λ (t : List ℕ). Refuses t error)
       (same_text told name has.text has.has refused.0 refused.1) refused.2)
@@ -316,7 +310,6 @@ module _ (asked : Search) (files : Files)
   net_memory (Refused file (Decode error)) refused = absurd refused
   net_memory (Refused file (Alphabet error)) refused = absurd refused
   net_memory (Refused file (Grf error)) refused = absurd refused
-  net_memory (Refused file (Text error)) refused = absurd refused
   net_memory (Refused file (Dela error)) refused = absurd refused
   net_memory (Refused file TooManyGraphs) refused = absurd refused
   net_memory (ReadFault name) refused = absurd refused
@@ -355,6 +348,32 @@ tokens_memory text alphabet files lines tokens accepted old new sound status
     (subst (λ (a : List Line). Stops (text_format a) text (Some files) old new status)
     (sym (same_alphabet files alphabet lines accepted.has_alphabet other has_other)) stops)
 
+-- nor does one of several dictionaries, where each is accepted
+dictionaries_memory : (files : Files) (names : List (List ℕ)) → All (IsDictionary (Some files)) names →
+    (old new : Counts) → (Rose old.faults new.faults → ⊥) → (status : Status) →
+    StopsDictionaries (Some files) names old new status → status ≡ NoMemory
+dictionaries_memory files names all old new sound status stops =
+    let within = slice_get_within names stops.place stops.name stops.named in
+    let is = same_Some (get_or names stops.place stops.name) stops.name
+    (sym (slice_get-get_or names stops.place stops.name within) ∙ stops.named) in
+    let dictionary = subst (IsDictionary (Some files)) is
+    (All-get_or (IsDictionary (Some files)) names stops.place stops.name within all) in
+    dictionary_memory dela.AreEntries dela.Refuses entries_not_refused files stops.name
+    dictionary.0 dictionary.1 old new sound status stops.stops
+
+-- so a report is not written for want of memory alone
+report_memory : (text alphabet : List ℕ) (names : List (List ℕ)) (files : Files)
+    (lines : List Line) (tokens : List Token) → AreTokensOf (Some files) text alphabet lines tokens →
+    All (IsDictionary (Some files)) names → (old new : Counts) →
+    (Rose old.faults new.faults → ⊥) → (status : Status) →
+    ExplainsReport text alphabet names (Some files) old new status → status ≡ NoMemory
+report_memory text alphabet names files lines tokens accepted all old new sound status
+    (inl stops) =
+    tokens_memory text alphabet files lines tokens accepted old new sound status stops
+report_memory text alphabet names files lines tokens accepted all old new sound status
+    (inr (others, more, has, stops)) =
+    dictionaries_memory files names all old new sound status stops
+
 module _ (files : Files) (old new : Counts) (sound : Rose old.faults new.faults → ⊥) where
   only_for_memory : (asked : Request) → AreAccepted asked (Some files) → (status : Status) →
       Explains asked (Some files) old new status → status ≡ NoMemory
@@ -369,7 +388,8 @@ module _ (files : Files) (old new : Counts) (sound : Rose old.faults new.faults 
   only_for_memory (Check true file) (stems, accepted) status explains =
       dictionary_memory dela.AreStems dela.RefusesStems stems_not_refused files file stems accepted
       old new sound status explains
-  only_for_memory (Dico text alphabet dics) accepted status explains = explains
+  only_for_memory (Dico text alphabet dics) (lines, tokens, accepted, all) status explains =
+      report_memory text alphabet dics files lines tokens accepted all old new sound status explains
   only_for_memory (Fst2 graph alphabet) accepted status explains = explains
   only_for_memory (Inflect stems) accepted status explains = explains
   only_for_memory (Compress dic) accepted status explains = explains

@@ -35,7 +35,7 @@ is_long_earlier format name told old mid new none (inl long) =
 is_long_earlier format name told old mid new none (inr more) = inr more
 
 -- where no count fell before, what stops the reading of one file stops it from the start on
-stops_earlier : (format : Format) (name : List ℕ) (told : Option Files) (old mid new : Counts)
+pub stops_earlier : (format : Format) (name : List ℕ) (told : Option Files) (old mid new : Counts)
     (status : Status) → NoneFell old mid →
     Stops format name told mid new status → Stops format name told old new status
 stops_earlier format name told old mid new Done none stops = stops
@@ -140,6 +140,13 @@ module _ (told : Option Files) (old new : Counts) where
   no_memory : (status : Status) → IsNoCause status → status ≡ NoMemory → ⊥
   no_memory status none is = subst IsNoCause is none
 
+  never_tokens : (text alphabet : List ℕ) (status : Status) → IsNoCause status →
+      ExplainsTokens text alphabet told old new status → ⊥
+  never_tokens text alphabet status none (inl stops) =
+      never_stops alphabet_format alphabet status none stops
+  never_tokens text alphabet status none (inr (lines, has, stops)) =
+      never_stops (text_format lines) text status none stops
+
   never_explains : (asked : Request) (status : Status) → IsNoCause status →
       Explains asked told old new status → ⊥
   never_explains (Locate what) status none (inl stops) =
@@ -153,16 +160,17 @@ module _ (told : Option Files) (old new : Counts) where
   never_explains (Locate what) status none
       (inr (alphabet, has, inr (graphs, read, inr (compilable, stops)))) =
       never_stops (text_format alphabet) what.text status none stops
-  never_explains (Tokenize text alphabet) status none (inl stops) =
-      never_stops alphabet_format alphabet status none stops
-  never_explains (Tokenize text alphabet) status none (inr (lines, has, stops)) =
-      never_stops (text_format lines) text status none stops
+  never_explains (Tokenize text alphabet) status none stops =
+      never_tokens text alphabet status none stops
   never_explains (Concord what left right sort) status none is = no_memory status none is
   never_explains (Check false file) status none stops =
       never_stops (dictionary_format dela.Refuses) file status none stops
   never_explains (Check true file) status none stops =
       never_stops (dictionary_format dela.RefusesStems) file status none stops
-  never_explains (Dico text alphabet dics) status none is = no_memory status none is
+  never_explains (Dico text alphabet dics) status none (inl stops) =
+      never_tokens text alphabet status none stops
+  never_explains (Dico text alphabet dics) status none (inr (lines, tokens, has, stops)) =
+      never_stops (dictionary_format dela.Refuses) stops.name status none stops.stops
   never_explains (Fst2 graph alphabet) status none is = no_memory status none is
   never_explains (Inflect stems) status none is = no_memory status none is
   never_explains (Compress dic) status none is = no_memory status none is

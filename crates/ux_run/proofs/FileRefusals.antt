@@ -8,11 +8,9 @@ use Rattle.ux_grf.specs.File as grf
 use Rattle.ux_grf.specs.declared.error.GrfError.{GrfError}
 use Rattle.ux_grf.specs.declared.error.GrfError.TheVariants as grf_error
 use Rattle.ux_tokens.specs.Reading as reading
-use Rattle.ux_tokens.specs.Reading.{HasOpenBrace}
-use Rattle.ux_tokens.specs.declared.text_error.TextError.TheVariants as text_error
 use Rattle.ux_run.specs.declared.status.Status.{Status}
 use Rattle.ux_run.specs.declared.status.Status.TheVariants.{Refused, TooLarge, NoMemory}
-use Rattle.ux_run.specs.declared.status.Reason.TheVariants.{Grf, Text}
+use Rattle.ux_run.specs.declared.status.Reason.TheVariants.{Grf}
 use Rattle.ux_run.specs.Grammars.{MOST_GRAPHS}
 use Rattle.ux_run.specs.Running.{Format, HasBytes, HasText, Stops, graph_format, text_format}
 
@@ -26,10 +24,10 @@ module _ (told : Option Files) (name : List ℕ) (old new : Counts) where
       subst (λ (s : Status). Stops format name told old new s) (sym same) tt
 
   pub text_too_large : (alphabet : List Line) (text : List ℕ) → HasText told name text →
-      (HasOpenBrace text → ⊥) → reading.HasTooManyTokens alphabet text →
+      reading.HasTooManyTokens alphabet text →
       (result : Status) → (result ≡ TooLarge name) ⊎ (result ≡ NoMemory) →
       Stops (text_format alphabet) name told old new result
-  text_too_large alphabet text has no_open_brace more result =
+  text_too_large alphabet text has more result =
       stopped (text_format alphabet) (TooLarge name) result (
         refl,
         inr (
@@ -38,19 +36,10 @@ module _ (told : Option Files) (name : List ℕ) (old new : Counts) where
           record {
             text = text;
             is = has.is;
-            no_open_brace = no_open_brace;
             more = more;
           },
         ),
       )
-
-  pub text_refused : (alphabet : List Line) (text : List ℕ) → HasText told name text →
-      HasOpenBrace text → (result : Status) →
-      (result ≡ Refused name (Text text_error.NotYet)) ⊎ (result ≡ NoMemory) →
-      Stops (text_format alphabet) name told old new result
-  text_refused alphabet text has open_brace result =
-      stopped (text_format alphabet) (Refused name (Text text_error.NotYet)) result
-      (refl, (has.file, has.bytes, (text, has.is, refl, open_brace)))
 
   pub graph_refused : (n : ℕ) (file text : List ℕ) (error : GrfError) → n < MOST_GRAPHS →
       HasBytes told name file → IsTextOf file text → grf.Refuses text error →

@@ -1,6 +1,7 @@
 pub mod Answering
 pub mod Complete
-pub mod Dictionaries
+pub mod DelaRefusals
+pub mod DictionariesInOrder
 pub mod Explaining
 pub mod FileRefusals
 pub mod GrammarLemmas

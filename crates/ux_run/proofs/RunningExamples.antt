@@ -8,7 +8,7 @@ use Rattle.ux_run.specs.declared.status.Reason.TheVariants.{Dela, Grf}
 use Rattle.ux_dela.specs.declared.error.DelaError.TheVariants as dela_error
 use Rattle.ux_grf.specs.declared.error.GrfError.TheVariants as grf_error
 use Rattle.ux_run.specs.Statuses.{line_of, number_of}
-use Rattle.ux_words.specs.declared.request.Request.TheVariants.{Check, Help, Tokenize}
+use Rattle.ux_words.specs.declared.request.Request.TheVariants.{Check, Dico, Help, Tokenize}
 use Rattle.ux_run.specs.Entries.{entries_line}
 use Rattle.ux_run.specs.Requests.{request_of}
 use Rattle.ux_run.specs.Running.{Stops, alphabet_format}
@@ -41,6 +41,17 @@ some_lemmas :
     request_of (codes "check" ∷ codes "--delas" ∷ codes "d.udi" ∷ [])
     ≡ Some (Check true (codes "d.udi"))
 some_lemmas = refl
+
+a_report :
+    request_of (codes "dico" ∷ codes "t.txt" ∷ codes "a.txt" ∷ codes "d.dic" ∷ [])
+    ≡ Some (Dico (codes "t.txt") (codes "a.txt") (codes "d.dic" ∷ []))
+a_report = refl
+
+-- an image is not applied yet, be it one of several
+images :
+    request_of (codes "dico" ∷ codes "t.txt" ∷ codes "a.txt" ∷ codes "d.dic" ∷ codes "d.udi" ∷ [])
+    ≡ None
+images = refl
 
 some_help : request_of (codes "--help" ∷ []) ≡ Some Help
 some_help = refl

@@ -1,6 +1,6 @@
 -- Which requests the program answers: those that are built.
 use Rattle.std.specs.Prelude.{ℕ, ◌&&◌, ◌||◌, ◌==◌, nat_eq, Bool, true, false, not, List, length, codes, if◌then◌else◌, Option, Some, None, option_and_then}
-use Rattle.std.specs.List.{ends_with}
+use Rattle.std.specs.List.{ends_with, list_all}
 use Rattle.ux_base.specs.declared.settings.Mode.{Mode}
 use Rattle.ux_base.specs.declared.settings.Mode.TheVariants.{Ignore}
 use Rattle.ux_base.specs.declared.settings.NoVar.{NoVar}
@@ -9,7 +9,7 @@ use Rattle.ux_base.specs.declared.settings.Policy.{Policy}
 use Rattle.ux_base.specs.declared.settings.Policy.TheVariants.{All}
 use Rattle.ux_words.specs.Requests as asking
 use Rattle.ux_words.specs.declared.request.Request.{Request}
-use Rattle.ux_words.specs.declared.request.Request.TheVariants.{Locate, Tokenize, Check, Help, Version}
+use Rattle.ux_words.specs.declared.request.Request.TheVariants.{Locate, Tokenize, Check, Dico, Help, Version}
 use Rattle.ux_words.specs.declared.request.Search.{Search}
 
 -- outputs are ignored
@@ -41,10 +41,15 @@ is_built_search search =
 abbrev pub is_text : List ℕ → Bool
 is_text dic = not (ends_with nat_eq dic (codes ".udi"))
 
+-- each of the dictionaries is
+abbrev pub are_texts : List (List ℕ) → Bool
+are_texts dics = list_all is_text dics
+
 abbrev pub is_built : Request → Bool
 is_built (Locate asked) = is_built_search asked
 is_built (Tokenize text alphabet) = true
 is_built (Check delas file) = delas || is_text file
+is_built (Dico text alphabet dics) = are_texts dics
 is_built Help = true
 is_built Version = true
 is_built request = false

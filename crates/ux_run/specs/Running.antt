@@ -1,5 +1,6 @@
 -- What a run has to answer, and why it may end otherwise.
-use Rattle.std.specs.Prelude.{◌≡◌, ◌≢◌, ◌⊎◌, ⊤, ℕ, true, false, ◌<◌, ◌≤◌, if◌then◌else◌, List, length, Option, Some, None, IfSome, IsSome, IsSomeAnd, Ok, Err, slice_get, take}
+use Rattle.std.specs.Prelude.{◌≡◌, ◌≢◌, ◌⊎◌, ⊤, ℕ, true, false, ◌<◌, ◌≤◌, if◌then◌else◌, List, length, All, Option, Some, None, IfSome, IsSome, IsSomeAnd, Ok, Err, slice_get, take}
+use Rattle.std.specs.List.{AllZip}
 use Rattle.std.specs.Str.{bytes_eq}
 use Rattle.ux_base.specs.Outside.{Files, file_named, MAX, Rose}
 use Rattle.ux_base.specs.declared.counts.Counts.{Counts}
@@ -21,23 +22,26 @@ use Rattle.ux_dela.specs.Files as dela
 use Rattle.ux_dela.specs.declared.entry.Entry.{Entry}
 use Rattle.ux_dela.specs.declared.entry.Stem.{Stem}
 use Rattle.ux_dela.specs.declared.error.DelaError.{DelaError}
+use Rattle.ux_dict.specs.Content.{IsContent}
+use Rattle.ux_apply.specs.Names.{IsPriorityOf}
+use Rattle.ux_apply.specs.Tables.{AreApplied, Tables}
+use Rattle.ux_apply.specs.declared.priority.Priority.{Priority}
+use Rattle.ux_report.specs.Report.{IsReport}
 use Rattle.ux_tokens.specs.Tokens.{Token, AreTokens}
-use Rattle.ux_tokens.specs.Reading.{HasOpenBrace}
 use Rattle.ux_tokens.specs.Reading as reading
 use Rattle.ux_tokens.specs.TokenFile.{token_file}
 use Rattle.ux_tokens.specs.declared.cutting.TheConstants.{MAX_TOKENS}
 use Rattle.ux_tokens.specs.declared.text_error.TextError.{TextError}
-use Rattle.ux_tokens.specs.declared.text_error.TextError.TheVariants as text_error
 use Rattle.ux_words.specs.declared.help.TheConstants.{HELP, VERSION}
 use Rattle.ux_words.specs.declared.request.Request.{Request}
-use Rattle.ux_words.specs.declared.request.Request.TheVariants.{Locate, Tokenize, Check, Help, Version}
+use Rattle.ux_words.specs.declared.request.Request.TheVariants.{Locate, Tokenize, Check, Dico, Help, Version}
 use Rattle.ux_words.specs.declared.request.Search.{Search}
 use Rattle.ux_run.specs.declared.status.Status.{Status}
 use Rattle.ux_run.specs.declared.status.Status.TheVariants.{Done, Usage, Absent, Refused, ReadFault, WriteFault, TooLarge, NoMemory}
 use Rattle.ux_run.specs.declared.status.Reason.{Reason}
-use Rattle.ux_run.specs.declared.status.Reason.TheVariants.{Decode, Alphabet, Grf, Net, Text, Dela, TooManyGraphs}
+use Rattle.ux_run.specs.declared.status.Reason.TheVariants.{Decode, Alphabet, Grf, Net, Dela, TooManyGraphs}
 use Rattle.ux_run.specs.Entries.{entries_line}
-use Rattle.ux_run.specs.Grammars.{next_name, file_of, main_name, callee_file, MOST_GRAPHS}
+use Rattle.ux_run.specs.Grammars.{base_of, next_name, file_of, main_name, callee_file, MOST_GRAPHS}
 use Rattle.ux_run.specs.Hits.{IsHit}
 use Rattle.ux_run.specs.Index.{IsIndex}
 
@@ -88,7 +92,6 @@ pub record HasTokens (told : Option Files) (name : List ℕ) (alphabet : List Li
     (tokens : List Token) : Type 0 where
   pub text : List ℕ
   pub has : HasText told name text
-  pub no_open_brace : ¬ HasOpenBrace text
   pub are : AreTokens alphabet text tokens
   pub few : length tokens ≤ MAX_TOKENS
 
@@ -98,6 +101,23 @@ pub record HasEntries {T : Type 0} (AreSaid : List ℕ → List T → Type 0) (t
   pub text : List ℕ
   pub has : HasText told name text
   pub are : AreSaid text entries
+
+-- a dictionary of forms is accepted: it has entries
+abbrev pub IsDictionary : Option Files → (name : List ℕ) → Type 0
+IsDictionary told name = (entries : List Entry) × HasEntries dela.AreEntries told name entries
+
+-- the dictionary's file has this content, and its name gives this priority
+pub record HasDictionary (told : Option Files) (name : List ℕ) (dic : Priority × List Entry) :
+    Type 0 where
+  pub entries : List Entry
+  pub has : HasEntries dela.AreEntries told name entries
+  pub priority : IsPriorityOf (base_of name) dic.0
+  pub content : IsContent entries dic.1
+
+-- the dictionaries are those of the files, in the order of the names
+abbrev pub HaveDictionaries : Option Files → (names : List (List ℕ)) →
+    List (Priority × List Entry) → Type 0
+HaveDictionaries told names dics = AllZip (HasDictionary told) names dics
 
 -- each file of the search is accepted, and the grammar has a meaning
 pub record IsAccepted (search : Search) (told : Option Files) (alphabet : List Line)
@@ -135,12 +155,25 @@ pub record IsCountOf {T : Type 0} (AreSaid : List ℕ → List T → Type 0) (to
   pub accepted : HasEntries AreSaid told name entries
   pub is : answer ≡ entries_line (length entries)
 
+-- the answer is the report of the dictionaries' entries that apply to the text
+pub record IsReportOf (told : Option Files) (name alphabet : List ℕ) (names : List (List ℕ))
+    (answer : List ℕ) : Type 0 where
+  pub lines : List Line
+  pub tokens : List Token
+  pub accepted : AreTokensOf told name alphabet lines tokens
+  pub dics : List (Priority × List Entry)
+  pub have : HaveDictionaries told names dics
+  pub tables : Tables
+  pub applied : AreApplied lines dics tokens tables
+  pub report : IsReport tokens tables answer
+
 -- what answers a request
 abbrev pub Answers : Request → Option Files → List ℕ → Type 0
 Answers (Locate asked) told answer = IsIndexOf asked told answer
 Answers (Tokenize text alphabet) told answer = IsTokenFileOf told text alphabet answer
 Answers (Check false file) told answer = IsCountOf dela.AreEntries told file answer
 Answers (Check true file) told answer = IsCountOf dela.AreStems told file answer
+Answers (Dico text alphabet dics) told answer = IsReportOf told text alphabet dics answer
 Answers Help told answer = answer ≡ HELP.now
 Answers Version told answer = answer ≡ VERSION.now
 Answers request told answer = ⊥
@@ -162,6 +195,8 @@ AreAccepted (Check false file) told =
     (entries : List Entry) × HasEntries dela.AreEntries told file entries
 AreAccepted (Check true file) told =
     (stems : List Stem) × HasEntries dela.AreStems told file stems
+AreAccepted (Dico text alphabet dics) told = (lines : List Line) × (tokens : List Token)
+    × AreTokensOf told text alphabet lines tokens × All (IsDictionary told) dics
 AreAccepted request told = ⊤
 
 -- the words are a request, the folder tells its files, and those of the request are accepted
@@ -189,7 +224,6 @@ abbrev pub RefusesFile : (file : List ℕ) → Reason → Type 0
 RefusesFile file (Decode error) = IsNoText file error
 RefusesFile file (Alphabet error) = ⊥
 RefusesFile file (Grf error) = ⊥
-RefusesFile file (Text error) = ⊥
 RefusesFile file (Dela error) = ⊥
 RefusesFile file (Net error) = ⊥
 RefusesFile file TooManyGraphs = ⊥
@@ -200,7 +234,6 @@ RefusesAlphabet file (Decode error) = IsNoText file error
 RefusesAlphabet file (Alphabet error) =
     (text : List ℕ) × IsTextOf file text × (alphabet_of text ≡ Err error)
 RefusesAlphabet file (Grf error) = ⊥
-RefusesAlphabet file (Text error) = ⊥
 RefusesAlphabet file (Dela error) = ⊥
 RefusesAlphabet file (Net error) = ⊥
 RefusesAlphabet file TooManyGraphs = ⊥
@@ -211,7 +244,6 @@ RefusesGraph file (Decode error) = IsNoText file error
 RefusesGraph file (Alphabet error) = ⊥
 RefusesGraph file (Grf error) =
     (text : List ℕ) × IsTextOf file text × grf.Refuses text error × (error ≢ grf_error.NoMemory)
-RefusesGraph file (Text error) = ⊥
 RefusesGraph file (Dela error) = ⊥
 RefusesGraph file (Net error) = ⊥
 RefusesGraph file TooManyGraphs = ⊥
@@ -223,23 +255,11 @@ RefusesGraphAt n file reason =
     ((n < MOST_GRAPHS) × RefusesGraph file reason)
     ⊎ ((MOST_GRAPHS ≤ n) × (reason ≡ TooManyGraphs))
 
--- why a file is no text of tokens
-abbrev pub RefusesText : (file : List ℕ) → Reason → Type 0
-RefusesText file (Decode error) = IsNoText file error
-RefusesText file (Alphabet error) = ⊥
-RefusesText file (Grf error) = ⊥
-RefusesText file (Text error) = (text : List ℕ) × IsTextOf file text
-    × (error ≡ text_error.NotYet) × HasOpenBrace text
-RefusesText file (Dela error) = ⊥
-RefusesText file (Net error) = ⊥
-RefusesText file TooManyGraphs = ⊥
-
 -- why a file is no dictionary, by why texts of its kind are refused
 abbrev pub RefusesDictionary : (List ℕ → DelaError → Type 0) → (file : List ℕ) → Reason → Type 0
 RefusesDictionary Refuses file (Decode error) = IsNoText file error
 RefusesDictionary Refuses file (Alphabet error) = ⊥
 RefusesDictionary Refuses file (Grf error) = ⊥
-RefusesDictionary Refuses file (Text error) = ⊥
 RefusesDictionary Refuses file (Dela error) =
     (text : List ℕ) × IsTextOf file text × Refuses text error
 RefusesDictionary Refuses file (Net error) = ⊥
@@ -249,7 +269,6 @@ RefusesDictionary Refuses file TooManyGraphs = ⊥
 pub record HasTooManyTokens (alphabet : List Line) (file : List ℕ) : Type 0 where
   pub text : List ℕ
   pub is : IsTextOf file text
-  pub no_open_brace : ¬ HasOpenBrace text
   pub more : reading.HasTooManyTokens alphabet text
 
 -- any bytes
@@ -268,9 +287,9 @@ alphabet_format = record { Refuses = RefusesAlphabet; IsTooLarge = λ file. ⊥ 
 abbrev pub graph_format : ℕ → Format
 graph_format n = record { Refuses = RefusesGraphAt n; IsTooLarge = λ file. ⊥ }
 
--- texts, which are cut by the letters of an alphabet
+-- texts, which are cut by the letters of an alphabet; each has tokens, and may have too many
 abbrev pub text_format : List Line → Format
-text_format alphabet = record { Refuses = RefusesText; IsTooLarge = HasTooManyTokens alphabet }
+text_format alphabet = record { Refuses = RefusesFile; IsTooLarge = HasTooManyTokens alphabet }
 
 -- dictionaries whose texts are refused so
 abbrev pub dictionary_format : (List ℕ → DelaError → Type 0) → Format
@@ -310,7 +329,7 @@ Stops format name told old new WriteFault = ⊥
 Stops format name told old new (TooLarge named) = (named ≡ name) × IsLong format name told old new
 Stops format name told old new NoMemory = ⊤
 
--- a text that is refused so stops the reading so, wherever it is read from
+-- a text that has no list of tokens for this error stops the reading so, wherever it is read from
 abbrev pub StopsText : List ℕ → TextError → Status → Type 0
 StopsText name error status = (told : Option Files) → (old new : Counts) → (alphabet : List Line) →
     (text : List ℕ) → HasText told name text → reading.Refuses alphabet text error →
@@ -371,6 +390,24 @@ ExplainsTokens text alphabet told old new status =
     ⊎ ((lines : List Line) × HasAlphabet told alphabet lines
     × Stops (text_format lines) text told old new status)
 
+-- the dictionary behind the first few is not accepted, and these are
+pub record StopsDictionaries (told : Option Files) (names : List (List ℕ)) (old new : Counts)
+    (status : Status) : Type 0 where
+  pub place : ℕ
+  pub name : List ℕ
+  pub named : slice_get names place ≡ Some name
+  pub before : All (IsDictionary told) (take place names)
+  pub stops : Stops (dictionary_format dela.Refuses) name told old new status
+
+-- Why no report is written: the alphabet is read first, then the text, then the dictionaries in the
+-- order of their names.
+abbrev pub ExplainsReport : (text alphabet : List ℕ) (dics : List (List ℕ)) → Option Files →
+    Counts → Counts → Status → Type 0
+ExplainsReport text alphabet dics told old new status =
+    ExplainsTokens text alphabet told old new status
+    ⊎ ((lines : List Line) × (tokens : List Token)
+    × AreTokensOf told text alphabet lines tokens × StopsDictionaries told dics old new status)
+
 -- why a request is not answered: one without files is, unless memory runs out
 abbrev pub Explains : Request → Option Files → Counts → Counts → Status → Type 0
 Explains (Locate asked) told old new status = ExplainsSearch asked told old new status
@@ -380,6 +417,8 @@ Explains (Check false file) told old new status =
     Stops (dictionary_format dela.Refuses) file told old new status
 Explains (Check true file) told old new status =
     Stops (dictionary_format dela.RefusesStems) file told old new status
+Explains (Dico text alphabet dics) told old new status =
+    ExplainsReport text alphabet dics told old new status
 Explains request told old new status = status ≡ NoMemory
 
 -- why words are not answered: they are no request, or the request has no answer

@@ -11,12 +11,10 @@ use Rattle.ux_net.specs.declared.error.NetError.{NetError}
 use Rattle.ux_net.specs.declared.error.NetError.TheVariants as net_error
 use Rattle.ux_dela.specs.declared.error.DelaError.{DelaError}
 use Rattle.ux_dela.specs.declared.error.DelaError.TheVariants as dela_error
-use Rattle.ux_tokens.specs.declared.text_error.TextError.{TextError}
-use Rattle.ux_tokens.specs.declared.text_error.TextError.TheVariants as text_error
 use Rattle.ux_run.specs.declared.status.Status.{Status}
 use Rattle.ux_run.specs.declared.status.Status.TheVariants.{Done, Usage, Absent, Refused, ReadFault, WriteFault, TooLarge, NoMemory}
 use Rattle.ux_run.specs.declared.status.Reason.{Reason}
-use Rattle.ux_run.specs.declared.status.Reason.TheVariants.{Decode, Alphabet, Grf, Net, Text, Dela, TooManyGraphs}
+use Rattle.ux_run.specs.declared.status.Reason.TheVariants.{Decode, Alphabet, Grf, Net, Dela, TooManyGraphs}
 
 -- the exit status
 abbrev pub number_of : Status → ℕ
@@ -60,12 +58,6 @@ grf_reason (grf_error.BadTarget node) = codes "BadTarget node=" ∷ decimal node
 grf_reason (grf_error.BadContent node place) = at_place (codes "BadContent node=") node place
 grf_reason grf_error.NoMemory = codes "NoMemory" ∷ []
 
--- the same of a text
-abbrev pub text_reason : TextError → List (List ℕ)
-text_reason text_error.TooManyTokens = codes "TooManyTokens" ∷ []
-text_reason text_error.NotYet = codes "NotYet" ∷ []
-text_reason text_error.NoMemory = codes "NoMemory" ∷ []
-
 -- the same of a dictionary
 abbrev pub dela_reason : DelaError → List (List ℕ)
 dela_reason (dela_error.NoComma line place) = at_place (codes "NoComma line=") line place
@@ -94,7 +86,6 @@ reason_of (Decode error) = decode_reason error
 reason_of (Alphabet error) = alphabet_reason error
 reason_of (Grf error) = grf_reason error
 reason_of (Net error) = net_reason error
-reason_of (Text error) = text_reason error
 reason_of (Dela error) = dela_reason error
 reason_of TooManyGraphs = codes "TooManyGraphs" ∷ []
 

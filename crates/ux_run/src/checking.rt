@@ -1,20 +1,22 @@
 //! How many entries a dictionary has: the answer of `check`.
 //!
 //! The file is read and decoded as any other, and given to its format's reader: `count_entries` does
-//! so for files of forms, `count_stems` for files of lemmas. Both write the same line.
+//! so for files of forms, which `read_forms` reads for other commands, too, and `count_stems` for
+//! files of lemmas. Both write the same line.
 
-ghost use Rattle.std.specs.Prelude.{◌≡◌, ◌≢◌, ◌⊎◌, IfOk, IfErr, string_bytes};
+ghost use Rattle.std.specs.Prelude.{◌≡◌, ◌≢◌, ◌⊎◌, All, IfOk, IfErr, string_bytes};
 ghost use Rattle.ux_dela.specs.Files.{AreEntries, AreStems, Refuses, RefusesStems};
+ghost use Rattle.ux_dela.specs.Sound.{IsSound};
 ghost use Rattle.ux_dela.specs.declared.error.DelaError.TheVariants as dela_error;
 ghost use Rattle.ux_run.specs.Entries.{entries_line};
-ghost use Rattle.ux_run.specs.Running.{counts_of, dictionary_format, IsCountOf, NoneFell, Stops};
+ghost use Rattle.ux_run.specs.Running.{counts_of, dictionary_format, HasEntries, IsCountOf, NoneFell, Stops};
 
 use crate::reading::{read_decoded, refused};
 use crate::status::{Reason, Status};
 use itoa::Buffer;
 use std::alloc::Global;
 use ux_base::{Folder, Mem};
-use ux_dela::{DelaError, read_delaf, read_delas};
+use ux_dela::{DelaError, Entry, read_delaf, read_delas};
 
 /// Reads a file of forms, and tells the number of its entries, or how the run ends.
 pub fn count_entries<F: Folder>(alloc: Global, name: &str, folder: &mut F) -> Result<String, Status>
@@ -27,9 +29,29 @@ pub fn count_entries<F: Folder>(alloc: Global, name: &str, folder: &mut F) -> Re
         (counts_of F.faults F.misses F.overlong folder.old)
         (counts_of F.faults F.misses F.overlong folder.new)) }
 {
+    let entries = read_forms(alloc, name, folder)?;
+    counted(alloc, entries.len())
+}
+
+/// Reads a file of forms, and gives its entries, or tells how the run ends.
+pub fn read_forms<F: Folder>(
+    alloc: Global,
+    name: &str,
+    folder: &mut F,
+) -> Result<Vec<Entry>, Status>
+    ensures kept { F.files folder.new ≡ F.files folder.old }
+    ensures counts { NoneFell (counts_of F.faults F.misses F.overlong folder.old)
+        (counts_of F.faults F.misses F.overlong folder.new) }
+    ensures sound { IfOk result (λ entries. All IsSound entries.items) }
+    ensures ok { IfOk result (λ entries.
+        HasEntries AreEntries (F.files folder.old) name.now entries.items) }
+    ensures err { IfErr result (Stops (dictionary_format Refuses) name.now (F.files folder.old)
+        (counts_of F.faults F.misses F.overlong folder.old)
+        (counts_of F.faults F.misses F.overlong folder.new)) }
+{
     let text = read_decoded(alloc, name, folder)?;
     match read_delaf(alloc, text.as_str()) {
-        Ok(entries) => counted(alloc, entries.len()),
+        Ok(entries) => Ok(entries),
         Err(error) => Err(no_dictionary(alloc, name, error)),
     }
 }

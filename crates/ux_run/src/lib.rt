@@ -2,11 +2,12 @@
 //!
 //! `top_call::run` does the work over a folder and two sinks; the program `unitex` gives it the real
 //! ones. Begin with `top_call`, then follow the files: `reading`, `graphs`, `searching`, `index`, and
-//! `checking` for dictionaries. What the result has to be stands in `specs/`: `Hits`, `Index`,
-//! `Grammars`, `Entries`, `Running`.
+//! for dictionaries `checking` and `dictionaries`. What the result has to be stands in `specs/`:
+//! `Hits`, `Index`, `Grammars`, `Entries`, `Running`.
 #![tactic(auto)]
 
 mod checking;
+mod dictionaries;
 mod graphs;
 mod index;
 mod naming;

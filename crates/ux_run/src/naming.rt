@@ -1,4 +1,4 @@
-//! The names of graphs, and the files in which they stand.
+//! The names of files, their folders, and the names of graphs in them.
 
 ghost use Rattle.std.specs.Prelude.{◌≡◌, ◌==◌, ◌⊎◌, ◌+◌, ◌-◌, ◌<◌, ◌≤◌, ◌^◌, if◌then◌else◌, IfOk, length, take, slice_index, string_bytes};
 ghost use Rattle.ux_run.specs.Grammars.{SLASH, base_of, callee_file as callee_file_of, folder_of as folder_of_word, main_name as main_name_of, without_ending as without_ending_of};
@@ -31,7 +31,7 @@ fn folder_of(word: &str) -> &str
 }
 
 /// What stands behind the folder.
-fn base_of(word: &str) -> &str
+pub fn base_of(word: &str) -> &str
     ensures { result.now ≡ base_of word.now }
 {
     &word[folder_end(word)..]

@@ -11,7 +11,7 @@ ghost use Rattle.ux_base.specs.Outside.{MAX};
 ghost use Rattle.ux_tokens.specs.TokenFile.{token_file};
 ghost use Rattle.ux_tokens.specs.Tokens.{Token};
 ghost use Rattle.ux_run.specs.Reading.{AreFiles, HasNet, StopsBefore};
-ghost use Rattle.ux_run.specs.Running.{counts_of, HasBytes, HasText, HasAlphabet, HasTokens, IsNoText, IsTokenFileOf, NoneFell, Stops, StopsText, ExplainsSearch, ExplainsTokens, alphabet_format, text_format, bytes_format, file_format};
+ghost use Rattle.ux_run.specs.Running.{counts_of, HasBytes, HasText, HasAlphabet, HasTokens, AreTokensOf, IsNoText, IsTokenFileOf, NoneFell, Stops, StopsText, ExplainsSearch, ExplainsTokens, alphabet_format, text_format, bytes_format, file_format};
 
 use crate::graphs::{compile, read_graphs};
 use crate::status::{Reason, Status};
@@ -79,6 +79,27 @@ pub fn read_token_file<F: Folder>(
 {
     let alphabet = read_alphabet(alloc, alphabet, folder)?;
     list_tokens(alloc, text, &alphabet, folder)
+}
+
+/// Reads a text's letters and then the text, or says how the run ends.
+pub fn read_tokens<F: Folder>(
+    alloc: Global,
+    text: &str,
+    alphabet: &str,
+    folder: &mut F,
+) -> Result<(Alphabet, Text), Status>
+    ensures kept { F.files folder.new ≡ F.files folder.old }
+    ensures counts { NoneFell (counts_of F.faults F.misses F.overlong folder.old)
+        (counts_of F.faults F.misses F.overlong folder.new) }
+    ensures ok { IfOk result (λ read.
+        AreTokensOf (F.files folder.old) text.now alphabet.now read.0 read.1) }
+    ensures err { IfErr result (ExplainsTokens text.now alphabet.now (F.files folder.old)
+        (counts_of F.faults F.misses F.overlong folder.old)
+        (counts_of F.faults F.misses F.overlong folder.new)) }
+{
+    let alphabet = read_alphabet(alloc, alphabet, folder)?;
+    let text = read_text(alloc, text, &alphabet, folder)?;
+    Ok((alphabet, text))
 }
 
 /// Reads the alphabet's file.
@@ -164,14 +185,13 @@ fn list_tokens<F: Folder>(
     }
 }
 
-/// The ending that names a text which has no tokens here.
+/// The ending that names a text which has too many tokens, if memory didn't run out.
 fn no_tokens(alloc: Global, name: &str, error: TextError) -> Status
     ensures { StopsText name.now error result }
 {
     match error {
         TextError::NoMemory => Status::NoMemory,
         TextError::TooManyTokens => too_large(alloc, name),
-        TextError::NotYet => refused(alloc, name, Reason::Text(TextError::NotYet)),
     }
 }
 

@@ -1,11 +1,11 @@
 //! What the words of the command line ask for, where that is built.
 
 ghost use Rattle.std.specs.Prelude.{◌≡◌, ◌⊎◌, Some, None, IfErr, IfOk, map, string_bytes};
-ghost use Rattle.ux_run.specs.Requests.{is_all, is_built, is_built_search, is_drawn, is_ignore, is_nothing, is_text, request_of};
+ghost use Rattle.ux_run.specs.Requests.{are_texts, is_all, is_built, is_built_search, is_drawn, is_ignore, is_nothing, is_text, request_of};
 
 use crate::status::Status;
 use std::alloc::Global;
-use ux_base::{Mode, NoVar, Policy};
+use ux_base::{Mode, NoVar, Policy, Txt};
 use ux_words::{Request, Search, WordsError};
 
 /// The request of the words, if they are one that is built.
@@ -36,6 +36,7 @@ pub fn is_built(request: &Request) -> bool
         Request::Locate(search) => is_built_search(search),
         Request::Tokenize { .. } | Request::Help | Request::Version => true,
         Request::Check { delas, file } => *delas || is_text(file.as_str()),
+        Request::Dico { dics, .. } => are_texts(dics.as_slice()),
         _ => false,
     }
 }
@@ -86,6 +87,13 @@ fn is_drawn(graph: &str) -> bool
     ensures { result ≡ is_drawn graph.now }
 {
     !graph.as_bytes().ends_with(b".fst2")
+}
+
+/// Whether each of the dictionaries is a text, and no image.
+fn are_texts(dics: &[Txt]) -> bool
+    ensures { result ≡ are_texts dics.now }
+{
+    dics.iter().all(|dic| is_text(dic.as_str()))
 }
 
 /// Whether the dictionary is a text, and no image.

@@ -7,7 +7,6 @@ use ux_decode::DecodeError;
 use ux_dela::DelaError;
 use ux_grf::GrfError;
 use ux_net::NetError;
-use ux_tokens::TextError;
 
 /// How a run ended.
 #[derive(Debug, Drop)]
@@ -41,8 +40,6 @@ pub enum Reason {
     Grf(GrfError),
     /// The grammar's own reason.
     Net(NetError),
-    /// The text's own reason.
-    Text(TextError),
     /// The dictionary's own reason.
     Dela(DelaError),
     /// The grammar has 65,535 graphs before this one.

@@ -4,7 +4,7 @@ ghost use Rattle.std.specs.Prelude.{◌≢◌, ◌≤◌, ◌∷◌, [], OnOk, O
 ghost use Rattle.std.specs.Fmt.{decimal};
 ghost use Rattle.ux_base.specs.Outside.{Rose, Appended, AppendedFront};
 ghost use Rattle.ux_run.specs.declared.status.Status.TheVariants.{Done};
-ghost use Rattle.ux_run.specs.Statuses.{joined, line_of, refusal, reason_of, at_node, decode_reason, alphabet_reason, grf_reason, net_reason, text_reason, at_place, dela_reason};
+ghost use Rattle.ux_run.specs.Statuses.{joined, line_of, refusal, reason_of, at_node, decode_reason, alphabet_reason, grf_reason, net_reason, at_place, dela_reason};
 
 use crate::status::{Reason, Status};
 use itoa::Buffer;
@@ -14,7 +14,6 @@ use ux_decode::DecodeError;
 use ux_dela::DelaError;
 use ux_grf::GrfError;
 use ux_net::NetError;
-use ux_tokens::TextError;
 
 /// Writes the line of a status. A run that is done has none.
 pub fn tell<E: Sink>(err: &mut E, status: &Status) -> Result<(), SinkError>
@@ -67,7 +66,6 @@ fn say_refusal<E: Sink>(err: &mut E, file: &str, reason: &Reason) -> Result<(), 
         Reason::Alphabet(error) => say_alphabet_error(err, file, error),
         Reason::Grf(error) => say_grf_error(err, file, error),
         Reason::Net(error) => say_net_error(err, file, error),
-        Reason::Text(error) => say_text_error(err, file, error),
         Reason::Dela(error) => say_dela_error(err, file, error),
         Reason::TooManyGraphs => say_name(err, file, "TooManyGraphs"),
     }
@@ -277,22 +275,6 @@ fn say_net_error<E: Sink>(err: &mut E, file: &str, error: &NetError) -> Result<(
             say_node(err, file, "LeftRecursion graph=", graph, *node)
         },
         NetError::NoMemory => say_name(err, file, "NoMemory"),
-    }
-}
-
-/// Writes the line of a text that is refused.
-fn say_text_error<E: Sink>(err: &mut E, file: &str, error: &TextError) -> Result<(), SinkError>
-    ensures later { E.faults err.old ≤ E.faults err.new }
-    ensures cause { OnErr result (Rose (E.faults err.old) (E.faults err.new)) }
-    ensures line { OnOk result (Appended (E.written err.old) (E.written err.new)
-        (refusal file.now (text_reason error.now))) }
-    ensures front { OnErr result (AppendedFront (E.written err.old) (E.written err.new)
-        (refusal file.now (text_reason error.now))) }
-{
-    match error {
-        TextError::TooManyTokens => say_name(err, file, "TooManyTokens"),
-        TextError::NotYet => say_name(err, file, "NotYet"),
-        TextError::NoMemory => say_name(err, file, "NoMemory"),
     }
 }
 

@@ -10,6 +10,7 @@ ghost use Rattle.ux_run.specs.Requests.{is_built, request_of};
 ghost use Rattle.ux_run.specs.Running.{counts_of, Answers, IsAnswer, IsAnswerable, IsIndexOf, Denies, EndsBy, Explains, ExplainsSearch, ExplainsTokens, NoneFell, WritesNothing};
 
 use crate::checking::{count_entries, count_stems};
+use crate::dictionaries::report_of;
 use crate::index::index_text;
 use crate::reading::{Files, read_files, read_token_file};
 use crate::request::read_request;
@@ -117,6 +118,14 @@ fn answer_to<F: Folder>(alloc: Global, request: &Request, folder: &mut F) -> Res
         },
         Request::Check { delas: false, file } => count_entries(alloc, file.as_str(), folder),
         Request::Check { delas: true, file } => count_stems(alloc, file.as_str(), folder),
+        Request::Dico {
+            text,
+            alphabet,
+            dics,
+        } => {
+            let (text, alphabet) = (text.as_str(), alphabet.as_str());
+            report_of(alloc, text, alphabet, dics.as_slice(), folder)
+        },
         Request::Help => Ok(String::from_str(alloc, HELP)?),
         Request::Version => Ok(String::from_str(alloc, VERSION)?),
         _ => unreachable!(),

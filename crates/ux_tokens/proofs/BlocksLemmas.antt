@@ -10,13 +10,13 @@ use Rattle.ux_alphabet.specs.declared.line.Line.{Line}
 use Rattle.ux_alphabet.specs.Letters.{IsLetter}
 use Rattle.ux_tokens.specs.declared.kind.Kind.{Kind}
 use Rattle.ux_tokens.specs.declared.kind.Kind.TheVariants.{Word, Space, Other, Sentence, Stop, Tag}
-use Rattle.ux_tokens.specs.Tokens.{SPACE, OPENING_BRACE, BeginsWithMark, IsPlain}
+use Rattle.ux_tokens.specs.Tokens.{SPACE, IsPlain}
 use Rattle.ux_tokens.specs.First.{BeginsWithNoLetter, IsFirstToken, IsFront}
 use Rattle.ux_tokens.specs.Blocks.{IsClass, AreClasses, AreFronts, BeginsPlain, IsPlainByte, IsTokenAt, last_from}
 use Rattle.ux_tokens.proofs.AsciiLemmas.{ascii_first, run_more_ascii, run_ends_ascii}
 use Rattle.ux_tokens.proofs.CutLemmas.{slice_get-push_cases}
 use Rattle.ux_tokens.proofs.FirstLemmas.{IsRun, run_start, other_first}
-use Rattle.ux_tokens.proofs.MarksLemmas.{plain_front}
+use Rattle.ux_tokens.proofs.MarksLemmas.{mark_begins, plain_front}
 
 pub last_from-push : (start : ℕ) (ends : List ℕ) (end : ℕ) →
     last_from start (ends ++ end ∷ []) ≡ end
@@ -27,11 +27,6 @@ last_from-push start (first ∷ ends) end = last_from-push first ends end
 space_is_none : (lines : List Line) → IsLetter lines SPACE → ⊥
 space_is_none lines (inl upper) = false≢true (sym upper.0)
 space_is_none lines (inr lower) = false≢true (sym lower.0)
-
--- a mark begins with a brace
-mark_begins : (text : List ℕ) → BeginsWithMark text → get_or text 0 0 ≡ OPENING_BRACE
-mark_begins text (rest, inl sentence) = ap (λ (l : List ℕ). get_or l 0 0) sentence
-mark_begins text (rest, inr stop) = ap (λ (l : List ℕ). get_or l 0 0) stop
 
 -- a byte of another kind than a word's is no letter
 no_letter_of : (lines : List Line) (byte : ℕ) (kind : Kind) → IsClass lines byte kind →

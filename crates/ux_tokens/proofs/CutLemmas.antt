@@ -1,19 +1,19 @@
 -- A list of tokens of the front of a text grows by the token that stands behind it.
-use Rattle.std.proofs.Common.{◌≡◌, ◌≢◌, ◌⊎◌, inl, inr, ℕ, zero, suc, ◌+◌, ◌<◌, List, [], ◌∷◌, ◌++◌, All, length, Some, refl, sym, ◌∙◌, ap, subst, append_assoc, arith}
+use Rattle.std.proofs.Common.{◌≡◌, ◌≢◌, ◌⊎◌, inl, inr, ℕ, zero, suc, ◌+◌, ◌<◌, List, [], ◌∷◌, ◌++◌, All, length, drop, Some, refl, sym, ◌∙◌, ap, subst, append_assoc, arith}
 use Rattle.std.specs.List.{slice_get}
 use Rattle.std.specs.Str.{IsUtf8, chars}
 use Rattle.std.specs.Str.{encode_utf8_all}
 use Rattle.std.proofs.lemmas.Str.{chars-append, encodes-chars}
-use Rattle.std.proofs.lemmas.List.{append-nil, length-append}
+use Rattle.std.proofs.lemmas.List.{append-nil, length-append, drop-append-le, drop_at}
 use Rattle.std.proofs.lemmas.List.Elements.{All-nil, All-push, All-head}
 use Rattle.std.proofs.lemmas.Option.{none-some, same_Some}
 use Rattle.ux_alphabet.specs.declared.line.Line.{Line}
 use Rattle.ux_alphabet.specs.Letters.{IsLetter}
 use Rattle.ux_tokens.specs.declared.kind.Kind.{Kind}
 use Rattle.ux_tokens.specs.declared.kind.Kind.TheVariants.{Word}
-use Rattle.ux_tokens.specs.Tokens.{Token, IsTokenText, joined}
+use Rattle.ux_tokens.specs.Tokens.{Token, IsTokenText, OPENING_BRACE, BeginsWithMark, joined}
 use Rattle.ux_tokens.specs.First.{BeginsWithNoLetter}
-use Rattle.ux_tokens.specs.Cutting.{IsCut}
+use Rattle.ux_tokens.specs.Cutting.{IsCut, IsMarkedCut}
 
 -- what stands at a place of a list with one more element
 pub slice_get-push_cases : {X : Type 0} (xs : List X) (y : X) (k : ℕ) (x : X) →
@@ -110,3 +110,45 @@ module _ (lines : List Line) where
       closed k last (inl old) is_last word =
           absurd (omega (arith, old.0, length-append tokens (token ∷ [])))
       closed k last (inr new) is_last word = longest (ap (λ (t : Token). t.kind) new.1 ∙ word)
+
+  pub marked_start : (text : List ℕ) → IsMarkedCut lines text text []
+  marked_start text = record {
+    cut = cut_start text;
+    marks = λ k a at brace begins. absurd (none-some a at);
+  }
+
+  -- where a mark begins, the token isn't its brace alone
+  pub marked_more : (text rest after : List ℕ) (tokens : List Token) (token : Token) →
+      IsMarkedCut lines text rest tokens → IsUtf8 token.text → rest ≡ token.text ++ after →
+      IsTokenText lines token.kind token.text →
+      (token.kind ≡ Word → BeginsWithNoLetter lines after) →
+      (BeginsWithMark rest → token.text ≢ OPENING_BRACE ∷ []) →
+      IsMarkedCut lines text after (tokens ++ token ∷ [])
+  marked_more text rest after tokens token before utf8 next is longest mark = record {
+    cut = cut_more text rest after tokens token before.cut utf8 next is longest;
+    marks = λ k a at brace begins.
+        marks k a (slice_get-push_cases tokens token k a at) brace begins;
+  }
+    where
+      marks : (k : ℕ) (a : Token) →
+          ((k < length tokens) × (slice_get tokens k ≡ Some a)) ⊎
+          ((k ≡ length tokens) × (token ≡ a)) → a.text ≡ OPENING_BRACE ∷ [] →
+          BeginsWithMark (joined (drop k (tokens ++ token ∷ [])) ++ after) → ⊥
+      marks k a (inl old) brace begins =
+          let from : drop k (tokens ++ token ∷ []) ≡ drop k tokens ++ token ∷ [] =
+          drop-append-le k tokens (token ∷ []) (omega (arith, old.0)) in
+          before.marks k a old.1 brace
+          (subst BeginsWithMark
+          (ap (λ (l : List Token). joined l ++ after) from
+          ∙ ap (λ (l : List ℕ). l ++ after) (joined-push (drop k tokens) token)
+          ∙ append_assoc (joined (drop k tokens)) token.text after
+          ∙ ap (λ (l : List ℕ). joined (drop k tokens) ++ l) (sym next)) begins)
+      marks k a (inr new) brace begins =
+          let from : drop k (tokens ++ token ∷ []) ≡ token ∷ [] =
+          drop_at tokens (token ∷ []) k (sym new.0) in
+          mark
+          (subst BeginsWithMark
+          (ap (λ (l : List Token). joined l ++ after) from
+          ∙ ap (λ (l : List ℕ). l ++ after) (append-nil token.text)
+          ∙ sym next) begins)
+          (ap (λ (t : Token). t.text) new.1 ∙ brace)

@@ -1,32 +1,29 @@
 -- The loop that cuts a text: one more token keeps what is known of the pieces so far.
-use Rattle.std.proofs.Common.{◌≡◌, ◌≢◌, ℕ, ◌+◌, ◌-◌, ◌<◌, ◌≤◌, List, [], ◌∷◌, ◌++◌, map, length, take, drop, Some, refl, sym, ◌∙◌, ap, subst, arith}
+use Rattle.std.proofs.Common.{◌≡◌, ℕ, ◌+◌, ◌-◌, ◌<◌, ◌≤◌, List, [], ◌∷◌, ◌++◌, map, length, take, drop, Some, refl, sym, ◌∙◌, ap, subst, arith}
 use Rattle.std.specs.List.{slice_get}
 use Rattle.std.specs.Str.{IsCharBoundary, IsUtf8}
 use Rattle.std.proofs.lemmas.Str.{IsCharBoundary-start, IsCharBoundary-from_rest, IsUtf8-take, IsUtf8-drop}
 use Rattle.std.proofs.lemmas.List.{take-append-drop, drop-drop, length_push, drop_all, length-map}
-use Rattle.std.proofs.lemmas.List.Elements.{All-nil, All-push}
 use Rattle.ux_alphabet.specs.declared.line.Line.{Line}
 use Rattle.ux_tokens.specs.declared.kind.Kind.{Kind}
 use Rattle.ux_tokens.specs.declared.kind.Kind.TheVariants.{Word}
 use Rattle.ux_tokens.specs.declared.piece.Piece.{Piece}
 use Rattle.ux_tokens.specs.declared.pieces.Pieces.{Pieces}
 use Rattle.ux_tokens.specs.declared.cutting.TheConstants.{MAX_TOKENS}
-use Rattle.ux_tokens.specs.Tokens.{Token, OPENING_BRACE, HasBareBrace}
+use Rattle.ux_tokens.specs.Tokens.{Token}
 use Rattle.ux_tokens.specs.First.{BeginsWithNoLetter, IsFront}
 use Rattle.ux_tokens.specs.Numbers.{with_text, each_once}
 use Rattle.ux_tokens.specs.Pieces.{ArePieces, token_of, tokens_from, end_from}
 use Rattle.ux_tokens.specs.Columns.{AreEven, pieces_of}
-use Rattle.ux_tokens.specs.Cutting.{IsCut, IsCutting, IsSoFar, HaveNoBrace}
-use Rattle.ux_tokens.proofs.CutLemmas.{cut_start, cut_more}
-use Rattle.ux_tokens.proofs.MarksLemmas.{front_no_brace}
+use Rattle.ux_tokens.specs.Cutting.{IsMarkedCut, IsCutting, IsSoFar}
+use Rattle.ux_tokens.proofs.CutLemmas.{marked_start, marked_more}
 use Rattle.ux_tokens.proofs.NumbersLemmas.{length-each_once}
 use Rattle.ux_tokens.proofs.PiecesLemmas.{pieces_start, pieces_more, tokens_from-push, end_from-push, length-tokens_from}
 
 module _ (lines : List Line) (text : List ℕ) where
   pub so_far_start : IsUtf8 text → IsSoFar lines text 0 [] []
   so_far_start utf8 = record {
-    tokens = cut_start lines text;
-    no_brace = All-nil (λ (t : Token). t.text ≢ OPENING_BRACE ∷ []);
+    tokens = marked_start lines text;
     pieces_are = pieces_start text;
     ends = refl;
     between = IsCharBoundary-start text utf8;
@@ -46,7 +43,7 @@ module _ (lines : List Line) (text : List ℕ) where
       length-tokens_from text 0 pieces in
       omega arith
 
-  so_far_more : IsUtf8 text → (HasBareBrace text → ⊥) →
+  so_far_more : IsUtf8 text →
       (end : ℕ) (pieces : List Piece) (different : List (List ℕ)) →
       IsSoFar lines text end pieces different → length pieces < MAX_TOKENS → (kind : Kind) (len number : ℕ) →
       IsFront lines (drop end text) kind len →
@@ -54,15 +51,12 @@ module _ (lines : List Line) (text : List ℕ) where
       ≡ Some (take len (drop end text)) →
       IsSoFar lines text (end + len) (pieces ++ record { end = end + len; number = number; kind = kind } ∷ [])
       (with_text different (take len (drop end text)))
-  so_far_more utf8 marked end pieces different so_far room kind len number front place = record {
-    tokens = subst (IsCut lines text (drop (end + len) text)) tokens_are
-        (cut_more lines text (drop end text) (drop (end + len) text) (tokens_from text 0 pieces)
+  so_far_more utf8 end pieces different so_far room kind len number front place = record {
+    tokens = subst (IsMarkedCut lines text (drop (end + len) text)) tokens_are
+        (marked_more lines text (drop end text) (drop (end + len) text) (tokens_from text 0 pieces)
         token
         so_far.tokens (IsUtf8-take (drop end text) len rest_utf8 front.cut) next front.first.is
-        longest);
-    no_brace = subst HaveNoBrace tokens_are
-        (All-push (λ (t : Token). t.text ≢ OPENING_BRACE ∷ []) (tokens_from text 0 pieces) token
-        so_far.no_brace (front_no_brace lines text end kind len marked front));
+        longest front.mark);
     pieces_are = pieces_more text pieces different piece token.text so_far.pieces_are
         (let ends : end_from 0 pieces ≡ end = so_far.ends in omega arith)
         boundary (sym (ap (λ (t : Token). t.text) last_is)) place;
@@ -111,7 +105,7 @@ module _ (lines : List Line) (text : List ℕ) where
           ∙ sym (tokens_from-push text 0 pieces piece)
 
   -- the token at the front of the rest is the next
-  pub so_far_next : IsUtf8 text → (HasBareBrace text → ⊥) →
+  pub so_far_next : IsUtf8 text →
       (end : ℕ) (pieces : List Piece) (different more : List (List ℕ)) (rest : List ℕ)
       (front : Piece) →
       IsSoFar lines text end pieces different → length pieces < MAX_TOKENS → rest ≡ drop end text →
@@ -121,12 +115,12 @@ module _ (lines : List Line) (text : List ℕ) where
       IsSoFar lines text (end + front.end)
       (pieces ++ record { end = end + front.end; number = front.number; kind = front.kind } ∷ [])
       more
-  so_far_next utf8 marked end pieces different more rest front so_far room is at_front texts place =
+  so_far_next utf8 end pieces different more rest front so_far room is at_front texts place =
       let token : take front.end rest ≡ take front.end (drop end text) = ap (take front.end) is in
       let known : more ≡ with_text different (take front.end (drop end text)) =
       texts ∙ ap (with_text different) token in
       rw known
-      (so_far_more utf8 marked end pieces different so_far room front.kind front.end front.number
+      (so_far_more utf8 end pieces different so_far room front.kind front.end front.number
       (subst (λ (l : List ℕ). IsFront lines l front.kind front.end) is at_front)
       (ap (λ (l : List (List ℕ)). slice_get l front.number) (sym known) ∙ place ∙ ap Some token))
 
@@ -139,9 +133,8 @@ module _ (lines : List Line) (text : List ℕ) where
       let none : drop end text ≡ [] = drop_all end text (omega arith) in
       record {
         tokens =
-            subst (λ (rest : List ℕ). IsCut lines text rest (tokens_from text 0 (pieces_of pieces)))
+            subst (λ (rest : List ℕ). IsMarkedCut lines text rest (tokens_from text 0 (pieces_of pieces)))
             none so_far.tokens;
-        no_brace = so_far.no_brace;
         pieces = subst (ArePieces text (pieces_of pieces)) so_far.pieces_are.all so_far.pieces_are;
         even = even;
         few = so_far.few;

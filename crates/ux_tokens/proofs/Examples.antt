@@ -1,5 +1,5 @@
 -- The definitions on small texts.
-use Rattle.std.proofs.Common.{◌≡◌, ◌≢◌, inl, inr, ℕ, zero, suc, ◌+◌, ◌<◌, List, [], ◌∷◌, Some, get_or, drop, length, refl, ◌∙◌, ap, arith}
+use Rattle.std.proofs.Common.{◌≡◌, ◌≢◌, inl, inr, ℕ, zero, suc, ◌+◌, ◌<◌, List, [], ◌∷◌, Some, get_or, drop, length, refl, ◌∙◌, ap, false, true, arith, rules}
 use Rattle.std.specs.Fmt.{digits}
 use Rattle.std.specs.List.{slice_get}
 use Rattle.std.specs.Str.{IsAscii, chars}
@@ -9,10 +9,16 @@ use Rattle.std.proofs.lemmas.Option.{none-some, same_Some}
 use Rattle.ux_alphabet.specs.declared.line.Line.{Line}
 use Rattle.ux_alphabet.specs.declared.line.Line.TheVariants.{Pair}
 use Rattle.ux_alphabet.specs.Letters.{IsLetter}
+use Rattle.ux_dela.specs.Signs.{is_brace}
+use Rattle.ux_dela.specs.Written.{IsPart}
+use Rattle.ux_dela.specs.Reading.{characters}
+use Rattle.ux_dela.specs.declared.entry.Entry.{Entry}
+use Rattle.ux_tokens.specs.Tails.{before_form, is_tail}
+use Rattle.ux_tokens.proofs.TailLemmas.{tail_body}
 use Rattle.ux_tokens.specs.TokenFile.{token_file}
 use Rattle.std.specs.Prelude.{codes}
 use Rattle.ux_tokens.specs.declared.kind.Kind.TheVariants.{Word, Space, Sentence}
-use Rattle.ux_tokens.specs.Tokens.{Token, SENTENCE, OPENING_BRACE, IsTokenText, AreTokens, BeginsWithMark, HasBareBrace, with_single_spaces, joined}
+use Rattle.ux_tokens.specs.Tokens.{Token, SENTENCE, OPENING_BRACE, IsTokenText, IsTag, AreTokens, BeginsWithMark, with_single_spaces, joined}
 use Rattle.ux_tokens.specs.Numbers.{different_texts}
 use Rattle.ux_tokens.specs.Pieces.{tokens_from}
 
@@ -127,14 +133,23 @@ marked_file = refl
 
 -- at `{S}b` a mark begins
 mark : BeginsWithMark (codes "{S}b")
-mark = (codes "b", inl refl)
+mark = (SENTENCE, codes "b", refl, inl refl)
 
--- no mark begins at `{S b`, so `a{S b` is refused
-no_mark : BeginsWithMark (codes "{S b") → ⊥
-no_mark (rest, inl is) =
-    let third : 32 ≡ 125 = ap (λ (l : List ℕ). get_or l 2 0) is in omega (arith, third)
-no_mark (rest, inr is) =
-    let third : 32 ≡ 84 = ap (λ (l : List ℕ). get_or l 2 0) is in omega (arith, third)
+-- `{am,be.V:P1s}` is a tag
+tag : (entry : Entry) × IsTag (codes "{am,be.V:P1s}") entry
+tag =
+    let body = tail_body (codes "am,be.V:P1s") part refl refl in
+    (body.0, (codes "am,be.V:P1s", refl, body.1))
+  where
+    part : IsPart is_brace (characters (codes "am,be.V:P1s"))
+    part = search rules
 
-bare : HasBareBrace (codes "a{S b")
-bare = (codes "a", codes "S b", refl, no_mark)
+-- neither a comment nor a line that is skipped is a body, but a form may begin with a slash
+comment : is_tail before_form (characters (codes "a,.N/")) ≡ false
+comment = refl
+
+skipped : is_tail before_form (characters (codes "/a,.N")) ≡ false
+skipped = refl
+
+slash : is_tail before_form (characters (codes "\\/a,.N")) ≡ true
+slash = refl

@@ -1,11 +1,13 @@
 mod Examples
 pub mod AsciiLemmas
 pub mod BlocksLemmas
+pub mod BodyLemmas
 pub mod BytesLemmas
 pub mod ColumnsLemmas
 pub mod CutLemmas
 pub mod CuttingLemmas
 pub mod DistinctLemmas
+pub mod EntriesLemmas
 pub mod FirstLemmas
 pub mod KnownLemmas
 pub mod ListingLemmas
@@ -17,7 +19,10 @@ pub mod PiecesLemmas
 pub mod PlacesLemmas
 pub mod PrintingLemmas
 pub mod ReadingLemmas
+pub mod RegionLemmas
 pub mod SpacedLemmas
 pub mod SpacesLemmas
+pub mod TailLemmas
+pub mod TailsLemmas
 pub mod UniqueLemmas
 pub mod WholeLemmas

@@ -7,11 +7,10 @@ use Rattle.std.proofs.lemmas.Str.{IsUtf8-drop}
 use Rattle.ux_alphabet.specs.declared.line.Line.{Line}
 use Rattle.ux_tokens.specs.declared.piece.Piece.{Piece}
 use Rattle.ux_tokens.specs.declared.cutting.TheConstants.{MAX_TOKENS}
-use Rattle.ux_tokens.specs.Tokens.{HasBareBrace}
 use Rattle.ux_tokens.specs.First.{IsFront}
 use Rattle.ux_tokens.specs.Numbers.{with_text}
 use Rattle.ux_tokens.specs.Pieces.{tokens_from}
-use Rattle.ux_tokens.specs.Cutting.{IsCut, IsListing, IsSoFar, HasTooManyTokens}
+use Rattle.ux_tokens.specs.Cutting.{IsMarkedCut, IsListing, IsSoFar, HasTooManyTokens}
 use Rattle.ux_tokens.proofs.CuttingLemmas.{so_far_start, so_far_next, few_different}
 use Rattle.ux_tokens.proofs.PiecesLemmas.{length-tokens_from}
 use Rattle.ux_tokens.proofs.WholeLemmas.{has_more}
@@ -36,16 +35,16 @@ module _ (lines : List Line) (text : List ℕ) where
         between = so_far.between;
       }
 
-  pub counted_next : IsUtf8 text → (HasBareBrace text → ⊥) →
+  pub counted_next : IsUtf8 text →
       (end count : ℕ) (texts more : List (List ℕ)) (rest : List ℕ) (front : Piece) →
       IsCounted end count texts → count < MAX_TOKENS → rest ≡ drop end text →
       IsFront lines rest front.kind front.end →
       more ≡ with_text texts (take front.end rest) →
       slice_get more front.number ≡ Some (take front.end rest) →
       IsCounted (end + front.end) (count + 1) more
-  counted_next utf8 marked end count texts more rest front before room is at_front known place =
+  counted_next utf8 end count texts more rest front before room is at_front known place =
       let counted = before.counted in
-      let so_far = so_far_next lines text utf8 marked end before.pieces texts more rest front
+      let so_far = so_far_next lines text utf8 end before.pieces texts more rest front
       before.so_far (omega (arith, counted, room)) is at_front known place in
       let piece : Piece =
       record { end = end + front.end; number = front.number; kind = front.kind } in
@@ -79,24 +78,23 @@ module _ (lines : List Line) (text : List ℕ) where
       length-tokens_from text 0 counted.pieces in
       record {
         tokens = tokens_from text 0 counted.pieces;
-        cut = subst (λ (rest : List ℕ). IsCut lines text rest (tokens_from text 0 counted.pieces))
+        cut = subst (λ (rest : List ℕ). IsMarkedCut lines text rest (tokens_from text 0 counted.pieces))
             none counted.so_far.tokens;
-        no_brace = counted.so_far.no_brace;
         few = omega (arith, same, few, length_is);
         are = counted.so_far.pieces_are.all;
       }
 
   -- where something stands behind the most tokens, there are too many
-  pub counted_more : IsUtf8 text → (HasBareBrace text → ⊥) →
+  pub counted_more : IsUtf8 text →
       (end count : ℕ) (texts : List (List ℕ)) → IsCounted end count texts →
       count ≡ MAX_TOKENS → end < length text → HasTooManyTokens lines text
-  counted_more utf8 marked end count texts counted full behind =
+  counted_more utf8 end count texts counted full behind =
       let left : length (drop end text) ≡ length text - end = length-drop end text in
       let same = counted.counted in
       let length_is : length (tokens_from text 0 counted.pieces) ≡ length counted.pieces =
       length-tokens_from text 0 counted.pieces in
-      let more = has_more lines text marked (drop end text) (tokens_from text 0 counted.pieces)
+      let more = has_more lines text (drop end text) (tokens_from text 0 counted.pieces)
       (IsUtf8-drop text end utf8 counted.between) (omega arith)
-      counted.so_far.tokens counted.so_far.no_brace in
-      let longer = more.3 in
-      (more.0, more.1, more.2, omega (arith, longer, same, length_is, full))
+      counted.so_far.tokens in
+      let longer = more.2 in
+      (more.0, more.1, omega (arith, longer, same, length_is, full))

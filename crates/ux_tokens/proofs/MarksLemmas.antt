@@ -1,59 +1,35 @@
--- Marks and bare braces: where they stand, and that no other token is cut from a mark.
-use Rattle.std.proofs.Common.{◌≡◌, ◌≢◌, inl, inr, ℕ, ◌<◌, List, [], ◌∷◌, ◌++◌, All, get_or, Option, None, Some, length, take, drop, refl, sym, ◌∙◌, ap, subst, append_assoc, arith}
+-- Marks: where they stand, and that no other token is cut from a mark.
+use Rattle.std.proofs.Common.{◌≡◌, ◌≢◌, inl, inr, ℕ, ◌+◌, ◌<◌, ◌≤◌, List, [], ◌∷◌, ◌++◌, All, get_or, Option, None, Some, length, take, drop, refl, sym, ◌∙◌, ap, subst, append_assoc, arith}
 use Rattle.std.specs.Option.{unwrap_or}
 use Rattle.std.specs.Prelude.{MatchOption}
 use Rattle.std.specs.Str.{IsUtf8, IsCharBoundary, chars}
 use Rattle.std.proofs.lemmas.Bool.{false≢true}
 use Rattle.std.proofs.lemmas.Str.{IsCharBoundary-after_ascii}
-use Rattle.std.proofs.lemmas.List.{length-append, take-append-drop, drop_at}
+use Rattle.std.proofs.lemmas.List.{length-append, length-take-le, take-append-drop, take_at, get_or_at}
 use Rattle.std.proofs.lemmas.List.Elements.{All-head}
 use Rattle.ux_alphabet.specs.declared.line.Line.{Line}
 use Rattle.ux_alphabet.specs.Letters.{IsLetter}
 use Rattle.ux_tokens.specs.declared.kind.Kind.{Kind}
 use Rattle.ux_tokens.specs.declared.kind.Kind.TheVariants.{Word, Space, Other, Sentence, Stop, Tag}
-use Rattle.ux_tokens.specs.Tokens.{IsTokenText, IsPlain, OPENING_BRACE, SPACE, SENTENCE, STOP, BeginsWithMark, HasBareBrace}
-use Rattle.ux_tokens.specs.First.{IsFirstToken, IsFront, IsMark, BeginsWithBareBrace}
+use Rattle.ux_tokens.specs.Tokens.{IsTokenText, IsPlain, IsTag, IsMark, OPENING_BRACE, CLOSING_BRACE, SPACE, SENTENCE, STOP, BeginsWithMark, BeginsWithTag}
+use Rattle.ux_tokens.specs.First.{IsFirstToken, IsFront, IsMarkFront, IsTagFront, BeginsWithSign}
+use Rattle.ux_tokens.specs.Regions.{IsFree}
 
--- a brace that stands behind a front stands in the whole
-pub bare_behind : (front text whole : List ℕ) → whole ≡ front ++ text → HasBareBrace text →
-    HasBareBrace whole
-bare_behind front text whole is has = (
-  front ++ has.0,
-  has.1,
-  is ∙ ap (λ (l : List ℕ). front ++ l) has.2
-      ∙ sym (append_assoc front has.0 (OPENING_BRACE ∷ has.1)),
-  has.3,
-)
+mark_byte : (mark rest : List ℕ) → IsMark mark → get_or (mark ++ rest) 0 0 ≡ OPENING_BRACE
+mark_byte mark rest (inl sentence) = ap (λ (l : List ℕ). get_or (l ++ rest) 0 0) sentence
+mark_byte mark rest (inr (inl stop)) = ap (λ (l : List ℕ). get_or (l ++ rest) 0 0) stop
+mark_byte mark rest (inr (inr (entry, (body, is, tag)))) =
+    ap (λ (l : List ℕ). get_or (l ++ rest) 0 0) is
 
--- a bare brace at the front is one of the text
-pub bare_here : (text : List ℕ) → BeginsWithBareBrace text → HasBareBrace text
-bare_here text (rest, is, none) =
-    ([], rest, is, λ mark. none (subst BeginsWithMark (sym is) mark))
+-- a mark begins with a brace
+pub mark_begins : (text : List ℕ) → BeginsWithMark text → get_or text 0 0 ≡ OPENING_BRACE
+mark_begins text (mark, rest, is, marked) =
+    ap (λ (l : List ℕ). get_or l 0 0) is ∙ mark_byte mark rest marked
 
--- and so is one at a place
-pub bare_from : (text : List ℕ) (place : ℕ) → BeginsWithBareBrace (drop place text) →
-    HasBareBrace text
-bare_from text place begins =
-    bare_behind (take place text) (drop place text) text (sym (take-append-drop place text))
-    (bare_here (drop place text) begins)
-
--- a bare brace of the text stands at a place
-pub bare_at : (text : List ℕ) → HasBareBrace text →
-    (place : ℕ) × (place < length text) × BeginsWithBareBrace (drop place text)
-bare_at text (front, rest, is, none) =
-    let behind : drop (length front) text ≡ OPENING_BRACE ∷ rest =
-    ap (drop (length front)) is ∙ drop_at front (OPENING_BRACE ∷ rest) (length front) refl in (
-      length front,
-      within front text is,
-      (rest, behind, λ mark. none (subst BeginsWithMark behind mark)),
-    )
-  where
-    within : (front text : List ℕ) → text ≡ front ++ OPENING_BRACE ∷ rest →
-        length front < length text
-    within front text is =
-        let whole : length text ≡ length (front ++ OPENING_BRACE ∷ rest) = ap length is in
-        let parts = length-append front (OPENING_BRACE ∷ rest) in
-        omega (arith, whole, parts)
+-- and so does a tag
+pub tag_begins : (text : List ℕ) → BeginsWithTag text → get_or text 0 0 ≡ OPENING_BRACE
+tag_begins text (tag, rest, entry, is, tagged) =
+    mark_begins text (tag, rest, is, inr (inr (entry, tagged)))
 
 -- a brace is no letter
 pub brace_is_none : (lines : List Line) → IsLetter lines OPENING_BRACE → ⊥
@@ -63,6 +39,69 @@ brace_is_none lines (inr lower) = false≢true (sym lower.0)
 brace_chars : chars (OPENING_BRACE ∷ []) ≡ OPENING_BRACE ∷ []
 unfolding chars
 brace_chars = refl
+
+-- a mark is a sign or a tag
+pub no_mark : (text : List ℕ) → (BeginsWithSign text → ⊥) → (BeginsWithTag text → ⊥) →
+    BeginsWithMark text → ⊥
+no_mark text no_sign no_tag (mark, rest, is, inl sentence) =
+    no_sign (rest, inl (is ∙ ap (λ (l : List ℕ). l ++ rest) sentence))
+no_mark text no_sign no_tag (mark, rest, is, inr (inl stop)) =
+    no_sign (rest, inr (is ∙ ap (λ (l : List ℕ). l ++ rest) stop))
+no_mark text no_sign no_tag (mark, rest, is, inr (inr (entry, tag))) =
+    no_tag (mark, rest, entry, is, tag)
+
+-- what stands at the front is a mark of some kind
+pub mark_kind : (text : List ℕ) → BeginsWithMark text →
+    (kind : Kind) × (len : ℕ) × IsMarkFront text kind len
+mark_kind text (mark, rest, is, inl sentence) =
+    (Sentence, 3, (refl, rest, is ∙ ap (λ (l : List ℕ). l ++ rest) sentence))
+mark_kind text (mark, rest, is, inr (inl stop)) =
+    (Stop, 6, (refl, rest, is ∙ ap (λ (l : List ℕ). l ++ rest) stop))
+mark_kind text (mark, rest, is, inr (inr (entry, tag))) =
+    let all = length-append mark rest in
+    let whole : length text ≡ length (mark ++ rest) = ap length is in
+    let part : take (length mark) text ≡ mark =
+    ap (take (length mark)) is ∙ take_at mark rest (length mark) refl in (
+      Tag,
+      length mark,
+      (
+        omega (arith, all, whole),
+        entry,
+        subst (λ (l : List ℕ). IsTag l entry) (sym part) tag,
+      ),
+    )
+
+-- a text that begins with a mark of this kind and length
+pub front_mark : (text : List ℕ) (kind : Kind) (len : ℕ) → IsMarkFront text kind len →
+    BeginsWithMark text
+front_mark text Sentence len (len_is, rest, is) = (SENTENCE, rest, is, inl refl)
+front_mark text Stop len (len_is, rest, is) = (STOP, rest, is, inr (inl refl))
+front_mark text Tag len (within, entry, tag) =
+    (take len text, drop len text, sym (take-append-drop len text), inr (inr (entry, tag)))
+front_mark text Word len is = absurd is
+front_mark text Space len is = absurd is
+front_mark text Other len is = absurd is
+
+-- a tag may be cut from what follows
+tag_cut : (text : List ℕ) (len : ℕ) → IsUtf8 text → IsTagFront text len →
+    IsCharBoundary text len × (2 ≤ len)
+tag_cut text len utf8 (within, entry, (body, is, tag)) =
+    let front : List ℕ = OPENING_BRACE ∷ body in
+    let rest : List ℕ = drop len text in
+    let whole : text ≡ front ++ CLOSING_BRACE ∷ rest =
+    sym (take-append-drop len text) ∙ ap (λ (l : List ℕ). l ++ rest) is
+    ∙ append_assoc front (CLOSING_BRACE ∷ []) rest in
+    let taken : length (take len text) ≡ len = length-take-le len text within in
+    let made : length (take len text) ≡ length (front ++ CLOSING_BRACE ∷ []) = ap length is in
+    let parts = length-append front (CLOSING_BRACE ∷ []) in
+    let long : len ≡ length front + 1 = omega (arith, taken, made, parts) in
+    let last : get_or text (length front) 0 ≡ CLOSING_BRACE =
+    ap (λ (l : List ℕ). get_or l (length front) 0) whole ∙ get_or_at front CLOSING_BRACE rest 0 (length front) refl in (
+      subst (IsCharBoundary text) (sym long)
+          (IsCharBoundary-after_ascii text (length front) utf8 (omega (arith, long, within))
+          (omega (arith, last))),
+      omega (arith, long),
+    )
 
 module _ (lines : List Line) where
   -- neither a word nor a space is a brace
@@ -97,19 +136,34 @@ module _ (lines : List Line) where
     mark = λ begins brace. let short = ap length brace in omega (arith, short);
   }
 
+  tag_front : (text : List ℕ) (len : ℕ) → IsUtf8 text → IsTagFront text len →
+      IsFront lines text Tag len
+  tag_front text len utf8 tag =
+      let cut = tag_cut text len utf8 tag in
+      let long = cut.1 in
+      record {
+        cut = cut.0;
+        some = omega (arith, long);
+        first = record { is = (tag.1, tag.2); longest = λ word. cc };
+        mark = λ begins brace.
+            let short : length (take len text) ≡ 1 = ap length brace in
+            let taken = length-take-le len text tag.0 in
+            omega (arith, short, taken, long);
+      }
+
   -- a mark that stands at the front is the token there
-  pub mark_front : (text : List ℕ) (kind : Kind) (len : ℕ) → IsUtf8 text → IsMark text kind len →
-      IsFront lines text kind len
+  pub mark_front : (text : List ℕ) (kind : Kind) (len : ℕ) → IsUtf8 text →
+      IsMarkFront text kind len → IsFront lines text kind len
   mark_front text Sentence len utf8 (len_is, rest, is) =
       rw len_is (subst (λ (l : List ℕ). IsFront lines l Sentence 3) (sym is)
       (sentence_front rest (subst IsUtf8 is utf8)))
   mark_front text Stop len utf8 (len_is, rest, is) =
       rw len_is (subst (λ (l : List ℕ). IsFront lines l Stop 6) (sym is)
       (stop_front rest (subst IsUtf8 is utf8)))
+  mark_front text Tag len utf8 is = tag_front text len utf8 is
   mark_front text Word len utf8 is = absurd is
   mark_front text Space len utf8 is = absurd is
   mark_front text Other len utf8 is = absurd is
-  mark_front text Tag len utf8 is = absurd is
 
   -- a token that the letters tell is the token at the front where it is no brace, or no mark begins
   pub plain_front : (text : List ℕ) (kind : Kind) (len : ℕ) → IsCharBoundary text len → 0 < len →
@@ -125,19 +179,15 @@ module _ (lines : List Line) where
   -- of another character's token and the mark, where there is one, the mark
   pub other_or_mark : (found : Option (Kind × ℕ)) (text : List ℕ) (kind : Kind) (len : ℕ) →
       IsUtf8 text →
-      MatchOption found (BeginsWithMark text → ⊥) (λ (kind, len). IsMark text kind len) →
+      MatchOption found (BeginsWithMark text → ⊥) (λ (kind, len). IsMarkFront text kind len) →
       ((BeginsWithMark text → ⊥) → IsFront lines text kind len) →
       IsFront lines text (unwrap_or found (kind, len)).0 (unwrap_or found (kind, len)).1
   other_or_mark None text kind len utf8 none front = front none
   other_or_mark (Some (kind, len)) text other_kind other_len utf8 is front =
       mark_front text kind len utf8 is
 
-  -- so where each brace of a text begins a mark, no token is a brace alone
-  pub front_no_brace : (text : List ℕ) (end : ℕ) (kind : Kind) (len : ℕ) →
-      (HasBareBrace text → ⊥) → IsFront lines (drop end text) kind len →
-      take len (drop end text) ≢ OPENING_BRACE ∷ []
-  front_no_brace text end kind len marked front = λ brace.
-      let rest : List ℕ = drop end text in
-      let is : rest ≡ OPENING_BRACE ∷ drop len rest =
-      sym (take-append-drop len rest) ∙ ap (λ (l : List ℕ). l ++ drop len rest) brace in
-      marked (bare_from text end (drop len rest, is, λ begins. front.mark begins brace))
+-- behind a place that is free, the rest is free
+pub free_later : (text : List ℕ) (from later to : ℕ) → from ≤ later → IsFree text from to →
+    IsFree text later to
+free_later text from later to in_order free k low high tag = free k (omega (arith, in_order, low))
+    high tag

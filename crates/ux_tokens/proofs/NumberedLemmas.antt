@@ -12,7 +12,7 @@ use Rattle.ux_tokens.specs.Blocks.{AreFronts, IsTokenAt, last_from}
 use Rattle.ux_tokens.specs.Columns.{pieces_from}
 use Rattle.ux_tokens.specs.Cutting.{IsSoFar}
 use Rattle.ux_tokens.specs.Numbers.{with_text}
-use Rattle.ux_tokens.specs.Tokens.{HasBareBrace, IsTokenText, SPACE}
+use Rattle.ux_tokens.specs.Tokens.{IsTokenText, SPACE}
 use Rattle.ux_tokens.proofs.BlocksLemmas.{token_here}
 use Rattle.ux_tokens.proofs.ColumnsLemmas.{length-pieces_from, pieces_from-push}
 use Rattle.ux_tokens.proofs.CuttingLemmas.{so_far_next}
@@ -52,8 +52,7 @@ all_taken i ends numbers kinds all all_numbers all_kinds =
     ∙ ap (λ (l : List ℕ). pieces_from ends l (take i kinds)) (take_all i numbers all_numbers)
     ∙ ap (λ (l : List Kind). pieces_from ends numbers l) (take_all i kinds all_kinds)
 
-module _ (lines : List Line) (text : List ℕ) (utf8 : IsUtf8 text)
-    (marked : HasBareBrace text → ⊥) where
+module _ (lines : List Line) (text : List ℕ) (utf8 : IsUtf8 text) where
   -- the next token of the block is the next of the text
   pub number_more : (start i from number : ℕ) (ends given : List ℕ) (kinds : List Kind)
       (pieces : List Piece) (texts more : List (List ℕ)) →
@@ -71,7 +70,7 @@ module _ (lines : List Line) (text : List ℕ) (utf8 : IsUtf8 text)
       subst (λ (l : List Piece). IsSoFar lines text end l more) grown
       (subst (λ (n : ℕ). IsSoFar lines text n
       (before ++ record { end = n; number = number; kind = kind } ∷ []) more) end_is
-      (so_far_next lines text utf8 marked from before texts more (drop from text)
+      (so_far_next lines text utf8 from before texts more (drop from text)
       (record { end = end - from; number = number; kind = kind }) so_far room refl token.1 known
       place))
     where

@@ -1,16 +1,45 @@
 -- A text has one list of tokens at most.
 use Rattle.std.proofs.Common.{arith, ◌≡◌, ◌≢◌, ◌⊎◌, ℕ, suc, ◌+◌, List, [], ◌∷◌, ◌++◌, refl, sym, ◌∙◌, ap, subst, append_assoc, get_or, drop, length, length-append, inl, inr}
-use Rattle.std.specs.Prelude.{All, Some, slice_get, encode_utf8, encode_utf8_all}
+use Rattle.std.specs.Prelude.{All, Some, false, codes, slice_get, encode_utf8, encode_utf8_all}
 use Rattle.std.proofs.lemmas.Str.{encode_same, encode_ascii, length-encode, len_utf8_bounds, chars-encodes}
 use Rattle.std.specs.Str.{chars}
 use Rattle.std.proofs.lemmas.List.{append_cancel_left}
-use Rattle.std.proofs.lemmas.Bool.{false≢true}
+use Rattle.std.proofs.lemmas.Bool.{false≢true, both_ways}
 use Rattle.ux_alphabet.specs.declared.line.Line.{Line}
 use Rattle.ux_alphabet.specs.Letters.{IsLetter}
+use Rattle.ux_dela.specs.Signs.{is_brace}
+use Rattle.ux_dela.specs.Written.{IsPart}
+use Rattle.ux_dela.specs.Sound.{HasNoFeed}
+use Rattle.ux_dela.specs.Reading.{characters}
+use Rattle.ux_dela.specs.declared.entry.Entry.{Entry}
+use Rattle.ux_tokens.specs.Tails.{before_form, is_tail}
 use Rattle.ux_tokens.specs.declared.kind.Kind.{Kind}
 use Rattle.ux_tokens.specs.declared.kind.Kind.TheVariants.{Word, Space, Other, Sentence, Stop, Tag}
-use Rattle.ux_tokens.specs.Tokens.{Token, SPACE, OPENING_BRACE, SENTENCE, STOP, BeginsWithMark, IsPlain, IsTokenText, AreTokens, ArePlainTokens, joined}
+use Rattle.ux_tokens.specs.Tokens.{Token, SPACE, OPENING_BRACE, CLOSING_BRACE, SENTENCE, STOP, BeginsWithMark, IsTag, IsPlain, IsTokenText, AreTokens, ArePlainTokens, joined}
 use Rattle.ux_tokens.proofs.MarksLemmas.{brace_is_none}
+use Rattle.ux_tokens.proofs.BodyLemmas.{body_tail}
+use Rattle.ux_tokens.proofs.RegionLemmas.{body_part, body_same}
+
+-- a tag and what stands behind it, from its body on
+tag_whole : (tag rest body : List ℕ) → tag ≡ OPENING_BRACE ∷ (body ++ CLOSING_BRACE ∷ []) →
+    tag ++ rest ≡ OPENING_BRACE ∷ (body ++ CLOSING_BRACE ∷ rest)
+tag_whole tag rest body is =
+    ap (λ (l : List ℕ). l ++ rest) is
+    ∙ ap (λ (l : List ℕ). OPENING_BRACE ∷ l) (append_assoc body (CLOSING_BRACE ∷ []) rest)
+
+-- what isn't a body is that of no tag
+no_comma : (word : List ℕ) → IsPart is_brace (characters word) → HasNoFeed word →
+    is_tail before_form (characters word) ≡ false → (tag rest behind : List ℕ) (entry : Entry) →
+    IsTag tag entry →
+    OPENING_BRACE ∷ (word ++ CLOSING_BRACE ∷ behind) ≡ tag ++ rest → ⊥
+no_comma word part feed none tag rest behind entry (body, is, tagged) e =
+    let parts : word ++ CLOSING_BRACE ∷ behind ≡ body ++ CLOSING_BRACE ∷ rest =
+    ap (drop 1) (e ∙ tag_whole tag rest body is) in
+    let same = body_same word body behind rest part feed (body_part body entry tagged)
+    tagged.no_feed parts in
+    both_ways (is_tail before_form (characters word)) none
+    (ap (λ (l : List ℕ). is_tail before_form (characters l)) same.0
+    ∙ body_tail body entry tagged)
 
 module _ (lines : List Line) where
   -- a space is no letter
@@ -102,7 +131,8 @@ module _ (lines : List Line) where
       behind_brace (83 ∷ 125 ∷ r) c rest (ap (λ x. x ++ r) (sym is) ∙ e) letter
   front_is_none Stop text r other is = λ c rest e letter.
       behind_brace (83 ∷ 84 ∷ 79 ∷ 80 ∷ 125 ∷ r) c rest (ap (λ x. x ++ r) (sym is) ∙ e) letter
-  front_is_none Tag text r other is = absurd is
+  front_is_none Tag text r other (entry, (body, is, tag)) = λ c rest e letter.
+      behind_brace ((body ++ CLOSING_BRACE ∷ []) ++ r) c rest (ap (λ x. x ++ r) (sym is) ∙ e) letter
 
   -- no token is empty
   token_some : (kind : Kind) (text r : List ℕ) → IsTokenText lines kind text → let none : List ℕ =
@@ -121,7 +151,8 @@ module _ (lines : List Line) where
       let short = ap length (e ∙ ap (λ x. x ++ r) is) in absurd (omega (arith, short))
   token_some Stop text r is e =
       let short = ap length (e ∙ ap (λ x. x ++ r) is) in absurd (omega (arith, short))
-  token_some Tag text r is e = is
+  token_some Tag text r (entry, (body, is, tag)) e =
+      let short = ap length (e ∙ ap (λ x. x ++ r) is) in absurd (omega (arith, short))
 
   -- a word and another token
   word_or_other : (l : Kind) (x y r t : List ℕ) → IsTokenText lines Word x → l ≢ Word →
@@ -154,13 +185,55 @@ module _ (lines : List Line) where
       (y ≡ OPENING_BRACE ∷ [] → BeginsWithMark (y ++ t) → ⊥) → x ++ r ≡ y ++ t → ⊥
   sentence_or_other x y r t a b marks e =
       let whole : SENTENCE ++ r ≡ y ++ t = ap (λ z. z ++ r) (sym a) ∙ e in
-      marks (brace_alone y (drop 1 SENTENCE ++ r) t b whole) (r, inl (sym whole))
+      marks (brace_alone y (drop 1 SENTENCE ++ r) t b whole) (SENTENCE, r, sym whole, inl refl)
 
   stop_or_other : (x y r t : List ℕ) → IsTokenText lines Stop x → IsTokenText lines Other y →
       (y ≡ OPENING_BRACE ∷ [] → BeginsWithMark (y ++ t) → ⊥) → x ++ r ≡ y ++ t → ⊥
   stop_or_other x y r t a b marks e =
       let whole : STOP ++ r ≡ y ++ t = ap (λ z. z ++ r) (sym a) ∙ e in
-      marks (brace_alone y (drop 1 STOP ++ r) t b whole) (r, inr (sym whole))
+      marks (brace_alone y (drop 1 STOP ++ r) t b whole) (STOP, r, sym whole, inr (inl refl))
+
+  tag_or_other : (x y r t : List ℕ) → IsTokenText lines Tag x → IsTokenText lines Other y →
+      (y ≡ OPENING_BRACE ∷ [] → BeginsWithMark (y ++ t) → ⊥) → x ++ r ≡ y ++ t → ⊥
+  tag_or_other x y r t (entry, (body, is, tag)) b marks e =
+      let whole : OPENING_BRACE ∷ ((body ++ CLOSING_BRACE ∷ []) ++ r) ≡ y ++ t =
+      ap (λ z. z ++ r) (sym is) ∙ e in
+      marks (brace_alone y ((body ++ CLOSING_BRACE ∷ []) ++ r) t b whole)
+      (x, r, sym e, inr (inr (entry, (body, is, tag))))
+
+  space_or_tag : (x y r t : List ℕ) → IsTokenText lines Space x → IsTokenText lines Tag y →
+      x ++ r ≡ y ++ t → ⊥
+  space_or_tag x y r t a (entry, (body, is, tag)) e =
+      let first : SPACE ≡ OPENING_BRACE =
+      ap (λ (l : List ℕ). get_or l 0 0)
+      (ap (λ z. z ++ r) (sym a) ∙ (e ∙ ap (λ z. z ++ t) is)) in
+      omega (arith, first)
+
+  -- the mark of a sentence's end is no tag, and nor is that which nothing matches
+  sentence_or_tag : (x y r t : List ℕ) → IsTokenText lines Sentence x → IsTokenText lines Tag y →
+      x ++ r ≡ y ++ t → ⊥
+  sentence_or_tag x y r t a (entry, tag) e =
+      no_comma (codes "S") (refl, tt) refl refl y t r entry tag
+      (ap (λ z. z ++ r) (sym a) ∙ e)
+
+  stop_or_tag : (x y r t : List ℕ) → IsTokenText lines Stop x → IsTokenText lines Tag y →
+      x ++ r ≡ y ++ t → ⊥
+  stop_or_tag x y r t a (entry, tag) e =
+      no_comma (codes "STOP") (refl, (refl, (refl, (refl, tt)))) refl refl y t r entry tag
+      (ap (λ z. z ++ r) (sym a) ∙ e)
+
+  tags_same : (x y r t : List ℕ) → IsTokenText lines Tag x → IsTokenText lines Tag y →
+      x ++ r ≡ y ++ t → (x ≡ y) × (r ≡ t)
+  tags_same x y r t (entry, (body, is, tag)) (other_entry, (other, other_is, other_tag)) e =
+      let parts : body ++ CLOSING_BRACE ∷ r ≡ other ++ CLOSING_BRACE ∷ t =
+      ap (drop 1) (sym (tag_whole x r body is) ∙ (e ∙ tag_whole y t other other_is)) in
+      let same = body_same body other r t
+      (body_part body entry tag) tag.no_feed (body_part other other_entry other_tag)
+      other_tag.no_feed parts in (
+        is ∙ (ap (λ (l : List ℕ). OPENING_BRACE ∷ (l ++ CLOSING_BRACE ∷ [])) same.0
+            ∙ sym other_is),
+        same.1,
+      )
 
   -- the byte at a place of two equal texts
   byte_same : (i : ℕ) (x y r t m n : List ℕ) → x ≡ m → y ≡ n → x ++ r ≡ y ++ t →
@@ -246,12 +319,22 @@ module _ (lines : List Line) where
       absurd (stop_or_other y x t r b a (p (λ plain. plain)) (sym e))
   first_same Sentence Stop x y r t a b n m p q e = absurd (sentence_or_stop x y r t a b e)
   first_same Stop Sentence x y r t a b n m p q e = absurd (sentence_or_stop y x t r b a (sym e))
-  first_same Tag l x y r t a b n m p q e = absurd a
-  first_same Word Tag x y r t a b n m p q e = absurd b
-  first_same Space Tag x y r t a b n m p q e = absurd b
-  first_same Other Tag x y r t a b n m p q e = absurd b
-  first_same Sentence Tag x y r t a b n m p q e = absurd b
-  first_same Stop Tag x y r t a b n m p q e = absurd b
+  first_same Tag Tag x y r t a b n m p q e =
+      let h = tags_same x y r t a b e in (refl, h.0, h.1)
+  first_same Word Tag x y r t a b n m p q e =
+      absurd (word_or_other Tag x y r t a (λ same. cc) b e)
+  first_same Tag Word x y r t a b n m p q e =
+      absurd (word_or_other Tag y x t r b (λ same. cc) a (sym e))
+  first_same Space Tag x y r t a b n m p q e = absurd (space_or_tag x y r t a b e)
+  first_same Tag Space x y r t a b n m p q e = absurd (space_or_tag y x t r b a (sym e))
+  first_same Other Tag x y r t a b n m p q e =
+      absurd (tag_or_other y x t r b a (p (λ plain. plain)) (sym e))
+  first_same Tag Other x y r t a b n m p q e =
+      absurd (tag_or_other x y r t a b (q (λ plain. plain)) e)
+  first_same Sentence Tag x y r t a b n m p q e = absurd (sentence_or_tag x y r t a b e)
+  first_same Tag Sentence x y r t a b n m p q e = absurd (sentence_or_tag y x t r b a (sym e))
+  first_same Stop Tag x y r t a b n m p q e = absurd (stop_or_tag x y r t a b e)
+  first_same Tag Stop x y r t a b n m p q e = absurd (stop_or_tag y x t r b a (sym e))
 
   token_same : (t u : Token) → t.kind ≡ u.kind → t.text ≡ u.text → t ≡ u
   token_same t u e f =

@@ -1,23 +1,27 @@
 -- Each text has a list of tokens: what is cut so far can be cut to its end.
-use Rattle.std.proofs.Common.{◌≡◌, ◌≢◌, take, drop, ◌⊎◌, inl, inr, ℕ, zero, suc, ◌+◌, ◌<◌, ◌≤◌, Bool, true, false, ◌&&◌, List, [], ◌∷◌, ◌++◌, All, length, get_or, encode_utf8, refl, sym, ◌∙◌, ap, subst, arith}
+use Rattle.std.proofs.Common.{◌≡◌, ◌≢◌, take, drop, ◌⊎◌, inl, inr, ℕ, zero, suc, ◌+◌, ◌<◌, ◌≤◌, Bool, true, false, ◌&&◌, List, [], ◌∷◌, ◌++◌, All, length, get_or, encode_utf8, refl, sym, ◌∙◌, ap, subst, append_assoc, arith}
 use Rattle.std.specs.List.{Any}
 use Rattle.std.specs.Char.{IsScalar}
 use lib.Utf8.{scalar}
 use Rattle.std.specs.Str.{IsUtf8, chars, encode_utf8_all, all_scalars}
-use Rattle.std.proofs.lemmas.Bool.{cases_eq, cases_lt}
+use Rattle.std.proofs.lemmas.Bool.{cases_eq, cases_lt, cases_Bool, both_ways}
 use Rattle.std.proofs.lemmas.Str.{IsUtf8-take, IsUtf8-drop, IsUtf8-encode, encodes-append, encode_ascii, encodes-chars, scalars-chars, chars-encodes, length-le-encodes, length-encode, len_utf8_bounds}
 use Rattle.std.proofs.lemmas.List.{length-append, length_push, length-take-le, take-append-drop}
-use Rattle.std.proofs.lemmas.List.Elements.{All-nil, All-cons, All-push}
+use Rattle.std.proofs.lemmas.List.Elements.{All-nil, All-cons}
 use Rattle.ux_alphabet.specs.declared.line.Line.{Line}
 use Rattle.ux_alphabet.specs.declared.line.Line.TheVariants.{Single, Pair, Range}
 use Rattle.ux_alphabet.specs.Letters.{never_letter, NamesUpper, NamesLower, IsLetter}
 use Rattle.ux_tokens.specs.declared.kind.Kind.{Kind}
-use Rattle.ux_tokens.specs.declared.kind.Kind.TheVariants.{Word, Space, Other, Sentence, Stop}
-use Rattle.ux_tokens.specs.Tokens.{Token, IsTokenText, SPACE, OPENING_BRACE, SENTENCE, STOP, BeginsWithMark, HasBareBrace, joined}
+use Rattle.ux_tokens.specs.declared.kind.Kind.TheVariants.{Word, Space, Other}
+use Rattle.ux_tokens.specs.Tokens.{Token, IsTokenText, SPACE, OPENING_BRACE, SENTENCE, STOP, CLOSING_BRACE, BeginsWithMark, BeginsWithTag}
+use Rattle.ux_dela.specs.Reading.{characters}
+use Rattle.ux_tokens.specs.Tails.{before_form, is_tail}
+use Rattle.ux_tokens.specs.Regions.{IsRegion, Closes, IsTagPlace}
 use Rattle.ux_tokens.specs.First.{BeginsWithNoLetter, IsFront}
-use Rattle.ux_tokens.specs.Cutting.{IsCut, HaveNoBrace}
-use Rattle.ux_tokens.proofs.CutLemmas.{cut_more}
-use Rattle.ux_tokens.proofs.MarksLemmas.{bare_behind, bare_here, mark_front}
+use Rattle.ux_tokens.specs.Cutting.{IsMarkedCut}
+use Rattle.ux_tokens.proofs.CutLemmas.{marked_more}
+use Rattle.ux_tokens.proofs.MarksLemmas.{mark_front, mark_kind, no_mark, tag_begins}
+use Rattle.ux_tokens.proofs.RegionLemmas.{region, region_is, tag_place, place_tag}
 
 -- a fact holds or it doesn't
 abbrev Settled : Type 0 → Type 0
@@ -70,18 +74,75 @@ begins_settled (m ∷ mark) (b ∷ text) = by (cases_eq b m) (begins_settled mar
     by (inl same) (inr other) = inr (λ begins. other (begins.0, ap (drop 1) begins.1))
     by (inr other) later = inr (λ begins. other (ap (λ (l : List ℕ). get_or l 0 0) begins.1))
 
+-- a tag begins at a brace or it doesn't
+tag_behind : (text : List ℕ) → Settled (BeginsWithTag (OPENING_BRACE ∷ text))
+tag_behind text = by (drop n text) refl
+  where
+    n : ℕ
+    n = region false text
+
+    is : IsRegion (take n text) (drop n text)
+    is = region_is text n refl
+
+    place : BeginsWithTag (OPENING_BRACE ∷ text) →
+        Closes (drop n text) × IsTagPlace (OPENING_BRACE ∷ take n text) 0
+    place tag =
+        tag_place (take n text) (drop n text) is 0 (omega arith)
+        (subst (λ (t : List ℕ). BeginsWithTag (OPENING_BRACE ∷ t))
+        (sym (take-append-drop n text)) tag)
+
+    tagged : (r : List ℕ) → drop n text ≡ CLOSING_BRACE ∷ r →
+        is_tail before_form (characters (take n text)) ≡ true →
+        BeginsWithTag (OPENING_BRACE ∷ text)
+    tagged r closes tail =
+        let tag = place_tag (take n text) r
+        (subst (λ (t : List ℕ). IsRegion (take n text) t) closes is) tail in (
+          OPENING_BRACE ∷ (take n text ++ CLOSING_BRACE ∷ []),
+          r,
+          tag.0,
+          ap (λ (t : List ℕ). OPENING_BRACE ∷ t)
+              (sym (take-append-drop n text)
+              ∙ ap (λ (t : List ℕ). take n text ++ t) closes
+              ∙ sym (append_assoc (take n text) (CLOSING_BRACE ∷ []) r)),
+          tag.1,
+        )
+
+    by : (rest : List ℕ) → drop n text ≡ rest → Settled (BeginsWithTag (OPENING_BRACE ∷ text))
+    by [] rest_is = inr (λ tag. let closes = (place tag).0.1 in cc)
+    by (b ∷ r) rest_is = elim (cases_eq b CLOSING_BRACE) [
+      | inl closes ↦ elim (cases_Bool (is_tail before_form (characters (take n text)))) [
+        | inl tail ↦ inl (tagged r (rest_is ∙ ap (λ (x : ℕ). x ∷ r) closes) tail)
+        | inr none ↦ inr (λ tag. both_ways _ none (place tag).1.1)
+      ]
+      | inr other ↦ inr (λ tag.
+          other (ap (λ (l : List ℕ). get_or l 0 0) (sym rest_is ∙ (place tag).0.1)))
+    ]
+
+tag_settled : (text : List ℕ) → Settled (BeginsWithTag text)
+tag_settled [] = inr (λ tag. (let byte = tag_begins [] tag in omega (arith, byte)))
+tag_settled (b ∷ text) = elim (cases_eq b OPENING_BRACE) [
+  | inl brace ↦
+      subst (λ (x : ℕ). Settled (BeginsWithTag (x ∷ text))) (sym brace) (tag_behind text)
+  | inr other ↦ inr (λ tag. other (tag_begins (b ∷ text) tag))
+]
+
 mark_settled : (text : List ℕ) → Settled (BeginsWithMark text)
-mark_settled text = by (begins_settled SENTENCE text) (begins_settled STOP text)
+mark_settled text =
+    by (begins_settled SENTENCE text) (begins_settled STOP text) (tag_settled text)
   where
     by : Settled ((rest : List ℕ) × (text ≡ SENTENCE ++ rest)) →
-        Settled ((rest : List ℕ) × (text ≡ STOP ++ rest)) → Settled (BeginsWithMark text)
-    by (inl (rest, is)) stop = inl (rest, inl is)
-    by (inr no_sentence) (inl (rest, is)) = inl (rest, inr is)
-    by (inr no_sentence) (inr no_stop) =
-        inr (λ begins. elim begins.1 [
-          | inl is ↦ no_sentence (begins.0, is)
-          | inr is ↦ no_stop (begins.0, is)
-        ])
+        Settled ((rest : List ℕ) × (text ≡ STOP ++ rest)) → Settled (BeginsWithTag text) →
+        Settled (BeginsWithMark text)
+    by (inl (rest, is)) stop tag = inl (SENTENCE, rest, is, inl refl)
+    by (inr no_sentence) (inl (rest, is)) tag = inl (STOP, rest, is, inr (inl refl))
+    by (inr no_sentence) (inr no_stop) (inl (mark, rest, entry, is, tag)) =
+        inl (mark, rest, is, inr (inr (entry, tag)))
+    by (inr no_sentence) (inr no_stop) (inr no_tag) =
+        inr (no_mark text
+        (λ sign. elim sign.1 [
+          | inl is ↦ no_sentence (sign.0, is)
+          | inr is ↦ no_stop (sign.0, is)
+        ]) no_tag)
 
 and_parts : (a b : Bool) → (a && b) ≡ true → (a ≡ true) × (b ≡ true)
 and_parts true b both = (refl, both)
@@ -263,25 +324,23 @@ module _ (lines : List Line) where
   first_of text utf8 some = by (mark_settled text)
     where
       by : Settled (BeginsWithMark text) → HasFirst text
-      by (inl (rest, inl is)) =
-          front_first text Sentence 3 utf8 (mark_front lines text Sentence 3 utf8 (refl, rest, is))
-      by (inl (rest, inr is)) =
-          front_first text Stop 6 utf8 (mark_front lines text Stop 6 utf8 (refl, rest, is))
+      by (inl begins) =
+          let mark = mark_kind text begins in
+          front_first text mark.0 mark.1 utf8 (mark_front lines text mark.0 mark.1 utf8 mark.2)
       by (inr none) = unmarked_first text utf8 some none
 
-  -- a token stands behind the tokens so far, and is no brace alone
+  -- a token stands behind the tokens so far
   record HasNext (text rest : List ℕ) (tokens : List Token) : Type 0 where
     pub token : Token
     pub after : List ℕ
     pub after_utf8 : IsUtf8 after
     pub shorter : length after < length rest
-    pub cut : IsCut lines text after (tokens ++ token ∷ [])
-    pub no_brace : HaveNoBrace (tokens ++ token ∷ [])
+    pub cut : IsMarkedCut lines text after (tokens ++ token ∷ [])
 
-  module _ (text : List ℕ) (marked : HasBareBrace text → ⊥) where
+  module _ (text : List ℕ) where
     next_of : (rest : List ℕ) (tokens : List Token) → IsUtf8 rest → 0 < length rest →
-        IsCut lines text rest tokens → HaveNoBrace tokens → HasNext text rest tokens
-    next_of rest tokens utf8 some cut no_brace =
+        IsMarkedCut lines text rest tokens → HasNext text rest tokens
+    next_of rest tokens utf8 some cut =
         let first = first_of rest utf8 some in
         let longer : length rest ≡ length first.token.text + length first.after =
         ap length first.parts ∙ length-append first.token.text first.after in
@@ -291,49 +350,40 @@ module _ (lines : List Line) where
           after = first.after;
           after_utf8 = first.after_utf8;
           shorter = omega arith;
-          cut = cut_more lines text rest first.after tokens first.token cut first.token_utf8
-              first.parts first.is first.longest;
-          no_brace = All-push (λ (t : Token). t.text ≢ OPENING_BRACE ∷ []) tokens first.token
-              no_brace
-              (λ brace.
-              let is : rest ≡ OPENING_BRACE ∷ first.after =
-              first.parts ∙ ap (λ (l : List ℕ). l ++ first.after) brace in
-              marked (bare_behind (joined tokens) rest text (sym cut.whole)
-              (bare_here rest (first.after, is, λ begins. first.mark begins brace))));
+          cut = marked_more lines text rest first.after tokens first.token cut first.token_utf8
+              first.parts first.is first.longest first.mark;
         }
 
     -- the tokens of a text of which some are known
     pub record Goes (least : ℕ) : Type 0 where
       pub all : List Token
-      pub cut : IsCut lines text [] all
-      pub no_brace : HaveNoBrace all
+      pub cut : IsMarkedCut lines text [] all
       pub more : least ≤ length all
 
     pub finish : (steps : ℕ) (rest : List ℕ) (tokens : List Token) → length rest ≤ steps →
-        IsUtf8 rest → IsCut lines text rest tokens → HaveNoBrace tokens → Goes (length tokens)
-    finish steps [] tokens enough utf8 cut no_brace =
-        record { all = tokens; cut = cut; no_brace = no_brace; more = omega arith }
-    finish zero (b ∷ rest) tokens enough utf8 cut no_brace = absurd (omega arith)
-    finish (suc steps) (b ∷ rest) tokens enough utf8 cut no_brace =
-        let next = next_of (b ∷ rest) tokens utf8 (omega arith) cut no_brace in
+        IsUtf8 rest → IsMarkedCut lines text rest tokens → Goes (length tokens)
+    finish steps [] tokens enough utf8 cut =
+        record { all = tokens; cut = cut; more = omega arith }
+    finish zero (b ∷ rest) tokens enough utf8 cut = absurd (omega arith)
+    finish (suc steps) (b ∷ rest) tokens enough utf8 cut =
+        let next = next_of (b ∷ rest) tokens utf8 (omega arith) cut in
         let shorter : length next.after < length (b ∷ rest) = next.shorter in
         let later = finish steps next.after (tokens ++ next.token ∷ []) (omega arith)
-        next.after_utf8 next.cut next.no_brace in
+        next.after_utf8 next.cut in
         let grown : length (tokens ++ next.token ∷ []) ≡ length tokens + 1 =
         length_push tokens next.token in
         let more : length (tokens ++ next.token ∷ []) ≤ length later.all = later.more in
-        record { all = later.all; cut = later.cut; no_brace = later.no_brace; more = omega arith }
+        record { all = later.all; cut = later.cut; more = omega arith }
 
     -- where something stands behind the tokens, the text has more of them
     pub has_more : (rest : List ℕ) (tokens : List Token) → IsUtf8 rest → 0 < length rest →
-        IsCut lines text rest tokens → HaveNoBrace tokens →
-        (all : List Token) × IsCut lines text [] all × HaveNoBrace all
-        × (length tokens < length all)
-    has_more rest tokens utf8 some cut no_brace =
-        let next = next_of rest tokens utf8 some cut no_brace in
+        IsMarkedCut lines text rest tokens →
+        (all : List Token) × IsMarkedCut lines text [] all × (length tokens < length all)
+    has_more rest tokens utf8 some cut =
+        let next = next_of rest tokens utf8 some cut in
         let later = finish (length next.after) next.after (tokens ++ next.token ∷ []) (omega arith)
-        next.after_utf8 next.cut next.no_brace in
+        next.after_utf8 next.cut in
         let grown : length (tokens ++ next.token ∷ []) ≡ length tokens + 1 =
         length_push tokens next.token in
         let more : length (tokens ++ next.token ∷ []) ≤ length later.all = later.more in
-        (later.all, later.cut, later.no_brace, omega arith)
+        (later.all, later.cut, omega arith)

@@ -6,9 +6,9 @@ use Rattle.ux_tokens.specs.declared.kind.Kind.TheVariants.{Word}
 use Rattle.ux_tokens.specs.declared.piece.Piece.{Piece}
 use Rattle.ux_tokens.specs.declared.cutting.Cut.{Cut}
 use Rattle.ux_tokens.specs.declared.text_error.TextError.{TextError}
-use Rattle.ux_tokens.specs.declared.text_error.TextError.TheVariants.{TooManyTokens, NotYet, NoMemory}
+use Rattle.ux_tokens.specs.declared.text_error.TextError.TheVariants.{TooManyTokens, NoMemory}
 use Rattle.ux_tokens.specs.declared.cutting.TheConstants.{MAX_TOKENS}
-use Rattle.ux_tokens.specs.Tokens.{Token, IsTokenText, joined, OPENING_BRACE}
+use Rattle.ux_tokens.specs.Tokens.{Token, IsTokenText, BeginsWithMark, joined, OPENING_BRACE}
 use Rattle.ux_tokens.specs.First.{BeginsWithNoLetter}
 use Rattle.ux_tokens.specs.Numbers.{different_texts}
 use Rattle.ux_tokens.specs.Pieces.{ArePieces, tokens_from, end_from}
@@ -23,15 +23,16 @@ pub record IsCut (lines : List Line) (text rest : List ℕ) (tokens : List Token
   pub closed : (k : ℕ) (last : Token) → slice_get tokens k ≡ Some last → k + 1 ≡ length tokens →
       last.kind ≡ Word → BeginsWithNoLetter lines rest
 
--- no token is a brace alone: where each brace begins a mark, the marks are tokens
-abbrev pub HaveNoBrace : List Token → Type 0
-HaveNoBrace tokens = All (λ token. token.text ≢ OPENING_BRACE ∷ []) tokens
+-- the same, and no mark is cut behind its brace
+pub record IsMarkedCut (lines : List Line) (text rest : List ℕ) (tokens : List Token) : Type 0 where
+  pub cut : IsCut lines text rest tokens
+  pub marks : (k : ℕ) (a : Token) → slice_get tokens k ≡ Some a → a.text ≡ OPENING_BRACE ∷ [] →
+      BeginsWithMark (joined (drop k tokens) ++ rest) → ⊥
 
 -- the pieces are those of the text up to a place between two characters
 pub record IsSoFar (lines : List Line) (text : List ℕ) (end : ℕ) (pieces : List Piece)
     (different : List (List ℕ)) : Type 0 where
-  pub tokens : IsCut lines text (drop end text) (tokens_from text 0 pieces)
-  pub no_brace : HaveNoBrace (tokens_from text 0 pieces)
+  pub tokens : IsMarkedCut lines text (drop end text) (tokens_from text 0 pieces)
   pub pieces_are : ArePieces text pieces different
   pub ends : end_from 0 pieces ≡ end
   pub between : IsCharBoundary text end
@@ -39,8 +40,7 @@ pub record IsSoFar (lines : List Line) (text : List ℕ) (end : ℕ) (pieces : L
 
 -- the pieces are those of the whole text
 pub record IsCutting (lines : List Line) (text : List ℕ) (cut : Cut) : Type 0 where
-  pub tokens : IsCut lines text [] (tokens_from text 0 (pieces_of cut.pieces))
-  pub no_brace : HaveNoBrace (tokens_from text 0 (pieces_of cut.pieces))
+  pub tokens : IsMarkedCut lines text [] (tokens_from text 0 (pieces_of cut.pieces))
   pub pieces : ArePieces text (pieces_of cut.pieces)
       (different_texts (tokens_from text 0 (pieces_of cut.pieces)))
   pub even : AreEven cut.pieces
@@ -50,19 +50,16 @@ pub record IsCutting (lines : List Line) (text : List ℕ) (cut : Cut) : Type 0 
 -- the texts are the different ones of the whole text's tokens
 pub record IsListing (lines : List Line) (text : List ℕ) (texts : List (List ℕ)) : Type 0 where
   pub tokens : List Token
-  pub cut : IsCut lines text [] tokens
-  pub no_brace : HaveNoBrace tokens
+  pub cut : IsMarkedCut lines text [] tokens
   pub few : length tokens ≤ MAX_TOKENS
   pub are : texts ≡ different_texts tokens
 
 -- the text has more tokens than a text may have
 abbrev pub HasTooManyTokens : List Line → List ℕ → Type 0
 HasTooManyTokens lines text =
-    (tokens : List Token) × IsCut lines text [] tokens × HaveNoBrace tokens
-    × (MAX_TOKENS < length tokens)
+    (tokens : List Token) × IsMarkedCut lines text [] tokens × (MAX_TOKENS < length tokens)
 
 -- when each error comes; want of memory may come at any text
 abbrev pub RefusesCut : List Line → List ℕ → TextError → Type 0
 RefusesCut lines text TooManyTokens = HasTooManyTokens lines text
-RefusesCut lines text NotYet = ⊥
 RefusesCut lines text NoMemory = Unit {0}

@@ -1,9 +1,12 @@
 pub mod Tokens
 pub mod First
+pub mod Tails
+pub mod Regions
 pub mod Numbers
 pub mod Known
 pub mod Pieces
 pub mod Columns
+pub mod Entries
 pub mod Kept
 pub mod Blocks
 pub mod Cutting

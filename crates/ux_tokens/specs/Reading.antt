@@ -2,13 +2,9 @@
 use Rattle.std.specs.Prelude.{ℕ, ◌<◌, List, length}
 use Rattle.ux_alphabet.specs.declared.line.Line.{Line}
 use Rattle.ux_tokens.specs.declared.text_error.TextError.{TextError}
-use Rattle.ux_tokens.specs.declared.text_error.TextError.TheVariants.{TooManyTokens, NotYet, NoMemory}
+use Rattle.ux_tokens.specs.declared.text_error.TextError.TheVariants.{TooManyTokens, NoMemory}
 use Rattle.ux_tokens.specs.declared.cutting.TheConstants.{MAX_TOKENS}
-use Rattle.ux_tokens.specs.Tokens.{Token, AreTokens, HasBareBrace, with_single_spaces}
-
--- with single spaces, the text has a brace at which no mark begins
-abbrev pub HasOpenBrace : List ℕ → Type 0
-HasOpenBrace text = HasBareBrace (with_single_spaces text)
+use Rattle.ux_tokens.specs.Tokens.{Token, AreTokens}
 
 -- the list of the text's tokens is longer than it may be
 abbrev pub HasTooManyTokens : List Line → List ℕ → Type 0
@@ -17,6 +13,5 @@ HasTooManyTokens lines text =
 
 -- when each error comes; want of memory may come at any text
 abbrev pub Refuses : List Line → List ℕ → TextError → Type 0
-Refuses lines text NotYet = HasOpenBrace text
-Refuses lines text TooManyTokens = (HasOpenBrace text → ⊥) × HasTooManyTokens lines text
+Refuses lines text TooManyTokens = HasTooManyTokens lines text
 Refuses lines text NoMemory = Unit {0}

@@ -3,6 +3,8 @@ use Rattle.std.specs.Prelude.{◌≡◌, ◌≢◌, ◌⊎◌, ℕ, ◌+◌, Lis
 use Rattle.std.specs.Str.{IsUtf8, chars}
 use Rattle.ux_alphabet.specs.declared.line.Line.{Line}
 use Rattle.ux_alphabet.specs.Letters.{is_separator, IsLetter}
+use Rattle.ux_dela.specs.Tag.{IsTagBody}
+use Rattle.ux_dela.specs.declared.entry.Entry.{Entry}
 use Rattle.ux_tokens.specs.declared.kind.Kind.{Kind}
 use Rattle.ux_tokens.specs.declared.kind.Kind.TheVariants.{Word, Space, Other, Sentence, Stop, Tag}
 
@@ -17,6 +19,9 @@ SPACE = 32
 abbrev pub OPENING_BRACE : ℕ
 OPENING_BRACE = 123
 
+abbrev pub CLOSING_BRACE : ℕ
+CLOSING_BRACE = 125
+
 -- the mark of a sentence's end
 abbrev pub SENTENCE : List ℕ
 SENTENCE = codes "{S}"
@@ -25,14 +30,23 @@ SENTENCE = codes "{S}"
 abbrev pub STOP : List ℕ
 STOP = codes "{STOP}"
 
+-- the text is the tag of this entry
+abbrev pub IsTag : List ℕ → Entry → Type 0
+IsTag text entry = (body : List ℕ) × (text ≡ OPENING_BRACE ∷ (body ++ CLOSING_BRACE ∷ []))
+    × IsTagBody body entry
+
+-- the text is one of the two marks, or a tag
+abbrev pub IsMark : List ℕ → Type 0
+IsMark text = (text ≡ SENTENCE) ⊎ ((text ≡ STOP) ⊎ ((entry : Entry) × IsTag text entry))
+
 -- a mark stands at the front
 abbrev pub BeginsWithMark : List ℕ → Type 0
-BeginsWithMark text = (rest : List ℕ) × ((text ≡ SENTENCE ++ rest) ⊎ (text ≡ STOP ++ rest))
+BeginsWithMark text = (mark : List ℕ) × (rest : List ℕ) × (text ≡ mark ++ rest) × IsMark mark
 
--- a brace stands in the text at which no mark begins
-abbrev pub HasBareBrace : List ℕ → Type 0
-HasBareBrace text = (front rest : List ℕ) × (text ≡ front ++ OPENING_BRACE ∷ rest)
-    × (BeginsWithMark (OPENING_BRACE ∷ rest) → ⊥)
+-- a tag stands at the front
+abbrev pub BeginsWithTag : List ℕ → Type 0
+BeginsWithTag text =
+    (tag : List ℕ) × (rest : List ℕ) × (entry : Entry) × (text ≡ tag ++ rest) × IsTag tag entry
 
 -- a separator stands at the front
 abbrev pub begins_with_separator : List ℕ → Bool
@@ -56,7 +70,7 @@ IsTokenText lines Other text =
     (c : ℕ) × (text ≡ encode_utf8 c) × (IsLetter lines c → ⊥) × (c ≢ SPACE)
 IsTokenText lines Sentence text = text ≡ SENTENCE
 IsTokenText lines Stop text = text ≡ STOP
-IsTokenText lines Tag text = ⊥
+IsTokenText lines Tag text = (entry : Entry) × IsTag text entry
 
 -- the texts of the tokens, one behind the other
 abbrev pub joined : List Token → List ℕ

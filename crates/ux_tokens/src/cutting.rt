@@ -9,7 +9,7 @@ ghost use Rattle.ux_tokens.specs.Columns.{AreEven, pieces_from, pieces_of};
 ghost use Rattle.ux_tokens.specs.Cutting.{IsCutting, IsSoFar, RefusesCut};
 ghost use Rattle.ux_tokens.specs.Known.{AreKnown};
 ghost use Rattle.ux_tokens.specs.Numbers.{texts_in};
-ghost use Rattle.ux_tokens.specs.Tokens.{HasBareBrace};
+ghost use Rattle.ux_tokens.specs.Regions.{IsFree};
 ghost use Rattle.ux_tokens.specs.declared.piece.Piece.{Piece};
 
 use crate::block::{BLOCK, Block, cut_plain, plain_len};
@@ -39,7 +39,6 @@ pub struct Cut {
 
 /// Cuts a text without longer runs of white space into its tokens. Takes a step a character.
 pub fn cut_text(alloc: Global, alphabet: &Alphabet, text: &str) -> Result<Cut, TextError>
-    requires marked { HasBareBrace text.now → ⊥ }
     ensures ok { IfOk result (IsCutting alphabet.now text.now) }
     ensures err { IfErr result (RefusesCut alphabet.now text.now) }
 {
@@ -48,6 +47,7 @@ pub fn cut_text(alloc: Global, alphabet: &Alphabet, text: &str) -> Result<Cut, T
     let mut known = Known::new(alloc)?;
     let mut pieces = Pieces::new(alloc);
     let mut block = Block::new();
+    let mut free = 0;
     let mut end = 0;
     while end < text.len() {
         let behind = push_block(
@@ -62,7 +62,15 @@ pub fn cut_text(alloc: Global, alphabet: &Alphabet, text: &str) -> Result<Cut, T
         end = if behind > end {
             behind
         } else {
-            push_front(alphabet, &mut numbers, &mut known, &mut pieces, text, end)?
+            push_front(
+                alphabet,
+                &mut numbers,
+                &mut known,
+                &mut pieces,
+                &mut free,
+                text,
+                end,
+            )?
         };
     }
     Ok(Cut {
@@ -77,10 +85,11 @@ fn push_front<'a>(
     numbers: &mut IndexSet<&'a str>,
     known: &mut Known,
     pieces: &mut Pieces,
+    free: &mut usize,
     text: &'a str,
     start: usize,
 ) -> Result<usize, TextError>
-    requires marked { HasBareBrace text.now → ⊥ }
+    requires free { IsFree text.now start free.old }
     requires some { start < length text.now }
     requires so_far { IsSoFar alphabet.now text.now start (pieces_of pieces.old)
         (texts_in numbers.old) }
@@ -91,12 +100,13 @@ fn push_front<'a>(
     ensures known { OnOk result (AreKnown (texts_in numbers.new) known.new) }
     ensures even { OnOk result (AreEven pieces.new) }
     ensures some { IfOk result (λ end. start < end) }
+    ensures free { IfOk result (λ end. IsFree text.now end free.new) }
     ensures err { IfErr result (RefusesCut alphabet.now text.now) }
 {
     if pieces.len() == MAX_TOKENS {
         return Err(TextError::TooManyTokens);
     }
-    let front = number_front(alphabet, numbers, known, &text[start..])?;
+    let front = number_front(alphabet, numbers, known, free, text, start)?;
     let end = start + front.end;
     pieces.push(Piece {
         end,
@@ -117,7 +127,6 @@ fn push_block<'a>(
     text: &'a str,
     start: usize,
 ) -> Result<usize, AllocError>
-    requires marked { HasBareBrace text.now → ⊥ }
     requires classes { length classes.now ≡ 128 }
     requires boundary { IsCharBoundary text.now start }
     requires so_far { (lines : List Line) × AreClasses lines classes.now
@@ -173,7 +182,6 @@ fn number_all<'a>(
     kinds: &[Kind],
     given: &mut [u32],
 ) -> Result<usize, AllocError>
-    requires marked { HasBareBrace text.now → ⊥ }
     requires boundary { IsCharBoundary text.now start }
     requires fronts { (lines : List Line) × AreFronts lines text.now start ends.now kinds.now }
     requires room { index_set_len numbers.old + length ends.now ≤ MAX_TOKENS }

@@ -1,6 +1,6 @@
 //! The tokens of a text.
 //!
-//! `Text::read` cuts a text into words, spaces, the marks `{S}` and `{STOP}` and other characters.
+//! `Text::read` cuts a text into words, spaces, the marks `{S}` and `{STOP}`, tags and other characters.
 //! Which list of tokens a text has stands in `specs/Tokens.antt`, as a condition on the finished
 //! list. `token_file_of` writes the different tokens without keeping that list.
 #![tactic(auto)]
@@ -9,6 +9,7 @@ mod block;
 mod classes;
 pub mod cutting;
 pub mod ends;
+pub mod entries;
 pub mod first;
 mod front;
 pub mod kind;
@@ -20,6 +21,8 @@ pub mod piece;
 pub mod pieces;
 pub mod printing;
 pub mod spaces;
+pub mod tags;
+pub mod tails;
 pub mod text;
 pub mod text_error;
 

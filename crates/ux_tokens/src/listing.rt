@@ -3,14 +3,13 @@
 ghost use Rattle.std.specs.Prelude.{◌≡◌, IfOk, IfErr, OnOk, string_bytes};
 ghost use Rattle.ux_tokens.specs.Cutting.{IsListing, RefusesCut};
 ghost use Rattle.ux_tokens.specs.Numbers.{texts_in};
-ghost use Rattle.ux_tokens.specs.Reading.{HasOpenBrace, HasTooManyTokens, Refuses};
+ghost use Rattle.ux_tokens.specs.Reading.{HasTooManyTokens, Refuses};
 ghost use Rattle.ux_tokens.specs.TokenFile.{IsTokenFileOf, file_of};
-ghost use Rattle.ux_tokens.specs.Tokens.{HasBareBrace};
 
 use crate::cutting::MAX_TOKENS;
 use crate::front::number_front;
 use crate::known::Known;
-use crate::marks::marked_text;
+use crate::spaces::into_single_spaced;
 use crate::text_error::TextError;
 use indexmap::IndexSet;
 use std::alloc::{AllocError, Global};
@@ -21,11 +20,10 @@ use ux_alphabet::Alphabet;
 pub fn token_file_of(alloc: Global, text: String, alphabet: &Alphabet) -> Result<String, TextError>
     ensures ok { IfOk result (λ file.
         IsTokenFileOf alphabet.now (string_bytes text) (string_bytes file)) }
-    ensures no_open_brace { OnOk result (HasOpenBrace (string_bytes text) → ⊥) }
     ensures not_too_many { OnOk result (HasTooManyTokens alphabet.now (string_bytes text) → ⊥) }
     ensures refused { IfErr result (Refuses alphabet.now (string_bytes text)) }
 {
-    let text = marked_text(text)?;
+    let text = into_single_spaced(text);
     let texts = different_tokens(alloc, alphabet, text.as_str())?;
     Ok(print_texts(alloc, &texts)?)
 }
@@ -36,19 +34,19 @@ fn different_tokens<'a>(
     alphabet: &Alphabet,
     text: &'a str,
 ) -> Result<IndexSet<&'a str>, TextError>
-    requires marked { HasBareBrace text.now → ⊥ }
     ensures ok { IfOk result (λ texts. IsListing alphabet.now text.now (texts_in texts)) }
     ensures err { IfErr result (RefusesCut alphabet.now text.now) }
 {
     let mut texts: IndexSet<&str> = IndexSet::new(alloc);
     let mut known = Known::new(alloc)?;
+    let mut free = 0;
     let mut count = 0;
     let mut end = 0;
     while end < text.len() {
         if count == MAX_TOKENS {
             return Err(TextError::TooManyTokens);
         }
-        let front = number_front(alphabet, &mut texts, &mut known, &text[end..])?;
+        let front = number_front(alphabet, &mut texts, &mut known, &mut free, text, end)?;
         end += front.end;
         count += 1;
     }

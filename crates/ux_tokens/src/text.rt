@@ -3,19 +3,23 @@
 //! The tokens are neighbouring slices of the text in which each run of white space is one space, so
 //! a text keeps that and the places where tokens end.
 
-ghost use Rattle.std.specs.Prelude.{◌≡◌, ◌+◌, ◌<◌, ◌≤◌, Some, IfOk, IfErr, OnOk, IsSomeAnd, length, take, slice_get, slice_range, string_bytes};
-ghost use Rattle.ux_tokens.specs.Tokens.{AreTokens, joined};
+ghost use Rattle.std.specs.Prelude.{◌≡◌, ◌≢◌, IfSome, MatchOption, ◌+◌, ◌<◌, ◌≤◌, Some, IfOk, IfErr, OnOk, IsSomeAnd, length, take, slice_get, slice_range, string_bytes};
+ghost use Rattle.ux_tokens.specs.Tokens.{AreTokens, IsTag, joined};
+ghost use Rattle.ux_tokens.specs.declared.kind.Kind.TheVariants.{Tag};
+ghost use Rattle.ux_dela.specs.Sound.{IsSound};
 ghost use Rattle.ux_tokens.specs.Numbers.{StandOnce, different_texts};
-ghost use Rattle.ux_tokens.specs.Reading.{HasOpenBrace, HasTooManyTokens, Refuses};
+ghost use Rattle.ux_tokens.specs.Reading.{HasTooManyTokens, Refuses};
 
 use crate::cutting::{Cut, MAX_TOKENS, cut_text};
+use crate::entries::{Entries, is_tag, tag_entries};
 use crate::kind::Kind;
-use crate::marks::marked_text;
 use crate::pieces::{Pieces, part};
+use crate::spaces::into_single_spaced;
 use crate::text_error::TextError;
 use std::alloc::Global;
 use std::marker::Model;
 use ux_alphabet::Alphabet;
+use ux_dela::Entry;
 
 /// The tokens of a text. Contracts see a text as their list.
 #[derive(Debug, Drop)]
@@ -23,6 +27,7 @@ pub struct Text {
     text: String,
     pieces: Pieces,
     different: usize,
+    entries: Entries,
 }
 
 impl Model for Text {
@@ -36,7 +41,7 @@ impl Model for Text {
 
     ghost view = { λ t. tokens_from (string_bytes t.text) 0 (pieces_of t.pieces) };
 
-    ghost invariant = { λ t. IsKept (string_bytes t.text) t.pieces t.different };
+    ghost invariant = { λ t. IsKept (string_bytes t.text) t.pieces t.different t.entries };
 }
 
 impl Text {
@@ -44,16 +49,18 @@ impl Text {
     pub fn read(alloc: Global, text: String, alphabet: &Alphabet) -> Result<Text, TextError>
         ensures tokens { IfOk result (λ tokens. AreTokens alphabet.now (string_bytes text) tokens) }
         ensures few { IfOk result (λ tokens. length tokens ≤ MAX_TOKENS) }
-        ensures no_open_brace { OnOk result (HasOpenBrace (string_bytes text) → ⊥) }
         ensures not_too_many { OnOk result (HasTooManyTokens alphabet.now (string_bytes text) → ⊥) }
         ensures refused { IfErr result (Refuses alphabet.now (string_bytes text)) }
     {
-        let text = marked_text(text)?;
-        let Cut { pieces, different } = cut_text(alloc, alphabet, text.as_str())?;
+        let text = into_single_spaced(text);
+        let cut = cut_text(alloc, alphabet, text.as_str())?;
+        let entries = tag_entries(alloc, text.as_str(), &cut)?;
+        let Cut { pieces, different } = cut;
         Ok(Text {
             text,
             pieces,
             different,
+            entries,
         })
     }
 
@@ -87,6 +94,20 @@ impl Text {
         ensures { IsSomeAnd (slice_get self.now i) (λ token. result ≡ token.kind) }
     {
         self.pieces.at(i).kind
+    }
+
+    /// The entry of the token at a place, if that is a tag. Takes one look-up.
+    pub fn tag(&self, i: usize) -> Option<&Entry>
+        requires { i < length self.now }
+        ensures entry { IsSomeAnd (slice_get self.now i) (λ token. MatchOption result
+            (token.kind ≢ Tag) (λ entry. (token.kind ≡ Tag) × IsTag token.text entry.now)) }
+        ensures sound { IfSome result (λ entry. IsSound entry.now) }
+    {
+        let piece = self.pieces.at(i);
+        if !is_tag(piece) {
+            return None;
+        }
+        self.entries.get(&piece.number)
     }
 
     /// The number of the token at a place, which is the place of its text among the different ones.

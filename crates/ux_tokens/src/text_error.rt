@@ -3,6 +3,7 @@
 ghost use Rattle.std.specs.Prelude.{◌≡◌};
 
 use std::alloc::{AllocError, AllocFailed};
+use ux_base::NoMemory;
 
 /// Why a text has no list of tokens here.
 #[derive(Clone, Copy, Debug, Drop, PartialEq, Eq, thiserror::Error)]
@@ -10,9 +11,6 @@ pub enum TextError {
     /// The list of tokens is longer than `MAX_TOKENS`.
     #[error("TooManyTokens")]
     TooManyTokens,
-    /// The text has a `{` at which no mark begins.
-    #[error("NotYet")]
-    NotYet,
     /// Memory ran out.
     #[error("NoMemory")]
     NoMemory,
@@ -34,6 +32,16 @@ impl<T: Drop> From<AllocFailed<T>> for TextError {
     ghost from_gives = { λ _ e. e ≡ NoMemory };
 
     fn from(_error: AllocFailed<T>) -> TextError {
+        TextError::NoMemory
+    }
+}
+
+impl From<NoMemory> for TextError {
+    ghost use Rattle.ux_tokens.specs.declared.text_error.TextError.TheVariants.{NoMemory};
+
+    ghost from_gives = { λ _ e. e ≡ NoMemory };
+
+    fn from(_error: NoMemory) -> TextError {
         TextError::NoMemory
     }
 }

@@ -11,6 +11,7 @@ usage: unitex COMMAND ARGUMENTS
   tokenize TEXT ALPHABET       reads a text and its letters, writes its tokens
   check DIC                    reads a dictionary of forms, writes how many entries it has
     --delas                    the dictionary is one of lemmas with their classes
+  dico TEXT ALPHABET [DIC..]   reads a text, its letters and dictionaries, writes their report
 
 Options and names of files stand in any order, an option as --name value or --name=value. Behind --
 all words are names of files. --help and --version stand alone.

@@ -13,6 +13,9 @@ use ux_base::{Folder, FolderError, Mem, MemFolder, MemSink};
 /// The words that check a dictionary.
 const CHECK: &[&str] = &["check", "d.dic"];
 
+/// The words that report on a dictionary.
+const REPORT: &[&str] = &["dico", "t.txt", "a.txt", "d.dic"];
+
 /// A folder in memory with the usual files, in which these reads fail.
 fn folder(alloc: Global, failing: Vec<u64>) -> Mem<MemFolder> {
     let files = usual_files(alloc, LETTERS.as_bytes(), GRAPH.as_bytes(), CATS.as_bytes())?;
@@ -65,6 +68,9 @@ fn names_the_file_whose_read_fails(rt: HostRuntime) -> Result<(), Fail> {
         (TOKENS, 0, "read fault: a.txt\n"),
         (TOKENS, 1, "read fault: t.txt\n"),
         (CHECK, 0, "read fault: d.dic\n"),
+        (REPORT, 0, "read fault: a.txt\n"),
+        (REPORT, 1, "read fault: t.txt\n"),
+        (REPORT, 2, "read fault: d.dic\n"),
     ];
     for row in ROWS {
         let got = given_without(rt.alloc(), row.0, row.1)?;
@@ -82,6 +88,8 @@ fn names_the_file_that_is_too_long(rt: HostRuntime) -> Result<(), Fail> {
         (TOKENS, "a.txt", "too large: a.txt\n"),
         (TOKENS, "t.txt", "too large: t.txt\n"),
         (CHECK, "d.dic", "too large: d.dic\n"),
+        (REPORT, "t.txt", "too large: t.txt\n"),
+        (REPORT, "d.dic", "too large: d.dic\n"),
     ];
     let alloc = rt.alloc();
     for row in ROWS {

@@ -91,6 +91,24 @@ fn searches_by_all_items(rt: HostRuntime) -> Result<(), Fail> {
             ("#I\n", "", 0),
         ),
         (
+            "a brace that begins no tag",
+            &[(
+                "g.grf",
+                "#Unigraph\n#\n3\n\"<E>\" 0 0 1 2 \n\"\" 0 0 0 \n\"\\\\{ x\" 0 0 1 1 \n",
+            )],
+            "{x",
+            ("#I\n0 1 {x\n", "", 0),
+        ),
+        (
+            "a tag is one token, and none of its characters",
+            &[(
+                "g.grf",
+                "#Unigraph\n#\n3\n\"<E>\" 0 0 1 2 \n\"\" 0 0 0 \n\"\\\\{\" 0 0 1 1 \n",
+            )],
+            "I {am,be.V:P1s} {",
+            ("#I\n4 4 {\n", "", 0),
+        ),
+        (
             "a call of itself behind a word",
             &[(
                 "g.grf",

@@ -48,7 +48,11 @@ fn lists_the_tokens_of_a_text(rt: HostRuntime) -> Result<(), Fail> {
         (b"", ("0\n", "", 0)),
         (b"a  b\ta", ("3\na\n \nb\n", "", 0)),
         (b"a{S}b{STOP}a{S}", ("4\na\n{S}\nb\n{STOP}\n", "", 0)),
-        (b"a{x}", ("", "refused: t.txt: NotYet\n", 3)),
+        (b"a{x}", ("4\na\n{\nx\n}\n", "", 0)),
+        (
+            b"I {am,be.V:P1s} {am,be.V:P1s}",
+            ("3\nI\n \n{am,be.V:P1s}\n", "", 0),
+        ),
         (b"\xff\xfea", ("", "refused: t.txt: OddLength\n", 3)),
     ];
     for row in ROWS {
@@ -85,6 +89,7 @@ fn answers_usage(rt: HostRuntime) -> Result<(), Fail> {
         (&["concord", "g.grf", "t.txt", "a.txt"], ""),
         (&["tokenize", "--x", "t.txt", "a.txt"], ""),
         (&["tokenize", "t.txt", "a.txt", "a.txt"], ""),
+        (&["dico", "--x", "t.txt", "a.txt"], ""),
         (&["compress", "d.dic"], ""),
         (&["--help", "locate"], ""),
     ];

@@ -1,48 +1,11 @@
-use Rattle.std.proofs.Common.{List, ◌∷◌, ◌++◌, [], take, arith, subst, sym, ap}
-use Rattle.ux_dela.specs.declared.entry.Entry.{Entry}
-use Rattle.ux_apply.specs.declared.priority.Priority.{Priority}
-use Rattle.ux_apply.specs.Applying.{AreFound, contents}
-use Rattle.ux_apply.proofs.FoundLemmas.{contents-all, contents-more, found-more, found-none, found-skip}
+use Rattle.std.proofs.lemmas.Result.{IfOk-weaker}
 use Rattle.ux_apply.proofs.applying.found.Goals as goal
-use Rattle.ux_apply.proofs.applying.found.Goals.{then-is+in_ok-push_fitting, else-is}
-
-pub loop-own-init : goal.loop-own-init
-loop-own-init g c =
-    subst (λ (l : List Entry). AreFound c.args.alphabet.now [] c.args.text.now c.args.priority l)
-    (sym c.new-entries.ensures.items)
-    (found-none c.args.alphabet.now c.args.text.now c.args.priority)
-
-pub loop-own-preserved : goal.loop-own-preserved
-loop-own-preserved g c =
-    let content = g.L.Lexicon.content in
-    let lines = c.args.alphabet.now in
-    let text = c.args.text.now in
-    let priority = c.args.priority in
-    let dics = c.args.dics.now in
-    let i = c.loop-own.own-index in
-    let dic = c.loop-own-item.result in
-    let front = contents content (take i dics) in
-    let all = front ++ (dic.0, content dic.1) ∷ [] in
-    let old = c.loop-own.entries.items in
-    subst
-    (λ (l : List (Priority × List Entry)). AreFound lines l text priority c.if-is.entries.items)
-    (sym (contents-more content dics i dic (omega arith) c.loop-own-item.is))
-    (elim c.if-is.branch [
-      | then-is+in_ok-push_fitting w ↦ subst
-          (λ (l : List Entry). AreFound lines all text priority l)
-          (sym (ap (λ v. v.items) w.entries-is))
-          (found-more priority (dic.0, content dic.1) lines front text old c.loop-own.invariant
-          w.push_fitting.new.entries.items (sym w.if-is.ensures) w.in_ok-push_fitting.ensures)
-      | else-is w ↦ subst (λ (l : List Entry). AreFound lines all text priority l)
-          (sym (ap (λ v. v.items) w.entries-is))
-          (found-skip priority (dic.0, content dic.1) lines front text old c.loop-own.invariant
-          (sym w.if-is.ensures))
-    ])
 
 pub returns : goal.returns
 returns g c =
-    subst
-    (λ (l : List (Priority × List Entry)).
-    AreFound c.args.alphabet.now l c.args.text.now c.args.priority c.loop-own.entries.items)
-    (contents-all g.L.Lexicon.content c.args.dics.now c.loop-own.own-index (omega arith))
-    c.loop-own.invariant
+    IfOk-weaker c.each_once.result _ _
+    (λ entries is. record {
+      fitting = c.in_ok-fitting.fitting.items;
+      fit = c.in_ok-fitting.ensures;
+      once = is;
+    }) c.each_once.ensures

@@ -4,5 +4,5 @@ pub returns : goal.returns
 returns g c = record {
   more = c.in_ok-more.more.items;
   fit = c.in_ok-more.ensures.found;
-  grown = c.in_ok-push_new.ensures;
+  added = c.in_ok-append.ensures.items;
 }

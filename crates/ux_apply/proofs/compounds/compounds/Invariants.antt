@@ -1,8 +1,10 @@
 use Rattle.ux_apply.specs.Applying.{contents}
 use Rattle.ux_apply.specs.Kept.{AreRowsUpTo}
+use Rattle.ux_apply.specs.Tables.{IsCompoundRow}
 use Rattle.ux_apply.proofs.compounds.compounds.Given as goal
 
 -- the rows are those of the tokens so far
 abbrev pub invariant-loop-first : goal.invariant-loop-first
 invariant-loop-first g l =
-    AreRowsUpTo l.alphabet (contents g.L.Lexicon.content l.dics) l.text l.first l.rows
+    AreRowsUpTo (IsCompoundRow l.alphabet (contents g.L.Lexicon.content l.dics) l.text) l.first
+    l.rows

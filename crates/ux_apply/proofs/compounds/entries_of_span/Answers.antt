@@ -1,5 +1,4 @@
-use Rattle.std.proofs.Common.{List, ℕ, arith, subst, sym, []}
-use Rattle.std.proofs.lemmas.Result.{IfOk-weaker}
+use Rattle.std.proofs.Common.{List, arith, subst, sym}
 use Rattle.ux_dela.specs.declared.entry.Entry.{Entry}
 use Rattle.ux_apply.specs.Applying.{contents}
 use Rattle.ux_apply.specs.Tables.{AreOfSpan}

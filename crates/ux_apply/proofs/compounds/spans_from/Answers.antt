@@ -1,8 +1,9 @@
 use Rattle.std.proofs.Common.{List, ℕ, ◌+◌, ◌≡◌, arith, length, subst, sym}
 use Rattle.ux_dela.specs.declared.entry.Entry.{Entry}
 use Rattle.ux_apply.specs.Applying.{contents}
-use Rattle.ux_apply.specs.Tables.{AreCompoundUpTo, start, more}
-use Rattle.ux_apply.proofs.SpanLemmas.{front-start, row-whole}
+use Rattle.ux_apply.specs.Tables.{AreCompoundUpTo, more}
+use Rattle.ux_apply.proofs.SpanLemmas.{row-whole}
+use Rattle.ux_apply.proofs.StartLemmas.{front-nearest, nearest-within, row-start}
 use Rattle.ux_apply.proofs.compounds.spans_from.Goals as goal
 
 pub loop-last-init : goal.loop-last-init
@@ -10,9 +11,12 @@ loop-last-init g c = record {
   row = subst
       (λ (l : List (ℕ × Entry)). AreCompoundUpTo c.args.alphabet.now
       (contents g.L.Lexicon.content c.args.dics.now) c.args.text.now c.args.first
-      (c.args.first + 1) l)
-      (sym c.new-row.ensures.items) start;
-  front = front-start c.args.text.now c.args.first c.requires.begins;
+      c.args.nearest l)
+      (sym c.new-row.ensures.items)
+      (row-start c.args.alphabet.now (contents g.L.Lexicon.content c.args.dics.now)
+      c.args.text.now c.args.first c.args.nearest c.requires.begins c.requires.from);
+  front = front-nearest c.args.text.now c.args.first c.args.nearest c.requires.begins
+      c.requires.from;
 }
 
 pub loop-last-preserved : goal.loop-last-preserved
@@ -35,7 +39,9 @@ returns-in-None g c =
 
 pub returns : goal.returns
 returns g c =
-    let end : c.loop-last.last ≡ length c.args.text.now = omega arith in
+    let within = nearest-within c.args.text.now c.args.first c.args.nearest c.requires.within
+    c.requires.from in
+    let end : c.loop-last.last ≡ length c.args.text.now = omega (arith, within) in
     subst
     (λ (k : ℕ). AreCompoundUpTo c.args.alphabet.now
     (contents g.L.Lexicon.content c.args.dics.now) c.args.text.now c.args.first k

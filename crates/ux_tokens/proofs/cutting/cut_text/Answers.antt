@@ -5,6 +5,7 @@ use Rattle.ux_tokens.specs.Cutting.{IsSoFar}
 use Rattle.ux_tokens.specs.Known.{AreKnown}
 use Rattle.ux_tokens.specs.Numbers.{texts_in}
 use Rattle.ux_tokens.proofs.CuttingLemmas.{so_far_start, cut_whole}
+use Rattle.ux_tokens.proofs.MarksLemmas.{free_later}
 use Rattle.ux_tokens.proofs.NumbersLemmas.{no_texts, length-texts_in}
 use Rattle.ux_tokens.proofs.cutting.cut_text.Goals as goal
 
@@ -20,6 +21,7 @@ loop-end-init c =
       known =
           subst (λ (l : List (List ℕ)). AreKnown l c.in_ok-known.known) (sym texts)
           c.in_ok-known.ensures;
+      free = λ k low high tag. omega (arith, high);
     }
 
 pub push_front-requires-clause-so_far : goal.push_front-requires-clause-so_far
@@ -46,6 +48,8 @@ loop-end-preserved-then-behind-end c =
           (subst (AreClasses lines) (sym c.deref.ensures.value) before.classes) before.so_far;
       even = block.even;
       known = block.known;
+      free = free_later c.args.text.now c.loop-end.end c.in_ok-behind.behind c.loop-end.free
+          block.in_order before.free;
     }
 
 pub returns-clause-ok : goal.returns-clause-ok

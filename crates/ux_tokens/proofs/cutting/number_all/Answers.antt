@@ -81,7 +81,7 @@ loop-i-preserved c =
           omega (arith, same, fewer, keys, more_keys, room, within);
       known = c.in_ok-given.ensures.known;
       so_far = λ lines pieces fronts few so_far.
-          number_more lines text c.utf8.text c.requires.marked c.args.start i from
+          number_more lines text c.utf8.text c.args.start i from
           c.in_ok-given.field-0 ends c.loop-i.given c.args.kinds.now pieces before more fronts
           c.loop-i-test.true inv.given few inv.from_is
           (inv.so_far lines pieces fronts few so_far)

@@ -1,4 +1,4 @@
-use Rattle.std.proofs.Common.{◌≡◌, ◌-◌, ◌≤◌, length, drop, arith}
+use Rattle.std.proofs.Common.{◌≡◌, ◌-◌, ◌≤◌, length, drop, refl, arith}
 use Rattle.std.proofs.lemmas.List.{length-drop}
 use Rattle.std.proofs.lemmas.Str.{IsUtf8-drop}
 use Rattle.ux_tokens.specs.declared.cutting.TheConstants.{MAX_TOKENS}
@@ -8,6 +8,7 @@ use Rattle.ux_tokens.specs.Pieces.{tokens_from}
 use Rattle.ux_tokens.proofs.PiecesLemmas.{length-tokens_from}
 use Rattle.ux_tokens.proofs.WholeLemmas.{has_more}
 use Rattle.ux_tokens.proofs.CuttingLemmas.{so_far_next, few_different}
+use Rattle.ux_tokens.proofs.MarksLemmas.{free_later}
 use Rattle.ux_tokens.proofs.NumbersLemmas.{length-texts_in}
 use Rattle.ux_tokens.proofs.cutting.push_front.Goals as goal
 
@@ -21,10 +22,10 @@ returns-then-len-eq-MAX_TOKENS-clause-err c =
     in
     let left : length (drop c.args.start text) ≡ length text - c.args.start =
     length-drop c.args.start text in
-    let more = has_more lines text c.requires.marked (drop c.args.start text)
+    let more = has_more lines text (drop c.args.start text)
     (tokens_from text 0 pieces) (IsUtf8-drop text c.args.start c.utf8.text so_far.between)
-    (omega arith) so_far.tokens so_far.no_brace in
-    (more.0, more.1, more.2, omega (arith, more.3))
+    (omega arith) so_far.tokens in
+    (more.0, more.1, omega (arith, more.2))
 
 pub number_front-requires-clause-room : goal.number_front-requires-clause-room
 number_front-requires-clause-room c =
@@ -42,7 +43,12 @@ returns-clause-so_far c =
     let few = so_far.few in
     let front = c.in_ok-front.ensures in
     rw c.in_ok-push.ensures.pieces
-    (so_far_next c.args.alphabet.now c.args.text.now c.utf8.text c.requires.marked c.args.start
+    (so_far_next c.args.alphabet.now c.args.text.now c.utf8.text c.args.start
     (pieces_of c.args.pieces.now) (texts_in c.args.numbers.now) (texts_in c.number_front.new.numbers)
-    c.range_from.result.now c.in_ok-front.front so_far (omega (arith, few))
-    c.range_from.ensures.value front.front front.texts front.place)
+    (drop c.args.start c.args.text.now) c.in_ok-front.front so_far (omega (arith, few))
+    refl front.front front.texts front.place)
+
+pub returns-clause-free : goal.returns-clause-free
+returns-clause-free c =
+    free_later c.args.text.now c.args.start _ c.number_front.new.free (omega arith)
+    c.in_ok-front.ensures.free

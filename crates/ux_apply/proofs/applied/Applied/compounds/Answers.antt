@@ -1,6 +1,5 @@
-use Rattle.std.proofs.Common.{◌≡◌, ◌<◌, ◌∙◌, List, ℕ, length, ap, arith, subst, sym, []}
+use Rattle.std.proofs.Common.{◌≡◌, ◌<◌, ◌∙◌, length, ap, arith, subst, []}
 use Rattle.std.specs.Prelude.{IsSomeAnd, slice_get}
-use Rattle.ux_dela.specs.declared.entry.Entry.{Entry}
 use Rattle.ux_apply.specs.Tables.{Tables}
 use Rattle.ux_apply.specs.Kept.{items_in, row_of}
 use Rattle.ux_apply.proofs.RowLemmas.{length-table, table-some}

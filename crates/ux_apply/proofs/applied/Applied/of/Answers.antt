@@ -16,14 +16,15 @@ returns g c =
     let tokens = c.args.text.now in
     let words = c.in_ok-words.words.items in
     let entries = c.in_ok-entries.entries.items in
+    let tags = c.in_ok-tags.tags in
     let unknown = c.in_ok-unknown.unknown.items in
     let exact = c.in_ok-unknown.ensures.exact in record {
-      simple = simple-whole tokens entries words c.in_ok-words.ensures lines dics
-          c.in_ok-entries.ensures;
+      simple = simple-whole tokens entries tags words c.in_ok-words.ensures lines dics
+          c.in_ok-entries.ensures c.in_ok-tags.ensures;
       compounds = rows-whole lines dics tokens c.in_ok-compounds.compounds (length words)
           (sym (zip-length (IsWordNumber tokens) tokens words c.in_ok-words.ensures))
           c.in_ok-compounds.ensures;
-      unknown = unknown-whole tokens entries words c.in_ok-words.ensures unknown
+      unknown = unknown-whole tokens entries tags words c.in_ok-words.ensures unknown
           c.in_ok-unknown.ensures.ascending
           (λ n. subst (λ (ws : List (Option ℕ)). Contains unknown n ↔ IsWithoutRow ws entries n)
           c.deref-4.ensures.value

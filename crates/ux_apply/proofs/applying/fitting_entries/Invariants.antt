@@ -1,0 +1,11 @@
+use Rattle.std.proofs.Common.{take}
+use Rattle.ux_dict.specs.Forms.{IsFitting}
+use Rattle.ux_apply.specs.Applying.{content_at, contents}
+use Rattle.ux_apply.proofs.applying.fitting_entries.Given as goal
+
+-- the entries of the dictionaries so far
+abbrev pub invariant-loop-own : goal.invariant-loop-own
+invariant-loop-own g l =
+    IsFitting l.alphabet l.text
+    (content_at l.priority (contents g.L.Lexicon.content (take l.own-index l.dics)))
+    l.entries.items

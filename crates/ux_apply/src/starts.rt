@@ -1,0 +1,106 @@
+//! How spans with entries may begin.
+//!
+//! In a text the second token of a span is mostly a space. So what the dictionaries answer of a
+//! token and a space is asked once for each different token, and not at each of its places.
+
+ghost use Rattle.std.specs.Prelude.{◌≡◌, ◌<◌, ◌⊎◌, ◌+◌, ◌≤◌, ◌^◌, IfOk, IsFalse, IsTrue, MatchOption, Some, length, slice_get};
+ghost use Rattle.ux_apply.specs.Applying.{contents};
+ghost use Rattle.ux_apply.specs.Kept.{IsNearestLast, IsOver, IsSpaceAt, IsStart};
+ghost use Rattle.ux_apply.specs.declared.starts.Start.TheVariants.{Spaced, Unspaced};
+
+use crate::applying::may_begin;
+use crate::priority::Priority;
+use std::alloc::Global;
+use ux_alphabet::Alphabet;
+use ux_base::Mem;
+use ux_dict::Lexicon;
+use ux_tokens::Text;
+use ux_tokens::kind::Kind;
+
+/// How forms may begin with a token.
+#[derive(Clone, Copy, Debug)]
+pub(crate) enum Start {
+    /// No form does.
+    Never,
+    /// Some form may, but none with a space behind it.
+    Unspaced,
+    /// Some form may, also with a space behind it.
+    Spaced,
+}
+
+/// How forms may begin with a token of this text.
+pub(crate) fn start_of<L: Lexicon>(
+    alloc: Global,
+    token: &str,
+    alphabet: &Alphabet,
+    dics: &[(Priority, L)],
+) -> Mem<Start>
+    ensures { IfOk result
+        (IsStart alphabet.now (contents L.content dics.now) token.now) }
+{
+    // Where a form goes on behind a space, it begins with the token: one question less.
+    if may_begin_spaced(alloc, token, alphabet, dics)? {
+        return Ok(Start::Spaced);
+    }
+    if may_begin(alloc, token, alphabet, dics)? {
+        return Ok(Start::Unspaced);
+    }
+    Ok(Start::Never)
+}
+
+/// Whether some form may begin with the text and a space.
+fn may_begin_spaced<L: Lexicon>(
+    alloc: Global,
+    text: &str,
+    alphabet: &Alphabet,
+    dics: &[(Priority, L)],
+) -> Mem<bool>
+    ensures { IfOk result (λ may. IsFalse may →
+        IsStart alphabet.now (contents L.content dics.now) text.now Unspaced) }
+{
+    let mut spaced = String::from_str(alloc, text)?;
+    spaced.push(' ')?;
+    may_begin(alloc, spaced.as_str(), alphabet, dics)
+}
+
+/// How forms may begin with the token of this number.
+pub(crate) fn start_at(starts: &[Start], number: u32) -> Start
+    ensures { (result ≡ Spaced) ⊎ (slice_get starts.now number ≡ Some result) }
+{
+    match starts.get(number as usize) {
+        Some(start) => *start,
+        None => Start::Spaced,
+    }
+}
+
+/// The last token of the shortest span that begins at the token and has to be tried, if any has.
+pub(crate) fn nearest_last(text: &Text, first: usize, start: Start) -> Option<usize>
+    requires { first < length text.now }
+    ensures { MatchOption result (IsOver text.now first start) (IsNearestLast text.now first) }
+{
+    let spaced = is_space_behind(text, first);
+    match start {
+        Start::Never => None,
+        Start::Unspaced if spaced => None,
+        Start::Spaced if spaced => Some(first + 2),
+        Start::Unspaced | Start::Spaced => Some(first + 1),
+    }
+}
+
+/// Whether a space stands behind the token.
+fn is_space_behind(text: &Text, place: usize) -> bool
+    requires { place < length text.now }
+    ensures space { IsTrue result → IsSpaceAt text.now (place + 1) }
+    ensures room { (place + 1 ≤ length text.now) × (length text.now < 2 ^ 64) }
+{
+    let count = text.len();
+    place + 1 < count && is_space(text, place + 1)
+}
+
+/// Whether a space stands at the place.
+fn is_space(text: &Text, place: usize) -> bool
+    requires { place < length text.now }
+    ensures { IsTrue result → IsSpaceAt text.now place }
+{
+    text.kind(place) == Kind::Space && text.token(place) == " "
+}

@@ -1,0 +1,181 @@
+//! What dictionaries find, by rows.
+
+use std::alloc::{AllocError, Global};
+use std::process::Abort;
+use std::test::Fail;
+use ux_alphabet::Alphabet;
+use ux_dela::{Entry, print_delaf, read_delaf};
+use ux_dict::{AnyLexicon, Lexicon, ListLexicon, different};
+
+/// The pairs of letters in all rows: `X` has none.
+const PAIRS: &str = "Tt\nHh\nEe\nCc\nAa\nÉé\n";
+
+/// A name, a dictionary's lines, a text, and the entries whose forms fit it, each between brackets.
+type Fitting = (&'static str, &'static str, &'static str, &'static str);
+
+/// A name, a dictionary's lines, a text, and whether a form may begin with it.
+type Begun = (&'static str, &'static str, &'static str, bool);
+
+/// A name, a dictionary's lines, a form, its number of entries, the longest form's length and the
+/// number of all entries.
+type Counts = (
+    &'static str,
+    &'static str,
+    &'static str,
+    Option<usize>,
+    usize,
+    usize,
+);
+
+fn lexicon(alloc: Global, lines: &str) -> Result<AnyLexicon, Fail> {
+    let entries = read_delaf(alloc, lines)?;
+    Ok(AnyLexicon::List(ListLexicon::new(alloc, entries)?))
+}
+
+/// The entries as lines, each between brackets.
+fn printed(alloc: Global, entries: &[Entry]) -> Result<String, Fail> {
+    let mut out = String::new(alloc);
+    for entry in entries {
+        let line = print_delaf(alloc, entry)?;
+        out.push_str("[")?;
+        out.push_str(line.as_str())?;
+        out.push_str("]")?;
+    }
+    Ok(out)
+}
+
+fn compare(rt: &impl Abort, got: &str, want: &str, name: &str) {
+    assert_eq!(rt; got, want, "{name}");
+}
+
+fn check_fitting(rt: &impl Abort, alloc: Global, row: &Fitting) -> Result<(), Fail> {
+    let alphabet = Alphabet::read(alloc, PAIRS)?;
+    let entries = lexicon(alloc, row.1)?.fitting(alloc, row.2, &alphabet)?;
+    compare(rt, printed(alloc, &entries)?.as_str(), row.3, row.0);
+    Ok(())
+}
+
+fn check_begun(rt: &impl Abort, alloc: Global, row: &Begun) -> Result<(), Fail> {
+    let alphabet = Alphabet::read(alloc, PAIRS)?;
+    let may = lexicon(alloc, row.1)?.may_begin(alloc, row.2, &alphabet)?;
+    assert_eq!(rt; may, row.3, "{}", row.0);
+    Ok(())
+}
+
+fn check_counts(rt: &impl Abort, alloc: Global, row: &Counts) -> Result<(), Fail> {
+    let lexicon = lexicon(alloc, row.1)?;
+    assert_eq!(rt; lexicon.exact(row.2), row.3, "{}", row.0);
+    assert_eq!(rt; lexicon.longest(), row.4, "{}", row.0);
+    assert_eq!(rt; lexicon.count(), row.5, "{}", row.0);
+    Ok(())
+}
+
+/// The sign so many times.
+fn repeated(alloc: Global, sign: char, times: usize) -> Result<String, AllocError> {
+    let mut text = String::new(alloc);
+    for _ in 0..times {
+        text.push(sign)?;
+    }
+    Ok(text)
+}
+
+#[test]
+fn entries_of_fitting_forms_are_found(rt: HostRuntime) -> Result<(), Fail> {
+    const CASES: &str = "the,.a\nThe,.b\nTHE,.c";
+    const ALIKE: &str = "internat,.a\ninternatio,.b\ninternation,.c";
+    const ROWS: &[Fitting] = &[
+        ("a lower-case text", CASES, "the", "[the,.a]"),
+        ("a capital", CASES, "The", "[The,.b][the,.a]"),
+        (
+            "an upper-case text",
+            CASES,
+            "THE",
+            "[THE,.c][The,.b][the,.a]",
+        ),
+        ("a capital within", CASES, "tHe", "[the,.a]"),
+        ("an accent", "été,.N", "Été", "[été,.N]"),
+        ("an accented capital", "Été,.N", "été", ""),
+        (
+            "a form with a space",
+            "the cat,.N",
+            "The cat",
+            "[the cat,.N]",
+        ),
+        ("two capitals", "the cat,.N", "The Cat", "[the cat,.N]"),
+        ("a capital without a pair", "xat,.N", "Xat", ""),
+        ("an entry twice", "cat,.N\ncat,.N", "cat", "[cat,.N]"),
+        ("two entries", "cat,.V\ncat,.N", "cat", "[cat,.V][cat,.N]"),
+        ("a longer form", "cats,.N", "cat", ""),
+        ("a shorter form", "cat,.N", "cats", ""),
+        ("forms alike", ALIKE, "internatio", "[internatio,.b]"),
+        ("no entry", "", "cat", ""),
+        ("no text", "cat,.N", "", ""),
+    ];
+    for row in ROWS {
+        check_fitting(&rt, rt.alloc(), row)?;
+    }
+    Ok(())
+}
+
+#[test]
+fn forms_may_begin(rt: HostRuntime) -> Result<(), Fail> {
+    const ROWS: &[Begun] = &[
+        ("the front of a form", "the cat,.N", "The c", true),
+        ("a whole form", "the cat,.N", "the cat", true),
+        ("more than a form", "the cat,.N", "the cats", false),
+        ("a capital of the form", "The,.N", "the", false),
+        ("no text", "cat,.N", "", true),
+        ("no entry", "", "", false),
+    ];
+    for row in ROWS {
+        check_begun(&rt, rt.alloc(), row)?;
+    }
+    Ok(())
+}
+
+#[test]
+fn entries_are_counted(rt: HostRuntime) -> Result<(), Fail> {
+    const LINES: &str = "the,.a\nthe,.b\nThe,.c";
+    const ROWS: &[Counts] = &[
+        ("two entries of a form", LINES, "the", Some(2), 3, 3),
+        ("another case", LINES, "THE", None, 3, 3),
+        ("a front", LINES, "th", None, 3, 3),
+        ("an entry twice", "cat,.N\ncat,.N", "cat", Some(1), 3, 1),
+        ("an accent", "été,.N\nat,.N", "été", Some(1), 3, 2),
+        ("no entry", "", "", None, 0, 0),
+    ];
+    for row in ROWS {
+        check_counts(&rt, rt.alloc(), row)?;
+    }
+    Ok(())
+}
+
+#[test]
+fn a_long_form_is_found(rt: HostRuntime) -> Result<(), Fail> {
+    let alloc = rt.alloc();
+    let alphabet = Alphabet::read(alloc, PAIRS)?;
+    let mut line = repeated(alloc, 'a', 10000)?;
+    line.push_str(",.N")?;
+    let lexicon = lexicon(alloc, line.as_str())?;
+    let lower = repeated(alloc, 'a', 10000)?;
+    let upper = repeated(alloc, 'A', 10000)?;
+    assert_eq!(rt; lexicon.longest(), 10000);
+    assert_eq!(rt; lexicon.exact(lower.as_str()), Some(1));
+    assert_eq!(rt; lexicon.fitting(alloc, lower.as_str(), &alphabet)?.len(), 1);
+    assert_eq!(rt; lexicon.fitting(alloc, upper.as_str(), &alphabet)?.len(), 1);
+    Ok(())
+}
+
+#[test]
+fn equal_entries_stand_once(rt: HostRuntime) -> Result<(), Fail> {
+    let entries = read_delaf(rt.alloc(), "b,.N\na,.N\nb,.N\nb,.V")?;
+    let once = different(rt.alloc(), entries)?;
+    let lines = printed(rt.alloc(), &once)?;
+    compare(
+        &rt,
+        lines.as_str(),
+        "[b,.N][a,.N][b,.V]",
+        "each at its first place",
+    );
+    Ok(())
+}

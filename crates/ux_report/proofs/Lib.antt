@@ -1,0 +1,4 @@
+pub mod LinesLemmas
+pub mod PlacesLemmas
+pub mod ApplyingLemmas
+pub mod ReportLemmas

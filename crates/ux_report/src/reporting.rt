@@ -1,0 +1,83 @@
+//! The report as text: three sections, each with its lines.
+
+ghost use Rattle.std.specs.Prelude.{◌≡◌, ◌++◌, IfOk, OnOk, string_bytes};
+ghost use Rattle.std.specs.List.{flat_map};
+ghost use Rattle.ux_tokens.specs.TokenFile.{file_of, line_of};
+ghost use Rattle.ux_report.specs.Report.{AreTablesOf, IsReport, report_of, section};
+
+use crate::lines::{Lines, compound_lines, lines_ascend, simple_lines, unknown_lines};
+use crate::words::word_places;
+use std::alloc::{AllocError, Global};
+use ux_apply::Applied;
+use ux_base::Mem;
+use ux_tokens::Text;
+
+/// The report on the entries that apply to the text: a section of simple entries, one of compound
+/// entries and one of unknown words, each line once. Asks each different word once.
+pub fn report(alloc: Global, text: &Text, applied: &Applied) -> Mem<String>
+    // `applied` was made of this text.
+    requires { AreTablesOf text.now applied.now }
+    ensures { IfOk result (λ report. IsReport text.now applied.now (string_bytes report)) }
+{
+    let places = word_places(alloc, text)?;
+    let simple = simple_lines(alloc, applied, &places)?;
+    let compound = compound_lines(alloc, applied, text.len())?;
+    let unknown = unknown_lines(alloc, text, applied, &places)?;
+    lines_ascend(&simple);
+    lines_ascend(&compound);
+    lines_ascend(&unknown);
+    Ok(print_report(alloc, &simple, &compound, &unknown)?)
+}
+
+/// The three sections, one behind the other.
+fn print_report(
+    alloc: Global,
+    simple: &Lines,
+    compound: &Lines,
+    unknown: &Lines,
+) -> Result<String, AllocError>
+    ensures { IfOk result (λ report.
+        string_bytes report ≡ report_of simple.now.keys compound.now.keys unknown.now.keys) }
+{
+    let mut report = String::new(alloc);
+    put_section(&mut report, alloc, "#DLF ", simple)?;
+    put_section(&mut report, alloc, "#DLC ", compound)?;
+    put_section(&mut report, alloc, "#ERR ", unknown)?;
+    Ok(report)
+}
+
+/// Puts a section last.
+fn put_section(
+    report: &mut String,
+    alloc: Global,
+    name: &str,
+    lines: &Lines,
+) -> Result<(), AllocError>
+    ensures { OnOk result (string_bytes report.new
+        ≡ string_bytes report.old ++ section name.now lines.now.keys) }
+{
+    report.push_str(name)?;
+    put_file(report, alloc, lines)
+}
+
+/// Puts the number of the lines and then each of them last.
+fn put_file(report: &mut String, alloc: Global, lines: &Lines) -> Result<(), AllocError>
+    ensures { OnOk result (string_bytes report.new
+        ≡ string_bytes report.old ++ file_of lines.now.keys) }
+{
+    let count = format!(in alloc; "{}\n", lines.len())?;
+    report.push_str(count.as_str())?;
+    put_lines(report, lines)
+}
+
+/// Puts the lines last, each with a line feed.
+fn put_lines(report: &mut String, lines: &Lines) -> Result<(), AllocError>
+    ensures { OnOk result (string_bytes report.new
+        ≡ string_bytes report.old ++ flat_map line_of lines.now.keys) }
+{
+    for line in lines {
+        report.push_str(line.as_str())?;
+        report.push('\n')?;
+    }
+    Ok(())
+}

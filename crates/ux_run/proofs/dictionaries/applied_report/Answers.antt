@@ -1,0 +1,25 @@
+use Rattle.std.proofs.Common.{◌≡◌, List, String, Global, string_bytes, subst}
+use Rattle.std.proofs.lemmas.List.{map-id}
+use Rattle.std.proofs.lemmas.Result.{IfOk-weaker}
+use Rattle.ux_dela.specs.declared.entry.Entry.{Entry}
+use Rattle.ux_apply.specs.declared.priority.Priority.{Priority}
+use Rattle.ux_apply.specs.Applying.{contents}
+use Rattle.ux_apply.specs.Tables.{AreApplied, Tables}
+use Rattle.ux_report.specs.Report.{IsReport}
+use Rattle.ux_run.proofs.dictionaries.applied_report.Goals as goal
+
+-- the dictionaries are seen as their contents
+pub returns : goal.returns
+returns c =
+    let lines = c.args.alphabet.now in
+    let tokens = c.args.text.now in
+    let applied = c.in_ok-applied.applied in
+    let dics : List (Priority × List Entry) = c.args.dics.now in
+    let same : contents (λ (content : List Entry). content) dics ≡ dics = map-id dics in
+    let are = subst (λ (l : List (Priority × List Entry)). AreApplied lines l tokens applied) same
+    c.in_ok-applied.ensures in
+    IfOk-weaker c.report.result
+    (λ (report : String Global). IsReport tokens applied (string_bytes report))
+    (λ (report : String Global). (tables : Tables) × AreApplied lines dics tokens tables
+    × IsReport tokens tables (string_bytes report))
+    (λ report is. (applied, are, is)) c.report.ensures

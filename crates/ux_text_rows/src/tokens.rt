@@ -1,0 +1,191 @@
+//! Rows of texts with their tokens.
+
+use std::alloc::{AllocError, Global};
+use std::process::Abort;
+use std::test::Fail;
+use ux_alphabet::Alphabet;
+use ux_dela::print_delaf;
+use ux_tokens::{Text, TextError, print_tokens, token_file_of};
+
+/// Reads a text over the letters from a to z.
+fn read(alloc: Global, text: &str) -> Result<Result<Text, TextError>, Fail> {
+    let alphabet = Alphabet::read(alloc, "#AZ\n#az\n")?;
+    let text = String::from_str(alloc, text)?;
+    Ok(Text::read(alloc, text, &alphabet))
+}
+
+/// Each token as its kind, its number and its text.
+fn listed(alloc: Global, text: &Text) -> Result<String, AllocError> {
+    let mut out = String::new(alloc);
+    for i in 0..text.len() {
+        let token = format!(in alloc; "{:?}{}[{}]", text.kind(i), text.number(i), text.token(i))?;
+        out.push_str(&token)?;
+    }
+    Ok(out)
+}
+
+/// A name, a text, and its tokens.
+type Row = (&'static str, &'static str, &'static str);
+
+fn compare(rt: &impl Abort, got: &str, row: &Row) {
+    assert_eq!(rt; got, row.2, "{}", row.0);
+}
+
+fn check(rt: &impl Abort, alloc: Global, row: &Row) -> Result<(), Fail> {
+    let tokens = read(alloc, row.1)??;
+    let got = listed(alloc, &tokens)?;
+    compare(rt, got.as_str(), row);
+    Ok(())
+}
+
+#[test]
+fn cuts_words_spaces_and_others(rt: HostRuntime) -> Result<(), Fail> {
+    const ROWS: &[Row] = &[
+        ("nothing", "", ""),
+        (
+            "a sentence",
+            "The cat sat.",
+            "Word0[The]Space1[ ]Word2[cat]Space1[ ]Word3[sat]Other4[.]",
+        ),
+        (
+            "runs of white space",
+            "a  b\ta",
+            "Word0[a]Space1[ ]Word2[b]Space1[ ]Word0[a]",
+        ),
+        ("a line end", "a\r\nb", "Word0[a]Space1[ ]Word2[b]"),
+        ("a space in front", " a", "Space0[ ]Word1[a]"),
+        ("a space behind", "a ", "Word0[a]Space1[ ]"),
+        ("digits", "12 3", "Other0[1]Other1[2]Space2[ ]Other3[3]"),
+        (
+            "a character that is no letter here",
+            "né",
+            "Word0[n]Other1[é]",
+        ),
+        ("letters of both cases", "A a", "Word0[A]Space1[ ]Word2[a]"),
+        (
+            "marks beside letters and digits",
+            "a{S}b{STOP}1{S}S",
+            "Word0[a]Sentence1[{S}]Word2[b]Stop3[{STOP}]Other4[1]Sentence1[{S}]Word5[S]",
+        ),
+        ("marks alone", "{STOP}{S}", "Stop0[{STOP}]Sentence1[{S}]"),
+        (
+            "marks between spaces, and a closing brace",
+            " {S}\n}",
+            "Space0[ ]Sentence1[{S}]Space0[ ]Other2[}]",
+        ),
+    ];
+    for row in ROWS {
+        check(&rt, rt.alloc(), row)?;
+    }
+    Ok(())
+}
+
+#[test]
+fn takes_a_brace_for_a_tag_or_a_character(rt: HostRuntime) -> Result<(), Fail> {
+    const ROWS: &[Row] = &[
+        ("an open brace", "{S", "Other0[{]Word1[S]"),
+        (
+            "no dot",
+            "{x,y}",
+            "Other0[{]Word1[x]Other2[,]Word3[y]Other4[}]",
+        ),
+        (
+            "a tag behind a word",
+            "I {am,be.V:P1s}",
+            "Word0[I]Space1[ ]Tag2[{am,be.V:P1s}]",
+        ),
+        (
+            "a form that isn't all letters",
+            "{a-b 3,.N}",
+            "Tag0[{a-b 3,.N}]",
+        ),
+        (
+            "a tag inside a word",
+            "a{b,.N}c",
+            "Word0[a]Tag1[{b,.N}]Word2[c]",
+        ),
+        ("a backslash in front", "\\{a,.N}", "Other0[\\]Tag1[{a,.N}]"),
+        (
+            "a comment",
+            "{a,.N/}",
+            "Other0[{]Word1[a]Other2[,]Other3[.]Word4[N]Other5[/]Other6[}]",
+        ),
+        (
+            "a line that is skipped",
+            "{/a,.N}",
+            "Other0[{]Other1[/]Word2[a]Other3[,]Other4[.]Word5[N]Other6[}]",
+        ),
+        ("a protected slash", "{\\/a,.N}", "Tag0[{\\/a,.N}]"),
+        ("a protected brace", "{a\\},.N}", "Tag0[{a\\},.N}]"),
+        ("two equal tags", "{a,.N}{a,.N}", "Tag0[{a,.N}]Tag0[{a,.N}]"),
+        (
+            "a tag in what is none",
+            "{=\\{b,.N}",
+            "Other0[{]Other1[=]Other2[\\]Tag3[{b,.N}]",
+        ),
+        ("a brace before a mark", "{{S}", "Other0[{]Sentence1[{S}]"),
+        (
+            "an open brace before a mark",
+            "{S{STOP}",
+            "Other0[{]Word1[S]Stop2[{STOP}]",
+        ),
+        (
+            "a mark with a space",
+            "{ S}",
+            "Other0[{]Space1[ ]Word2[S]Other3[}]",
+        ),
+    ];
+    for row in ROWS {
+        check(&rt, rt.alloc(), row)?;
+    }
+    Ok(())
+}
+
+#[test]
+fn cuts_many_protected_braces(rt: HostRuntime) -> Result<(), Fail> {
+    let mut braces = String::new(rt.alloc());
+    for _ in 0..200 {
+        braces.push_str("\\{")?;
+    }
+    let text = read(rt.alloc(), &braces)??;
+    assert_eq!(rt; text.len(), 400);
+    assert_eq!(rt; text.different(), 2);
+    Ok(())
+}
+
+#[test]
+fn tells_the_entry_of_a_tag(rt: HostRuntime) -> Result<(), Fail> {
+    let text = read(rt.alloc(), "I {am,be.V+x:P1s}")??;
+    assert_eq!(rt; text.len(), 3);
+    assert!(rt; text.tag(0).is_none());
+    match text.tag(2) {
+        Some(entry) => {
+            let line = print_delaf(rt.alloc(), entry)?;
+            assert_eq!(rt; line.as_str(), "am,be.V+x:P1s");
+        }
+        None => assert!(rt; false),
+    }
+    Ok(())
+}
+
+#[test]
+fn joins_neighbours_and_counts_different_tokens(rt: HostRuntime) -> Result<(), Fail> {
+    let text = read(rt.alloc(), "the  cat, the dog")??;
+    assert_eq!(rt; text.len(), 8);
+    assert_eq!(rt; text.slice(2, 5), "cat, the");
+    assert_eq!(rt; text.different(), 5);
+    Ok(())
+}
+
+#[test]
+fn prints_the_token_file(rt: HostRuntime) -> Result<(), Fail> {
+    const WANT: &str = "4\na\n \n{S}\nb\n";
+    let alloc = rt.alloc();
+    let text = read(alloc, "a  {S}b\ta{S}")??;
+    let file = print_tokens(alloc, &text)?;
+    assert_eq!(rt; file.as_str(), WANT);
+    let alphabet = Alphabet::read(alloc, "#az\n")?;
+    let file = token_file_of(alloc, String::from_str(alloc, "a  {S}b\ta{S}")?, &alphabet)?;
+    assert_eq!(rt; file.as_str(), WANT);
+    Ok(())
+}
