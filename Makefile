@@ -1,6 +1,7 @@
-# `make example` proves and builds the program, searches the text of examples/ by its graphs, and checks its dictionary.
+# `make example` proves and builds the program, searches the text of examples/ by its graphs, checks its dictionary, and
+# applies it to another text.
 # `make install PREFIX=DIR` puts the built program and its manual page under DIR.
-# `make bench` times searches beside GNU grep, the tokens of a text beside a C program, and dictionaries beside wc.
+# `make bench` times searches beside GNU grep, the tokens of a text beside a C program, and dictionaries beside wc and grep.
 
 PREFIX ?= /usr/local
 
@@ -9,6 +10,7 @@ PREFIX ?= /usr/local
 example:
 	@cd crates/unitex && rt run -- locate ../../examples/time.grf ../../examples/text.txt ../../examples/alphabet.txt
 	@crates/unitex/out/unitex check examples/animals.dic
+	@crates/unitex/out/unitex dico examples/animals.txt examples/alphabet.txt examples/animals.dic
 
 install:
 	@test -x crates/unitex/out/unitex || { echo 'build the program first: make example' >&2; exit 1; }
@@ -20,6 +22,7 @@ bench:
 	@bench/grammars.py
 	@bench/tokenize.py
 	@bench/check.py
+	@bench/dico.py
 
 gate:
 	@rt ci

@@ -1,0 +1,96 @@
+#!/usr/bin/env python3
+"""Times `unitex dico` with generated dictionaries of 150,000 and 300,000 lines, a third of them compounds, over texts of
+2 and 4 MB, beside `grep -o -w -F -f` with the forms alone over the same text. Prints the best of three runs in turn, and
+peak memory by the size of the two files.
+
+Needs the built program (make example) and a folder to write to (bench/data).
+"""
+import os
+import random
+import sys
+import time
+
+HERE = os.path.dirname(os.path.abspath(__file__))
+PROGRAM = os.path.join(HERE, "..", "crates", "unitex", "out", "unitex")
+DATA = os.path.join(HERE, "data")
+RUNS = 3
+CODES = [".N+Conc:ms", ".N+Hum:fs:fp", ".V+t:P3s", ".A:mp", ".ADV"]
+ALPHABET = "".join(f"{c.upper()}{c}\n" for c in "abcdefghijklmnopqrstuvwxyz")
+
+
+def words(draw, size):
+    """Different words, the first of them the most common ones."""
+    seen = {}
+    while len(seen) < size:
+        seen["".join(draw.choice("bcdfglmnprst") + draw.choice("aeiou") for _ in range(draw.randint(2, 5)))] = None
+    return list(seen)
+
+
+def data(size):
+    """The paths of a dictionary of so many lines, of its forms and of a text."""
+    draw = random.Random(20261127)
+    simple = words(draw, size - size // 3)
+    compounds = {}
+    while len(compounds) < size // 3:
+        compounds[f"{draw.choice(simple)} {draw.choice(simple)}"] = None
+    compounds = list(compounds)
+    forms = simple + compounds
+    paths = [os.path.join(DATA, f"dico{size}{end}") for end in (".dic", ".forms", ".txt")]
+    with open(paths[0], "w", encoding="utf-8") as file:
+        file.writelines(f"{form},{draw.choice(CODES)}\n" for form in sorted(forms))
+    with open(paths[1], "w", encoding="utf-8") as file:
+        file.writelines(f"{form}\n" for form in forms)
+    length, lines = 0, []
+    while length < size * 40 // 3:
+        line = " ".join(one(draw, simple, compounds) for _ in range(12)) + draw.choice(["", ",", "."])
+        lines.append(line)
+        length += len(line) + 1
+    with open(paths[2], "w", encoding="utf-8") as file:
+        file.writelines(f"{line}\n" for line in lines)
+    return paths
+
+
+def one(draw, simple, compounds):
+    """A word of the text: a compound now and then, else a word, the first ones more often; some capitalised."""
+    if draw.random() < 0.03:
+        return draw.choice(compounds)
+    form = simple[int(len(simple) * draw.random() ** 3)]
+    return form.capitalize() if draw.random() < 0.05 else form
+
+
+def run(arguments, locale):
+    """The seconds, and the peak of resident memory in bytes, of one run."""
+    begun = time.perf_counter()
+    child = os.fork()
+    if child == 0:
+        os.environ["LC_ALL"] = locale
+        os.dup2(os.open(os.devnull, os.O_WRONLY), 1)
+        os.execvp(arguments[0], arguments)
+    _, status, usage = os.wait4(child, 0)
+    if os.waitstatus_to_exitcode(status) != 0:
+        sys.exit(f"{arguments[0]} failed with {status}")
+    return time.perf_counter() - begun, usage.ru_maxrss * 1024
+
+
+def main():
+    os.makedirs(DATA, exist_ok=True)
+    letters = os.path.join(DATA, "letters.txt")
+    with open(letters, "w", encoding="utf-8") as file:
+        file.write(ALPHABET)
+    for size in [150_000, 300_000]:
+        dictionary, forms, text = data(size)
+        both = os.path.getsize(dictionary) + os.path.getsize(text)
+        print(f"{size} lines, a text of {os.path.getsize(text) / 1e6:.1f} MB, both {both / 1e6:.1f} MB")
+        programs = [
+            ("unitex dico", [PROGRAM, "dico", text, letters, dictionary], "C.UTF-8"),
+            ("grep, UTF-8", ["grep", "-o", "-w", "-F", "-f", forms, text], "C.UTF-8"),
+            ("grep, bytes", ["grep", "-o", "-w", "-F", "-f", forms, text], "C"),
+        ]
+        runs = [[run(arguments, locale) for _, arguments, locale in programs] for _ in range(RUNS)]
+        for number, (name, _, _) in enumerate(programs):
+            seconds = min(row[number][0] for row in runs)
+            memory = max(row[number][1] for row in runs)
+            print(f"  {name:12}  {seconds:.3f} s  {memory / 1e6:.1f} MB  {memory / both:.1f} of the two files")
+
+
+main()
