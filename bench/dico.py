@@ -64,7 +64,8 @@ def run(arguments, locale):
     child = os.fork()
     if child == 0:
         os.environ["LC_ALL"] = locale
-        os.dup2(os.open(os.devnull, os.O_WRONLY), 1)
+        # To a file: grep stops at its first match where its output is thrown away.
+        os.dup2(os.open(os.path.join(DATA, "out.txt"), os.O_WRONLY | os.O_CREAT | os.O_TRUNC), 1)
         os.execvp(arguments[0], arguments)
     _, status, usage = os.wait4(child, 0)
     if os.waitstatus_to_exitcode(status) != 0:
