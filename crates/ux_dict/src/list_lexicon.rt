@@ -149,10 +149,12 @@ fn whole_forms(alloc: Global, parts: &[Part<'_>]) -> Result<Vec<Entry>, AllocErr
     Ok(found)
 }
 
-/// Puts copies of the entries last.
+/// Puts copies of the entries last. Takes the room that they need and no more, since mostly there is
+/// one alone.
 fn push_copies(found: &mut Vec<Entry>, entries: &[Entry]) -> Result<(), AllocError>
     ensures { OnOk result (found.new.items ≡ found.old.items ++ entries.now) }
 {
+    found.reserve_exact(entries.len())?;
     for entry in entries {
         found.push(entry.copy()?)?;
     }
