@@ -149,8 +149,7 @@ fn whole_forms(alloc: Global, parts: &[Part<'_>]) -> Result<Vec<Entry>, AllocErr
     Ok(found)
 }
 
-/// Puts copies of the entries last. Takes the room that they need and no more, since mostly there is
-/// one alone.
+/// Puts copies of the entries last. Takes no more room than they need, since mostly there is one.
 fn push_copies(found: &mut Vec<Entry>, entries: &[Entry]) -> Result<(), AllocError>
     ensures { OnOk result (found.new.items ≡ found.old.items ++ entries.now) }
 {

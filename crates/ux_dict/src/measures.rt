@@ -24,7 +24,7 @@ fn letter_set(alloc: Global, entries: &[Entry]) -> Result<BTreeSet<char>, AllocE
     ensures { IfOk result (λ set. All (IsSpelled set.keys) entries.now) }
 {
     let mut set = BTreeSet::new(alloc);
-    // By code point, which characters the set has: forms have few, and most of them again and again.
+    // By code point, which characters the set has: forms have few, most of them again and again.
     let mut marks = Vec::new(alloc);
     for entry in entries {
         put_letters(&mut set, &mut marks, entry.form.as_str())?;
