@@ -6,13 +6,12 @@ ghost use Rattle.std.specs.Str.{chars};
 ghost use Rattle.ux_dict.specs.Forms.{longest_of};
 ghost use Rattle.ux_dict.specs.Kept.{AreMarksOf, IsSpelled};
 
+use crate::stored::Stored;
 use std::alloc::{AllocError, Global};
 use std::collections::BTreeSet;
-use ux_base::Txt;
-use ux_dela::Entry;
 
 /// The different characters of all forms, in order. Takes a step a character.
-pub(crate) fn letters_of(alloc: Global, entries: &[Entry]) -> Result<Vec<char>, AllocError>
+pub(crate) fn letters_of(alloc: Global, entries: &[Stored]) -> Result<Vec<char>, AllocError>
     ensures increasing { IfOk result (λ letters. IsStrictlyIncreasing letters.items) }
     ensures spelled { IfOk result (λ letters. All (IsSpelled letters.items) entries.now) }
 {
@@ -20,14 +19,14 @@ pub(crate) fn letters_of(alloc: Global, entries: &[Entry]) -> Result<Vec<char>, 
     letters_in(alloc, set)
 }
 
-fn letter_set(alloc: Global, entries: &[Entry]) -> Result<BTreeSet<char>, AllocError>
+fn letter_set(alloc: Global, entries: &[Stored]) -> Result<BTreeSet<char>, AllocError>
     ensures { IfOk result (λ set. All (IsSpelled set.keys) entries.now) }
 {
     let mut set = BTreeSet::new(alloc);
     // By code point, which characters the set has: forms have few, most of them again and again.
     let mut marks = Vec::new(alloc);
     for entry in entries {
-        put_letters(&mut set, &mut marks, entry.form.as_str())?;
+        put_letters(&mut set, &mut marks, entry.form())?;
     }
     Ok(set)
 }
@@ -100,18 +99,18 @@ fn letters_in(alloc: Global, set: BTreeSet<char>) -> Result<Vec<char>, AllocErro
 }
 
 /// The length in characters of the longest form, 0 where there is none. Takes a step a character.
-pub(crate) fn longest_form(entries: &[Entry]) -> usize
+pub(crate) fn longest_form(entries: &[Stored]) -> usize
     ensures { result ≡ longest_of entries.now }
 {
     let mut longest = 0;
     for entry in entries {
-        longest = char_count(&entry.form).max(longest);
+        longest = char_count(entry.form()).max(longest);
     }
     longest
 }
 
-fn char_count(form: &Txt) -> usize
+fn char_count(form: &str) -> usize
     ensures { result ≡ length (chars form.now) }
 {
-    form.as_str().chars().count()
+    form.chars().count()
 }

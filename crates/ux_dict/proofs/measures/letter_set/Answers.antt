@@ -9,8 +9,8 @@ use Rattle.ux_dict.proofs.measures.letter_set.Goals as goal
 pub loop-entry-preserved : goal.loop-entry-preserved
 loop-entry-preserved c = record {
   spelled = spelled_more c.args.entries.now c.loop-entry.entry-index c.entry-item.result
-      c.loop-entry.set.keys c.put_letters.new.set.keys c.as_str.result.now (omega arith)
-      c.entry-item.is c.as_str.ensures c.as_str.utf8 c.in_ok-put_letters.ensures.kept
+      c.loop-entry.set.keys c.put_letters.new.set.keys c.form.result.now (omega arith)
+      c.entry-item.is c.form.ensures c.form.utf8 c.in_ok-put_letters.ensures.kept
       c.in_ok-put_letters.ensures.put c.loop-entry.invariant.spelled;
   marks = c.in_ok-put_letters.ensures.marks;
 }
