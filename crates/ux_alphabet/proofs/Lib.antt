@@ -4,3 +4,4 @@ pub mod FileLemmas
 pub mod PairLemmas
 pub mod SpanLemmas
 pub mod TableLemmas
+pub mod UpperFormLemmas

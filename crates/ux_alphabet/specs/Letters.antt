@@ -37,3 +37,7 @@ IsLetter lines c = IsUpper lines c ⊎ IsLower lines c
 -- of the entry's
 abbrev pub Fits : List Line → (entry text : ℕ) → Type 0
 Fits lines entry text = (entry ≡ text) ⊎ Contains lines (Pair text entry)
+
+-- no other character of an entry fits the character of a text
+abbrev pub FitsAlone : List Line → ℕ → Type 0
+FitsAlone lines text = (entry : ℕ) → Fits lines entry text → entry ≡ text

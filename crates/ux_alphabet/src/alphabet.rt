@@ -2,7 +2,7 @@
 
 ghost use Rattle.std.specs.Prelude.{◌≡◌, ◌↔◌, ◌⊎◌, IsTrue, IfOk, IfErr, Ok, Err, []};
 ghost use Rattle.ux_alphabet.specs.File.{alphabet_of};
-ghost use Rattle.ux_alphabet.specs.Letters.{IsLetter, IsUpper, IsLower, Fits};
+ghost use Rattle.ux_alphabet.specs.Letters.{IsLetter, IsUpper, IsLower, Fits, FitsAlone};
 ghost use Rattle.ux_alphabet.specs.declared.error.AlphabetError.TheVariants.{NoMemory};
 
 use crate::error::AlphabetError;
@@ -88,6 +88,17 @@ impl Alphabet {
         match &self.tables {
             Some(tables) => tables.has_pair(text, entry),
             None => false,
+        }
+    }
+
+    /// Whether the character of a text is fitted by itself alone: no other character of an entry
+    /// fits it.
+    pub fn fits_alone(&self, c: char) -> bool
+        ensures { IsTrue result ↔ FitsAlone self.now c }
+    {
+        match &self.tables {
+            Some(tables) => tables.fits_alone(c),
+            None => true,
         }
     }
 }

@@ -2,8 +2,9 @@
 //!
 //! Begin with `alphabet`: `Alphabet::read` reads the file's text, and its other calls answer for
 //! one character or two. What the lines of a file say stands in `specs/Letters.antt`, how they are
-//! read in `specs/File.antt`. Inside, `reading` makes the list of lines, `spans` and `pairs` make
-//! tables of it, and `tables` keeps them, so that a question about a character is a look-up.
+//! read in `specs/File.antt`. Inside, `reading` makes the list of lines, `spans`, `upper_forms` and
+//! `pairs` make tables of it, and `tables` keeps them, so that a question about a character is a
+//! look-up.
 //!
 //! ```text
 //! let alphabet = Alphabet::read(rt.alloc(), "Tt\nÉe\n")?;
@@ -19,6 +20,7 @@ mod pairs;
 mod reading;
 mod spans;
 mod tables;
+mod upper_forms;
 
 pub use alphabet::Alphabet;
 pub use error::AlphabetError;

@@ -1,13 +1,14 @@
 //! The tables of an alphabet, by which a question about a character is a look-up.
 
 ghost use Rattle.std.specs.Prelude.{◌≡◌, ◌↔◌, ◌⊎◌, ℕ, false, Any, IsTrue, IfOk, Contains, slice_index_or};
-ghost use Rattle.ux_alphabet.specs.Letters.{NamesUpper, NamesLower, IsUpper, IsLower, IsLetter};
+ghost use Rattle.ux_alphabet.specs.Letters.{NamesUpper, NamesLower, IsUpper, IsLower, IsLetter, FitsAlone};
 ghost use Rattle.ux_alphabet.specs.Tables.{IsEither};
 ghost use Rattle.ux_alphabet.specs.declared.line.Line.TheVariants.{Pair};
 
 use crate::line::Line;
 use crate::pairs::{Pairs, has_pair, pairs_of};
 use crate::spans::{is_marked, is_never_letter, lower_spans, table_of, upper_spans};
+use crate::upper_forms::upper_form_table;
 use std::alloc::{AllocError, Global};
 use std::marker::Model;
 
@@ -21,6 +22,9 @@ pub(crate) struct Tables {
     lower: Vec<bool>,
     /// The same of letters of either case, so that the most frequent question is one look-up.
     letter: Vec<bool>,
+    /// By code point, whether the character is an upper-case form of another one; white space and
+    /// braces may be, and are no letters all the same.
+    upper_forms: Vec<bool>,
     pairs: Pairs,
 }
 
@@ -35,7 +39,7 @@ impl Model for Tables {
     ghost use Rattle.ux_alphabet.specs.Tables.{AreTablesOf};
 
     ghost invariant = { λ t. AreTablesOf t.lines.items t.upper.items t.lower.items t.letter.items
-        t.pairs.keys };
+        t.upper_forms.items t.pairs.keys };
 }
 
 impl Tables {
@@ -46,12 +50,14 @@ impl Tables {
         let upper = upper_table(alloc, &lines)?;
         let lower = lower_table(alloc, &lines)?;
         let letter = either_table(alloc, &upper, &lower)?;
+        let upper_forms = upper_form_table(alloc, &lines)?;
         let pairs = pairs_of(alloc, &lines)?;
         Ok(Tables {
             lines,
             upper,
             lower,
             letter,
+            upper_forms,
             pairs,
         })
     }
@@ -82,6 +88,13 @@ impl Tables {
         ensures { IsTrue result ↔ Contains self.now (Pair upper lower) }
     {
         self.may_be_pair(upper, lower) && has_pair(&self.pairs, upper, lower)
+    }
+
+    /// Whether no other character fits this one of a text.
+    pub(crate) fn fits_alone(&self, c: char) -> bool
+        ensures { IsTrue result ↔ FitsAlone self.now c }
+    {
+        !is_marked(&self.upper_forms, c as usize)
     }
 
     /// Whether the letters leave it open that one line is this pair.

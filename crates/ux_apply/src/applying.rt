@@ -84,6 +84,11 @@ fn push_fitting<L: Lexicon>(
         entries.old.items entries.new.items) }
 {
     let mut more = lexicon.fitting(alloc, text, alphabet)?;
+    if entries.is_empty() {
+        // Mostly one dictionary alone has any: its list serves as it is, with no room beyond.
+        *entries = more;
+        return Ok(());
+    }
     entries.append(&mut more)?;
     Ok(())
 }

@@ -47,17 +47,18 @@ pub(crate) fn compounds<L: Lexicon>(
     Ok(rows)
 }
 
-/// Keeps the row, if it isn't empty.
+/// Keeps the row, with no room beyond it, if it isn't empty.
 pub(crate) fn put_row<T: Drop>(
     rows: &mut BTreeMap<usize, Vec<T>>,
     first: usize,
-    row: Vec<T>,
+    mut row: Vec<T>,
 ) -> Mem<()>
     ensures here { OnOk result (row_of rows.old first ≡ [] → row_of rows.new first ≡ row.items) }
     ensures others { OnOk result ((other : ℕ) → other ≢ first →
         row_of rows.new other ≡ row_of rows.old other) }
 {
     if !row.is_empty() {
+        row.shrink_to_fit();
         rows.insert(first, row)?;
     }
     Ok(())

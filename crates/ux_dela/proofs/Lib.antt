@@ -2,6 +2,7 @@ pub mod CharactersLemmas
 pub mod ClassLemmas
 pub mod CodesLemmas
 pub mod CodesTextLemmas
+pub mod CountLemmas
 pub mod CutLemmas
 pub mod ExclusionLemmas
 pub mod FileLemmas

@@ -1,5 +1,5 @@
 -- How a dictionary file is read: each line by itself, up to the first one that is refused.
-use Rattle.std.specs.Prelude.{ℕ, ◌+◌, List, [], ◌∷◌, ◌++◌}
+use Rattle.std.specs.Prelude.{◌≡◌, ℕ, ◌+◌, List, [], ◌∷◌, ◌++◌, length}
 use Rattle.ux_base.specs.Lines.{lines_of}
 use Rattle.ux_dela.specs.declared.entry.Entry.{Entry}
 use Rattle.ux_dela.specs.declared.entry.Stem.{Stem}
@@ -38,3 +38,18 @@ AreStems text stems = AreSaid DelasSays (lines_of text) stems
 -- why a file of lemmas is refused
 abbrev pub RefusesStems : List ℕ → DelaError → Type 0
 RefusesStems text error = IsRefused DelasSays RefusesDelas 1 (lines_of text) error
+
+-- so many are said by the text, equal ones each time
+pub record HasCount {T : Type 0} (AreOf : List ℕ → List T → Type 0) (text : List ℕ) (count : ℕ) :
+    Type 0 where
+  pub said : List T
+  pub are : AreOf text said
+  pub is : count ≡ length said
+
+-- the number of entries of a file of forms
+abbrev pub IsEntryCount : List ℕ → ℕ → Type 0
+IsEntryCount text count = HasCount AreEntries text count
+
+-- the number of lemmas of a file of lemmas
+abbrev pub IsStemCount : List ℕ → ℕ → Type 0
+IsStemCount text count = HasCount AreStems text count

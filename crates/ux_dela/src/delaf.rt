@@ -62,7 +62,7 @@ fn read_entries(alloc: Global, text: &str) -> Result<Vec<Entry>, DelaError>
 }
 
 /// Puts the entries of the line behind the others.
-fn read_line(
+pub(crate) fn read_line(
     alloc: Global,
     line: &str,
     number: usize,

@@ -60,7 +60,7 @@ fn read_stems(alloc: Global, text: &str) -> Result<Vec<Stem>, DelaError>
 }
 
 /// Puts the stem of the line behind the others.
-fn read_line(
+pub(crate) fn read_line(
     alloc: Global,
     line: &str,
     number: usize,

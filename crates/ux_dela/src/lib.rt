@@ -1,9 +1,10 @@
 //! Dictionary lines in the formats DELAF and DELAS, and the bodies of tags.
 //!
 //! Begin with `delaf`, which reads files of inflected forms, and `delas`, which reads files of
-//! lemmas with their classes. `tag` reads what stands between a tag's braces, and `printing` prints
-//! entries and codes. What lines say stands in `specs/Delaf.antt` and `specs/Delas.antt`: a line is
-//! the joining of its parts, each character of which is bare or behind a backslash. Inside, `part`
+//! lemmas with their classes; `counting` counts what they would read. `tag` reads what stands between
+//! a tag's braces, and `printing` prints entries and codes. What lines say stands in
+//! `specs/Delaf.antt` and `specs/Delas.antt`: a line is the joining of its parts, each character of
+//! which is bare or behind a backslash. Inside, `part`
 //! cuts a text at the sign that ends a part, `plain` takes backslashes off, and `codes` reads lists.
 //!
 //! ```text
@@ -13,6 +14,7 @@
 #![tactic(auto)]
 
 mod codes;
+pub mod counting;
 pub mod delaf;
 pub mod delas;
 pub mod entry;
@@ -22,6 +24,7 @@ mod plain;
 pub mod printing;
 pub mod tag;
 
+pub use counting::{count_delaf, count_delas};
 pub use delaf::read_delaf;
 pub use delas::read_delas;
 pub use entry::{Codes, Entry, Stem};

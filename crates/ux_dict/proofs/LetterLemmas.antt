@@ -1,6 +1,6 @@
--- A set of characters that grows by one character at a time.
-use Rattle.std.proofs.Common.{◌≡◌, ℕ, ◌↔◌, ◌<◌, ◌+◌, List, [], ◌∷◌, ◌++◌, take, length, get_or, refl, ◌∙◌, ap, subst, Bool, true, false, cond}
-use Rattle.std.specs.Prelude.{All, Contains, IsUtf8}
+-- A set of characters that grows by one character at a time, and a table that marks them.
+use Rattle.std.proofs.Common.{◌≡◌, ℕ, ◌↔◌, ◌<◌, ◌+◌, ◌⊎◌, inl, inr, List, [], ◌∷◌, ◌++◌, take, length, get_or, refl, sym, ◌∙◌, ap, subst, Bool, true, false, cond}
+use Rattle.std.specs.Prelude.{All, Contains, IsTrue, IsUtf8}
 use Rattle.std.specs.Str.{chars}
 use Rattle.std.specs.Ordering.{nat_cmp}
 use Rattle.std.specs.Cmp.{nat_cmp_total}
@@ -10,7 +10,7 @@ use Rattle.std.proofs.lemmas.Map.Lookups.{exact_unsigned}
 use Rattle.std.proofs.lemmas.Map.Views.{btree_set_contains_iff}
 use Rattle.std.proofs.lemmas.List.Elements.{All-push, All-weaker, All-more}
 use Rattle.ux_dela.specs.declared.entry.Entry.{Entry}
-use Rattle.ux_dict.specs.Kept.{IsSpelled}
+use Rattle.ux_dict.specs.Kept.{AreMarksOf, IsSpelled}
 
 -- a look-up finds exactly the set's characters
 reads : (s : BTreeSet ℕ) (q : ℕ) → (contains nat_cmp s q ≡ true) ↔ Contains s.keys q
@@ -34,12 +34,22 @@ pub Contains-insert_new : (s n : BTreeSet ℕ) (at : ℕ) → Updates nat_cmp s 
 Contains-insert_new s n at u = (reads n at).0 u.1
 
 -- so it has the characters so far
-pub put_more : (s n : BTreeSet ℕ) (at : ℕ) (front : List ℕ) → Updates nat_cmp s n at true →
-    All (Contains s.keys) front → All (Contains n.keys) (front ++ at ∷ [])
-put_more s n at front u all =
-    All-push (Contains n.keys) front at
-    (All-weaker (Contains s.keys) (Contains n.keys) (λ c. Contains-insert_old s n at c u) front all)
-    (Contains-insert_new s n at u)
+pub put_more : (few more : List ℕ) (at : ℕ) (front : List ℕ) →
+    ((c : ℕ) → Contains few c → Contains more c) → Contains more at →
+    All (Contains few) front → All (Contains more) (front ++ at ∷ [])
+put_more few more at front kept put all =
+    All-push (Contains more) front at (All-weaker (Contains few) (Contains more) kept front all) put
+
+-- what is marked after one more mark is in the set after the same character
+pub AreMarksOf-more : (few more : List ℕ) (at : ℕ) (old new : List Bool) →
+    ((c : ℕ) → Contains few c → Contains more c) → Contains more at →
+    ((c : ℕ) → IsTrue (get_or new c false) ↔ (IsTrue (get_or old c false) ⊎ (c ≡ at))) →
+    AreMarksOf few old → AreMarksOf more new
+AreMarksOf-more few more at old new kept put marked before c is =
+    elim ((marked c).0 is) [
+      | inl was ↦ kept c (before c was)
+      | inr same ↦ subst (Contains more) (sym same) put
+    ]
 
 -- a form is spelled with more characters as well
 pub IsSpelled-more : (few more : List ℕ) → ((c : ℕ) → Contains few c → Contains more c) →

@@ -12,3 +12,4 @@ pub mod FittingLemmas
 pub mod KeyLemmas
 pub mod NearLemmas
 pub mod RunLemmas
+pub mod CodesLemmas

@@ -9,11 +9,11 @@ use Rattle.std.specs.List.{AllZip}
 use Rattle.std.proofs.lemmas.List.{append_assoc, append-nil}
 use Rattle.std.proofs.lemmas.List.Elements.{All-append, All-weaker, All-head, All-tail, All-nil, All-push, length_all_zip}
 use Rattle.ux_alphabet.specs.declared.line.Line.{Line}
-use Rattle.ux_alphabet.specs.Letters.{Fits}
+use Rattle.ux_alphabet.specs.Letters.{Fits, FitsAlone}
 use Rattle.ux_dela.specs.declared.entry.Entry.{Entry}
 use Rattle.ux_dict.specs.declared.parts.Part.{Part}
 use Rattle.ux_dict.specs.Forms.{IsChosen}
-use Rattle.ux_dict.specs.Parts.{BeginsWith, IsPart, IsFollowed, IsAlone, BeginsFittingAll, IsFittingPart, AreFittingParts, GoOn, GoOnAlone, entries_of}
+use Rattle.ux_dict.specs.Parts.{BeginsWith, IsPart, IsFollowed, BeginsFittingAll, IsFittingPart, AreFittingParts, GoOn, GoOnAlone, entries_of}
 use Rattle.ux_dict.proofs.ChosenLemmas.{chosen-same, chosen-append, chosen-again}
 use Rattle.ux_dict.proofs.ContinuedLemmas.{entries_of-append}
 use Rattle.ux_dict.proofs.FittingLemmas.{zip_apart, fits_less, same_front}
@@ -32,17 +32,17 @@ module _ (lines : List Line) where
   fits_itself [] = tt
   fits_itself (c ∷ run) = (inl refl, fits_itself run)
 
-  only_itself : (fitting run : List ℕ) → All (IsAlone lines) run →
+  only_itself : (fitting run : List ℕ) → All (FitsAlone lines) run →
       AllZip (Fits lines) fitting run → fitting ≡ run
   only_itself [] [] alone zip = refl
   only_itself [] (c ∷ run) alone zip = absurd zip
   only_itself (x ∷ fitting) [] alone zip = absurd zip
   only_itself (x ∷ fitting) (c ∷ run) alone zip =
-      let first = All-head (IsAlone lines) c run alone x zip.0 in
-      let rest = only_itself fitting run (All-tail (IsAlone lines) c run alone) zip.1 in
+      let first = All-head (FitsAlone lines) c run alone x zip.0 in
+      let rest = only_itself fitting run (All-tail (FitsAlone lines) c run alone) zip.1 in
       ap (λ d. d ∷ fitting) first ∙ ap (λ (l : List ℕ). c ∷ l) rest
 
-  module _ (front run : List ℕ) (alone : All (IsAlone lines) run) where
+  module _ (front run : List ℕ) (alone : All (FitsAlone lines) run) where
     longer : (fitting : List ℕ) → AllZip (Fits lines) fitting front →
         AllZip (Fits lines) (fitting ++ run) (front ++ run)
     longer fitting zip = AllZip-append (Fits lines) fitting front run run zip (fits_itself run)
@@ -91,7 +91,7 @@ module _ (lines : List Line) where
 
 -- what holds of the parts alone holds of all entries
 pub GoOnAlone-from : (more : List ℕ) (parts next : List Part) →
-    ((lines : List Line) (front : List ℕ) → All (IsAlone lines) more →
+    ((lines : List Line) (front : List ℕ) → All (FitsAlone lines) more →
     All (IsFittingPart lines front) parts →
     AreFittingParts lines (front ++ more) (entries_of parts) next) → GoOnAlone more parts next
 GoOnAlone-from more parts next goes lines front all alone fit =
@@ -113,7 +113,7 @@ pub record AreFittingBut (lines : List Line) (front run : List ℕ) (all : List 
     (parts : List Part) : Type 0 where
   pub done : List ℕ
   pub is : front ≡ done ++ run
-  pub alone : All (IsAlone lines) run
+  pub alone : All (FitsAlone lines) run
   pub fit : AreFittingParts lines done all parts
 
 module _ (lines : List Line) (all : List Entry) where
@@ -123,20 +123,20 @@ module _ (lines : List Line) (all : List Entry) where
   but_start run parts none fit = record {
     done = [];
     is = sym none;
-    alone = subst (All (IsAlone lines)) (sym none) (All-nil (IsAlone lines));
+    alone = subst (All (FitsAlone lines)) (sym none) (All-nil (FitsAlone lines));
     fit = fit;
   }
 
   -- one more that no other fits
   pub but_longer : (front run new : List ℕ) (c : ℕ) (parts : List Part) →
-      AreFittingBut lines front run all parts → IsAlone lines c → new ≡ run ++ c ∷ [] →
+      AreFittingBut lines front run all parts → FitsAlone lines c → new ≡ run ++ c ∷ [] →
       AreFittingBut lines (front ++ c ∷ []) new all parts
   but_longer front run new c parts but alone is = record {
     done = but.done;
     is = ap (λ (l : List ℕ). l ++ c ∷ []) but.is ∙ append_assoc but.done run (c ∷ [])
         ∙ ap (λ (l : List ℕ). but.done ++ l) (sym is);
-    alone = subst (All (IsAlone lines)) (sym is)
-        (All-push (IsAlone lines) run c but.alone alone);
+    alone = subst (All (FitsAlone lines)) (sym is)
+        (All-push (FitsAlone lines) run c but.alone alone);
     fit = but.fit;
   }
 
@@ -157,7 +157,7 @@ module _ (lines : List Line) (all : List Entry) where
     done = front ++ c ∷ [];
     is = sym (append-nil (front ++ c ∷ []))
         ∙ ap (λ (l : List ℕ). (front ++ c ∷ []) ++ l) (sym none);
-    alone = subst (All (IsAlone lines)) (sym none) (All-nil (IsAlone lines));
+    alone = subst (All (FitsAlone lines)) (sym none) (All-nil (FitsAlone lines));
     fit = on front all spelled (but_end front run parts behind but goes);
   }
 

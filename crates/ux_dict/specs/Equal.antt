@@ -4,6 +4,7 @@ use Rattle.std.specs.Prelude.{Decides, bytes_eq}
 use Rattle.std.specs.Cmp.{IsEquivalence}
 use Rattle.std.specs.Hash as fed
 use lib.Pointwise.{pointwise, pointwise_decides, bytes_decides}
+use Rattle.ux_dela.specs.declared.entry.Codes.{Codes}
 use Rattle.ux_dela.specs.declared.entry.Entry.{Entry}
 
 -- whether two entries are equal, part by part
@@ -11,6 +12,11 @@ abbrev pub entry_eq : (entry other : Entry) → Bool
 entry_eq entry other = bytes_eq entry.form other.form && (bytes_eq entry.lemma other.lemma
     && (bytes_eq entry.gram other.gram && (pointwise bytes_eq entry.sem other.sem
     && pointwise bytes_eq entry.infl other.infl)))
+
+-- whether two lists of codes are equal, part by part
+abbrev pub codes_eq : (codes other : Codes) → Bool
+codes_eq codes other = bytes_eq codes.gram other.gram && (pointwise bytes_eq codes.sem other.sem
+    && pointwise bytes_eq codes.infl other.infl)
 
 first : (s t : Bool) → (s && t) ≡ true → s ≡ true
 first true t h = refl
@@ -28,6 +34,14 @@ parts_same : (x y : Entry) → x.form ≡ y.form → x.lemma ≡ y.lemma → x.g
     x.sem ≡ y.sem → x.infl ≡ y.infl → x ≡ y
 parts_same x y form lemma gram sem infl =
     λ i. record { form = form i; lemma = lemma i; gram = gram i; sem = sem i; infl = infl i }
+
+codes_same : (x y : Codes) → x.gram ≡ y.gram → x.sem ≡ y.sem → x.infl ≡ y.infl → x ≡ y
+codes_same x y gram sem infl = λ i. record { gram = gram i; sem = sem i; infl = infl i }
+
+-- what codes feed a hash: each of their parts
+abbrev pub codes_writes_of : Codes → List (List ℕ)
+codes_writes_of codes = fed.str codes.gram
+    ++ (fed.slice fed.str codes.sem ++ fed.slice fed.str codes.infl)
 
 -- what an entry feeds a hash: each of its parts
 abbrev pub writes_of : Entry → List (List ℕ)
@@ -62,6 +76,25 @@ entry_eq-Decides x y =
           (infls.1 (ap (λ (z : Entry). z.infl) is))))),
     )
 
+-- codes are equal exactly where the test says so
+pub codes_eq-Decides : (x y : Codes) → Decides (codes_eq x y) (x ≡ y)
+codes_eq-Decides x y =
+    let grams = bytes_decides x.gram y.gram in
+    let sems = pointwise_decides bytes_decides x.sem y.sem in
+    let infls = pointwise_decides bytes_decides x.infl y.infl in
+    let d = bytes_eq x.gram y.gram in
+    let e = pointwise bytes_eq x.sem y.sem in
+    let f = pointwise bytes_eq x.infl y.infl in (
+      λ h.
+          let rest = second d (e && f) h in
+          codes_same x y (grams.0 (first d (e && f) h)) (sems.0 (first e f rest))
+          (infls.0 (second e f rest)),
+      λ is.
+          both d (e && f) (grams.1 (ap (λ (z : Codes). z.gram) is))
+          (both e f (sems.1 (ap (λ (z : Codes). z.sem) is))
+          (infls.1 (ap (λ (z : Codes). z.infl) is))),
+    )
+
 module _ {K : Type 0} {E : K → K → Bool} (decides : (x y : K) → Decides (E x y) (x ≡ y)) where
   same_tests : (s t : Bool) → (s ≡ true → t ≡ true) → (t ≡ true → s ≡ true) → s ≡ t
   same_tests true t f g = sym (f refl)
@@ -79,3 +112,7 @@ module _ {K : Type 0} {E : K → K → Bool} (decides : (x y : K) → Decides (E
 -- so it is an equivalence
 pub entry_equiv : IsEquivalence entry_eq
 entry_equiv = IsEquivalence-decided entry_eq-Decides
+
+-- and the test of codes is one
+pub codes_equiv : IsEquivalence codes_eq
+codes_equiv = IsEquivalence-decided codes_eq-Decides

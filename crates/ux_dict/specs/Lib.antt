@@ -5,3 +5,4 @@ pub mod Keys
 pub mod Kept
 pub mod Parts
 pub mod Any
+pub mod Stored

@@ -7,7 +7,7 @@ use Rattle.std.specs.Cmp.Lexicographic.{slice_cmp}
 use Rattle.std.specs.Ordering.{nat_cmp, ordering_index}
 use Rattle.std.specs.Str.{chars}
 use Rattle.ux_alphabet.specs.declared.line.Line.{Line}
-use Rattle.ux_alphabet.specs.Letters.{Fits}
+use Rattle.ux_alphabet.specs.Letters.{Fits, FitsAlone}
 use Rattle.ux_dela.specs.declared.entry.Entry.{Entry}
 use Rattle.ux_dict.specs.declared.parts.Part.{Part}
 use Rattle.ux_dict.specs.Content.{IsUpTo}
@@ -82,10 +82,6 @@ pub record IsContinued (front letters : List ℕ) (part : Part) (old new : List 
   pub chosen : IsChosen (GoesOnWith front letters) part.entries.now (entries_of pushed)
   pub each : All (λ next. (c : ℕ) × Contains letters c × IsPart (front ++ c ∷ []) next) pushed
 
--- no other character fits this one
-abbrev pub IsAlone : List Line → ℕ → Type 0
-IsAlone lines c = (letter : ℕ) → Fits lines letter c → letter ≡ c
-
 -- the letters that fit a character of a text, in order
 pub record AreCandidates (lines : List Line) (letters : List ℕ) (c : ℕ) (candidates : List ℕ) :
     Type 0 where
@@ -113,7 +109,7 @@ pub record AreFittingParts (lines : List Line) (front : List ℕ) (all : List En
 -- where the parts fit the front of a text, the next ones fit more characters, which no others fit
 abbrev pub GoOnAlone : (more : List ℕ) (parts next : List Part) → Type 0
 GoOnAlone more parts next = (lines : List Line) (front : List ℕ) (all : List Entry) →
-    All (IsAlone lines) more → AreFittingParts lines front all parts →
+    All (FitsAlone lines) more → AreFittingParts lines front all parts →
     AreFittingParts lines (front ++ more) all next
 
 -- where the parts fit the front of a text, the next ones fit one character more

@@ -1,10 +1,10 @@
 //! The letters that fit a character of a text.
 
-ghost use Rattle.std.specs.Prelude.{◌≡◌, ◌↔◌, IsTrue, IfOk, true};
+ghost use Rattle.std.specs.Prelude.{IfOk};
 ghost use Rattle.std.specs.List.Sorted.{IsStrictlyIncreasing};
-ghost use Rattle.ux_alphabet.specs.Letters.{Fits, never_letter};
+ghost use Rattle.ux_alphabet.specs.Letters.{Fits};
 ghost use Rattle.ux_dict.specs.Forms.{IsChosen};
-ghost use Rattle.ux_dict.specs.Parts.{AreCandidates, IsAlone};
+ghost use Rattle.ux_dict.specs.Parts.{AreCandidates};
 
 use std::alloc::{AllocError, Global};
 use ux_alphabet::Alphabet;
@@ -38,18 +38,4 @@ fn chosen_letters(
         }
     }
     Ok(found)
-}
-
-/// Whether the alphabet leaves it at that the character alone fits itself: it is no upper-case
-/// letter, and none of the characters that are never letters.
-pub(crate) fn fits_alone(alphabet: &Alphabet, c: char) -> bool
-    ensures { IsTrue result → IsAlone alphabet.now c }
-{
-    !alphabet.is_upper(c) && !is_never_letter(c)
-}
-
-fn is_never_letter(c: char) -> bool
-    ensures { IsTrue result ↔ (never_letter c ≡ true) }
-{
-    matches!(c, ' ' | '\t' | '\r' | '\n' | '{' | '}')
 }

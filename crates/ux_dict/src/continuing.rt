@@ -7,7 +7,7 @@ ghost use Rattle.ux_alphabet.specs.declared.line.Line.{Line};
 ghost use Rattle.ux_dict.specs.Kept.{IsSpelled};
 ghost use Rattle.ux_dict.specs.Parts.{AreCandidates, AreFittingParts, GoOn, GoOnAlone, IsContinued, IsFollowed, IsPart};
 
-use crate::candidates::{fits_alone, fitting_letters};
+use crate::candidates::fitting_letters;
 use crate::parts::{Part, form_len, going_on};
 use std::alloc::{AllocError, Global};
 use ux_alphabet::Alphabet;
@@ -34,7 +34,7 @@ pub(crate) fn fitting_parts<'a>(
     // The characters behind those that the parts fit.
     let mut run = String::with_capacity(alloc, text.len())?;
     for c in text.chars() {
-        if fits_alone(alphabet, c) {
+        if alphabet.fits_alone(c) {
             run.push(c)?;
             continue;
         }

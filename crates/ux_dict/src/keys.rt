@@ -6,16 +6,16 @@
 ghost use Rattle.std.specs.Prelude.{◌≡◌, ◌++◌, IfOk, map, get_or};
 ghost use Rattle.ux_dict.specs.Keys.{number_of, low_key, high_key, key_of, key_rank};
 
+use crate::stored::Stored;
 use std::alloc::{AllocError, Global};
-use ux_dela::Entry;
 
 /// The keys of the entries.
-pub(crate) fn keys_of(alloc: Global, entries: &[Entry]) -> Result<Vec<u64>, AllocError>
+pub(crate) fn keys_of(alloc: Global, entries: &[Stored]) -> Result<Vec<u64>, AllocError>
     ensures { IfOk result (λ keys. keys.items ≡ map key_of entries.now) }
 {
     let mut keys = Vec::with_capacity(alloc, entries.len())?;
     for entry in entries {
-        keys.push(lowest(entry.form.as_str().as_bytes(), &[]))?;
+        keys.push(lowest(entry.form().as_bytes(), &[]))?;
     }
     Ok(keys)
 }

@@ -12,6 +12,7 @@
 
 pub mod any_lexicon;
 mod candidates;
+mod codes_table;
 mod continuing;
 mod entry_table;
 mod keys;
@@ -21,6 +22,8 @@ mod measures;
 pub mod once;
 pub mod parts;
 mod sorting;
+mod stored;
+mod stored_table;
 
 pub use any_lexicon::AnyLexicon;
 pub use lexicon::Lexicon;

@@ -10,12 +10,13 @@ ghost use Rattle.ux_dict.specs.Content.{IsContent, IsDictionary};
 ghost use Rattle.ux_dict.specs.Parts.{AreFittingParts, AreWhole, IsPart, entries_of};
 
 use crate::continuing::fitting_parts;
-use crate::entry_table::first_ones;
 use crate::keys::keys_of;
 use crate::lexicon::Lexicon;
 use crate::measures::{letters_of, longest_form};
 use crate::parts::{Part, ending, of_form};
 use crate::sorting::sort_by_form;
+use crate::stored::Stored;
+use crate::stored_table::first_stored;
 use std::alloc::{AllocError, Global};
 use std::marker::Model;
 use ux_alphabet::Alphabet;
@@ -25,7 +26,7 @@ use ux_dela::Entry;
 /// A dictionary of entries in memory, seen as its content.
 #[derive(Drop)]
 pub struct ListLexicon {
-    entries: Vec<Entry>,
+    entries: Vec<Stored>,
     /// The key of each entry.
     keys: Vec<u64>,
     /// The different characters of all forms, in order.
@@ -94,10 +95,10 @@ impl ListLexicon {
 }
 
 /// The entries that differ, in order of form.
-fn content_of(alloc: Global, entries: Vec<Entry>) -> Result<Vec<Entry>, AllocError>
+fn content_of(alloc: Global, entries: Vec<Entry>) -> Result<Vec<Stored>, AllocError>
     ensures { IfOk result (λ content. IsContent entries.items content.items) }
 {
-    let mut content = first_ones(alloc, entries)?;
+    let mut content = first_stored(alloc, entries)?;
     sort_by_form(&mut content)?;
     Ok(content)
 }
@@ -149,12 +150,16 @@ fn whole_forms(alloc: Global, parts: &[Part<'_>]) -> Result<Vec<Entry>, AllocErr
     Ok(found)
 }
 
-/// Puts copies of the entries last.
-fn push_copies(found: &mut Vec<Entry>, entries: &[Entry]) -> Result<(), AllocError>
+/// Puts copies of the entries last. The first ones take no more room than they need, since mostly
+/// no others come.
+fn push_copies(found: &mut Vec<Entry>, entries: &[Stored]) -> Result<(), AllocError>
     ensures { OnOk result (found.new.items ≡ found.old.items ++ entries.now) }
 {
+    if found.is_empty() {
+        found.reserve_exact(entries.len())?;
+    }
     for entry in entries {
-        found.push(entry.copy()?)?;
+        found.push(entry.to_entry()?)?;
     }
     Ok(())
 }

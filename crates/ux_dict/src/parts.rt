@@ -13,14 +13,14 @@ ghost use Rattle.ux_dict.specs.Keys.{key_of, key_rank, is_between};
 ghost use Rattle.ux_dict.specs.Parts.{rank_of, next_rank, goes_on, ends_by, IsKeyed, IsPart, IsSifted, IsNarrowed};
 
 use crate::keys::{highest, lowest, rank_between};
+use crate::stored::Stored;
 use std::cmp::Ordering;
-use ux_dela::Entry;
 
 /// Entries whose forms begin with the same bytes.
 #[derive(Clone, Copy)]
 pub struct Part<'a> {
     /// The entries, in order of form.
-    pub entries: &'a [Entry],
+    pub entries: &'a [Stored],
     /// The key of each.
     pub keys: &'a [u64],
     /// How many bytes their forms have in common.
@@ -107,7 +107,7 @@ fn all_go_on(part: &Part<'_>, more: &[u8]) -> bool
     form_goes_on(first, part.len, more) && form_goes_on(last, part.len, more)
 }
 
-fn form_goes_on(entry: &Entry, len: usize, more: &[u8]) -> bool
+fn form_goes_on(entry: &Stored, len: usize, more: &[u8]) -> bool
     ensures { result ≡ goes_on len more.now entry.now }
 {
     rank(rest_of(entry, len), more) == 1
@@ -160,7 +160,7 @@ fn front<T>(items: &[T], count: usize) -> &[T]
 }
 
 /// The entries whose forms end where the bytes do that they have in common.
-pub(crate) fn ending<'a>(entries: &'a [Entry], len: usize) -> &'a [Entry]
+pub(crate) fn ending<'a>(entries: &'a [Stored], len: usize) -> &'a [Stored]
     ensures { IsPartitionedBy (ends_by len) entries.now →
         result.now ≡ filter (ends_by len) entries.now }
 {
@@ -169,7 +169,7 @@ pub(crate) fn ending<'a>(entries: &'a [Entry], len: usize) -> &'a [Entry]
 }
 
 /// The entries of this form.
-pub(crate) fn of_form<'a>(whole: &Part<'a>, form: &str) -> &'a [Entry]
+pub(crate) fn of_form<'a>(whole: &Part<'a>, form: &str) -> &'a [Stored]
     requires { IsPart [] whole.now }
     ensures { result.now ≡ filter (λ entry. bytes_eq entry.form form.now) whole.now.entries.now }
 {
@@ -178,35 +178,35 @@ pub(crate) fn of_form<'a>(whole: &Part<'a>, form: &str) -> &'a [Entry]
 }
 
 /// The entries of this form.
-fn same_form<'a>(entries: &'a [Entry], form: &str) -> &'a [Entry]
+fn same_form<'a>(entries: &'a [Stored], form: &str) -> &'a [Stored]
     ensures { AllPairs IsUpTo entries.now →
         result.now ≡ filter (λ entry. bytes_eq entry.form form.now) entries.now }
 {
-    let start = entries.partition_point(|entry| place(entry.form.as_str(), form) < 1);
+    let start = entries.partition_point(|entry| place(entry.form(), form) < 1);
     let rest = &entries[start..];
-    let end = rest.partition_point(|entry| place(entry.form.as_str(), form) < 2);
+    let end = rest.partition_point(|entry| place(entry.form(), form) < 2);
     &rest[..end]
 }
 
 /// The length of the form in bytes.
-pub(crate) fn form_len(entry: &Entry) -> usize
+pub(crate) fn form_len(entry: &Stored) -> usize
     ensures { result ≡ length entry.now.form }
 {
-    entry.form.as_str().len()
+    entry.form().len()
 }
 
 /// The first few bytes of the form.
-fn front_of(entry: &Entry, len: usize) -> &[u8]
+fn front_of(entry: &Stored, len: usize) -> &[u8]
     ensures { result.now ≡ take len entry.now.form }
 {
-    front(entry.form.as_str().as_bytes(), len)
+    front(entry.form().as_bytes(), len)
 }
 
 /// The form behind its first few bytes.
-fn rest_of(entry: &Entry, len: usize) -> &[u8]
+fn rest_of(entry: &Stored, len: usize) -> &[u8]
     ensures { result.now ≡ drop len entry.now.form }
 {
-    behind(entry.form.as_str().as_bytes(), len)
+    behind(entry.form().as_bytes(), len)
 }
 
 /// 0, 1 or 2 where the text is below, equal to or above the letter, as far as the letter goes.

@@ -16,7 +16,7 @@ type Refusal = (&'static str, &'static str, Option<AlphabetError>);
 
 /// An answer for a file's characters.
 fn compare(rt: &impl Abort, got: bool, want: bool, about: (&str, char)) {
-    assert_eq!(rt; got, want, "{:?} in {:?}", about.1, about.0);
+    assert_eq!(rt; got, want, "{} in {}", about.1, about.0);
 }
 
 fn compare_refusal(rt: &impl Abort, got: Option<AlphabetError>, row: &Refusal) {

@@ -5,7 +5,8 @@ use std::process::Abort;
 use std::test::Fail;
 use ux_base::Txt;
 use ux_dela::{
-    DelaError, Entry, Stem, print_codes, print_delaf, read_codes, read_delaf, read_delas, read_tag,
+    DelaError, Entry, Stem, count_delaf, count_delas, print_codes, print_delaf, read_codes,
+    read_delaf, read_delas, read_tag,
 };
 
 /// A name, a file, and what it says: its entries or stems, each between brackets.
@@ -57,8 +58,10 @@ fn put_stem(out: &mut String, stem: &Stem) -> Result<(), AllocError> {
 }
 
 fn check_delaf(rt: &impl Abort, alloc: Global, row: &Row) -> Result<(), Fail> {
+    let entries = read_delaf(alloc, row.1)?;
+    assert_eq!(rt; count_delaf(alloc, row.1)?, entries.len(), "{}", row.0);
     let mut out = String::new(alloc);
-    for entry in &read_delaf(alloc, row.1)? {
+    for entry in &entries {
         put_entry(&mut out, entry)?;
     }
     compare(rt, out.as_str(), row);
@@ -66,8 +69,10 @@ fn check_delaf(rt: &impl Abort, alloc: Global, row: &Row) -> Result<(), Fail> {
 }
 
 fn check_delas(rt: &impl Abort, alloc: Global, row: &Row) -> Result<(), Fail> {
+    let stems = read_delas(alloc, row.1)?;
+    assert_eq!(rt; count_delas(alloc, row.1)?, stems.len(), "{}", row.0);
     let mut out = String::new(alloc);
-    for stem in &read_delas(alloc, row.1)? {
+    for stem in &stems {
         put_stem(&mut out, stem)?;
     }
     compare(rt, out.as_str(), row);
@@ -373,6 +378,7 @@ fn lines_of_forms_are_refused(rt: HostRuntime) {
     ];
     for row in ROWS {
         compare_refusal(&rt, read_delaf(rt.alloc(), row.1).err(), row);
+        compare_refusal(&rt, count_delaf(rt.alloc(), row.1).err(), row);
     }
 }
 
@@ -480,6 +486,7 @@ fn lines_of_lemmas_are_refused(rt: HostRuntime) {
     ];
     for row in ROWS {
         compare_refusal(&rt, read_delas(rt.alloc(), row.1).err(), row);
+        compare_refusal(&rt, count_delas(rt.alloc(), row.1).err(), row);
     }
 }
 

@@ -1,6 +1,6 @@
 //! What dictionaries find, by rows.
 
-use std::alloc::{AllocError, Global};
+use std::alloc::Global;
 use std::process::Abort;
 use std::test::Fail;
 use ux_alphabet::Alphabet;
@@ -68,15 +68,6 @@ fn check_counts(rt: &impl Abort, alloc: Global, row: &Counts) -> Result<(), Fail
     assert_eq!(rt; lexicon.longest(), row.4, "{}", row.0);
     assert_eq!(rt; lexicon.count(), row.5, "{}", row.0);
     Ok(())
-}
-
-/// The sign so many times.
-fn repeated(alloc: Global, sign: char, times: usize) -> Result<String, AllocError> {
-    let mut text = String::new(alloc);
-    for _ in 0..times {
-        text.push(sign)?;
-    }
-    Ok(text)
 }
 
 #[test]
@@ -154,11 +145,11 @@ fn entries_are_counted(rt: HostRuntime) -> Result<(), Fail> {
 fn a_long_form_is_found(rt: HostRuntime) -> Result<(), Fail> {
     let alloc = rt.alloc();
     let alphabet = Alphabet::read(alloc, PAIRS)?;
-    let mut line = repeated(alloc, 'a', 10000)?;
+    let mut line = "a".repeat(alloc, 10000)?;
     line.push_str(",.N")?;
     let lexicon = lexicon(alloc, line.as_str())?;
-    let lower = repeated(alloc, 'a', 10000)?;
-    let upper = repeated(alloc, 'A', 10000)?;
+    let lower = "a".repeat(alloc, 10000)?;
+    let upper = "A".repeat(alloc, 10000)?;
     assert_eq!(rt; lexicon.longest(), 10000);
     assert_eq!(rt; lexicon.exact(lower.as_str()), Some(1));
     assert_eq!(rt; lexicon.fitting(alloc, lower.as_str(), &alphabet)?.len(), 1);

@@ -1,8 +1,8 @@
 //! How many entries a dictionary has: the answer of `check`.
 //!
-//! The file is read and decoded as any other, and given to its format's reader: `count_entries` does
-//! so for files of forms, which `read_forms` reads for other commands, too, and `count_stems` for
-//! files of lemmas. Both write the same line.
+//! The file is read and decoded as any other, and its entries are counted line by line, with no list
+//! of them: by `count_entries` in files of forms, and by `count_stems` in files of lemmas. Both write
+//! the same line. `read_forms` gives the entries themselves, for other commands.
 
 ghost use Rattle.std.specs.Prelude.{◌≡◌, ◌≢◌, ◌⊎◌, All, IfOk, IfErr, string_bytes};
 ghost use Rattle.ux_dela.specs.Files.{AreEntries, AreStems, Refuses, RefusesStems};
@@ -16,9 +16,9 @@ use crate::status::{Reason, Status};
 use itoa::Buffer;
 use std::alloc::Global;
 use ux_base::{Folder, Mem};
-use ux_dela::{DelaError, Entry, read_delaf, read_delas};
+use ux_dela::{DelaError, Entry, count_delaf, count_delas, read_delaf};
 
-/// Reads a file of forms, and tells the number of its entries, or how the run ends.
+/// Counts the entries of a file of forms, and tells their number, or how the run ends.
 pub fn count_entries<F: Folder>(alloc: Global, name: &str, folder: &mut F) -> Result<String, Status>
     ensures kept { F.files folder.new ≡ F.files folder.old }
     ensures counts { NoneFell (counts_of F.faults F.misses F.overlong folder.old)
@@ -29,8 +29,11 @@ pub fn count_entries<F: Folder>(alloc: Global, name: &str, folder: &mut F) -> Re
         (counts_of F.faults F.misses F.overlong folder.old)
         (counts_of F.faults F.misses F.overlong folder.new)) }
 {
-    let entries = read_forms(alloc, name, folder)?;
-    counted(alloc, entries.len())
+    let text = read_decoded(alloc, name, folder)?;
+    match count_delaf(alloc, text.as_str()) {
+        Ok(count) => counted(alloc, count),
+        Err(error) => Err(no_dictionary(alloc, name, error)),
+    }
 }
 
 /// Reads a file of forms, and gives its entries, or tells how the run ends.
@@ -56,7 +59,7 @@ pub fn read_forms<F: Folder>(
     }
 }
 
-/// Reads a file of lemmas, and tells their number, or how the run ends.
+/// Counts the stems of a file of lemmas, and tells their number, or how the run ends.
 pub fn count_stems<F: Folder>(alloc: Global, name: &str, folder: &mut F) -> Result<String, Status>
     ensures kept { F.files folder.new ≡ F.files folder.old }
     ensures counts { NoneFell (counts_of F.faults F.misses F.overlong folder.old)
@@ -69,8 +72,8 @@ pub fn count_stems<F: Folder>(alloc: Global, name: &str, folder: &mut F) -> Resu
         (counts_of F.faults F.misses F.overlong folder.new)) }
 {
     let text = read_decoded(alloc, name, folder)?;
-    match read_delas(alloc, text.as_str()) {
-        Ok(stems) => counted(alloc, stems.len()),
+    match count_delas(alloc, text.as_str()) {
+        Ok(count) => counted(alloc, count),
         Err(error) => Err(no_dictionary(alloc, name, error)),
     }
 }

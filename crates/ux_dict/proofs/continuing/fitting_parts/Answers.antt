@@ -28,7 +28,7 @@ loop-c-preserved-then-fits_alone c =
     let new = string_bytes c.push.new.self in
     but_longer c.args.alphabet.now c.args.whole.entries.now c.loop-c.yielded (chars old)
     (chars new) c.in-Some.c c.loop-c.parts.items c.loop-c.invariant
-    (c.if-fits_alone.ensures refl)
+    (c.if-fits_alone.ensures.0 refl)
     (chars-pushed old new c.in-Some.c (IsUtf8-string_bytes c.loop-c.run)
     (IsUtf8-string_bytes c.push.new.self) c.in_ok-push.ensures.bytes)
 

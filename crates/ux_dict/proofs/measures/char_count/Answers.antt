@@ -1,6 +1,4 @@
 -- as many are counted as the text has
-use Rattle.std.proofs.Common.{subst}
-use Rattle.std.specs.Prelude.{IsUtf8}
 use Rattle.std.proofs.lemmas.Iterator.{YieldsList-from_chars}
 use Rattle.std.proofs.lemmas.Iterator.Consumers.{count_from_yields_List}
 use Rattle.ux_dict.proofs.measures.char_count.Goals as goal
@@ -8,4 +6,4 @@ use Rattle.ux_dict.proofs.measures.char_count.Goals as goal
 pub returns : goal.returns
 returns c =
     count_from_yields_List _ _ c.count.ensures.ran
-    (YieldsList-from_chars c.args.form.now (subst IsUtf8 c.as_str.ensures c.as_str.utf8) (cc))
+    (YieldsList-from_chars c.args.form.now c.utf8.form (cc))

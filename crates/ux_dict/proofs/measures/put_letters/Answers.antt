@@ -2,16 +2,16 @@ use Rattle.std.proofs.Common.{All, Contains, subst, sym, ◌∙◌}
 use Rattle.std.proofs.lemmas.Iterator.{YieldsList-from_chars}
 use Rattle.std.proofs.lemmas.Iterator.Consumers.{YieldsList-end}
 use Rattle.std.proofs.lemmas.List.{map-id}
-use Rattle.ux_dict.proofs.LetterLemmas.{Contains-insert_old, put_more}
+use Rattle.ux_dict.proofs.LetterLemmas.{put_more}
 use Rattle.ux_dict.proofs.measures.put_letters.Goals as goal
 
 pub loop-c-preserved : goal.loop-c-preserved
 loop-c-preserved c =
-    let update = c.in_ok-insert.ensures.updates in record {
-      kept = λ d old. Contains-insert_old c.loop-c.set c.insert.new.self c.in-Some.c d update
-          (c.loop-c.invariant.kept d old);
-      put = put_more c.loop-c.set c.insert.new.self c.in-Some.c c.loop-c.yielded update
-          c.loop-c.invariant.put;
+    let more = c.in_ok-put_letter.ensures in record {
+      marks = more.marks;
+      kept = λ d old. more.kept d (c.loop-c.invariant.kept d old);
+      put = put_more c.loop-c.set.keys c.put_letter.new.set.keys c.in-Some.c c.loop-c.yielded
+          more.kept more.put c.loop-c.invariant.put;
     }
 
 -- all characters were met

@@ -14,5 +14,6 @@ invariant_of-result c =
       uppers = uppers;
       lowers = lowers;
       letters = IsLetter-table _ upper lower c.in_ok-letter.letter.items uppers lowers either;
-      pairs_are = rw c.deref-5.ensures.value at c.in_ok-pairs.ensures;
+      forms_are = rw c.deref-5.ensures.value at c.in_ok-upper_forms.ensures;
+      pairs_are = rw c.deref-6.ensures.value at c.in_ok-pairs.ensures;
     }

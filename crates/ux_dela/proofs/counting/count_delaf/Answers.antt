@@ -1,0 +1,55 @@
+use Rattle.std.proofs.Common.{arith, length, ap, inl, inr, rules}
+use Rattle.std.proofs.lemmas.Result.{err_from_is_err_and}
+use Rattle.ux_base.specs.Lines.{lines_of}
+use Rattle.ux_dela.specs.Delaf.{DelafSays, RefusesDelaf}
+use Rattle.ux_dela.proofs.CountLemmas.{count_more, count_whole}
+use Rattle.ux_dela.proofs.ExclusionLemmas.{says_excluded}
+use Rattle.ux_dela.proofs.FileLemmas.{lines_of-count, not_refused, read_stops}
+use Rattle.ux_dela.proofs.counting.count_delaf.Goals as goal
+
+-- this line is one of the text's, which are no more than its bytes
+pub overflow_add-number : goal.overflow_add-number
+overflow_add-number c =
+    let left = ap length c.in-Some.ensures.steps in
+    omega (arith, left, c.loop-line.invariant.counted.read.counted, lines_of-count c.args.text.now)
+
+pub loop-line-preserved : goal.loop-line-preserved
+loop-line-preserved c =
+    let adds = c.in_ok-read_line.ensures.ok in
+    let counted = c.loop-line.invariant.counted in
+    record {
+      next = tt;
+      finite = tt;
+      counted = count_more DelafSays RefusesDelaf (lines_of c.args.text.now) c.loop-line.line-iterator
+          c.next.new.self c.loop-line.number c.loop-line.count c.in_ok-count.count
+          c.in-Some.line.now c.loop-line.entries.items c.read_line.new.entries.items adds.said counted
+          c.in-Some.ensures.steps adds.says c.loop-line.invariant.empty adds.added
+          (search rules);
+      empty = search rules;
+    }
+
+pub returns-in_err-read_line-clause-refused : goal.returns-in_err-read_line-clause-refused
+returns-in_err-read_line-clause-refused c =
+    let p = err_from_is_err_and c.from_residual.result c.from_residual.ensures.1 in
+    let counted = c.loop-line.invariant.counted in
+    let stops = read_stops DelafSays RefusesDelaf (lines_of c.args.text.now) c.loop-line.line-iterator
+    c.next.new.self c.loop-line.number c.in-Some.line.now counted.said
+    c.in_err-read_line.field-0.0 counted.read c.in-Some.ensures.steps in
+    rw (p.1, p.2) (elim c.in_err-read_line.ensures.err [
+      | inl memory ↦ inl memory
+      | inr refuses ↦ inr (stops refuses)
+    ])
+
+pub returns-clause-ok : goal.returns-clause-ok
+returns-clause-ok c =
+    let none = c.in-None.ensures in
+    count_whole DelafSays RefusesDelaf c.args.text.now c.loop-line.line-iterator c.loop-line.number
+    c.loop-line.count c.loop-line.invariant.counted none.steps.0
+
+pub returns-clause-exact : goal.returns-clause-exact
+returns-clause-exact c = λ error refuses.
+    let none = c.in-None.ensures in
+    let whole = count_whole DelafSays RefusesDelaf c.args.text.now c.loop-line.line-iterator
+    c.loop-line.number c.loop-line.count c.loop-line.invariant.counted none.steps.0 in
+    not_refused DelafSays RefusesDelaf says_excluded (lines_of c.args.text.now) 1 whole.said error
+    whole.are refuses

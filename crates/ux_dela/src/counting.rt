@@ -1,0 +1,65 @@
+//! How many entries a file has, with no list of them.
+//!
+//! Each line is read as `delaf` and `delas` read it, into a list that is emptied behind it: what is
+//! kept is one line's entries and their number so far. A file is refused as by its reader.
+
+ghost use Rattle.std.specs.Prelude.{◌≡◌, ◌⊎◌, ◌+◌, IfOk, IfErr};
+ghost use Rattle.ux_dela.specs.Files.{IsEntryCount, IsStemCount, Refuses, RefusesStems};
+ghost use Rattle.ux_dela.specs.declared.error.DelaError.{DelaError};
+ghost use Rattle.ux_dela.specs.declared.error.DelaError.TheVariants.{NoMemory};
+
+use crate::error::DelaError;
+use crate::{delaf, delas};
+use std::alloc::Global;
+use ux_base::lines;
+
+/// The number of entries of a file of forms, or why its first bad line is refused. Keeps the
+/// entries of one line at a time; the time is linear in the text.
+pub fn count_delaf(alloc: Global, text: &str) -> Result<usize, DelaError>
+    ensures ok { IfOk result (IsEntryCount text.now) }
+    ensures refused { IfErr result (λ error. (error ≡ NoMemory) ⊎ Refuses text.now error) }
+    ensures exact { IfOk result (λ _. (error : DelaError) → Refuses text.now error → ⊥) }
+{
+    // A text has at most as many lines as bytes, so that a line's number fits.
+    let _bytes = text.len();
+    let mut entries = Vec::new(alloc);
+    let mut number = 0;
+    let mut count = 0;
+    for line in lines(text) {
+        number += 1;
+        delaf::read_line(alloc, line, number, &mut entries)?;
+        count = add(count, entries.len())?;
+        entries.clear();
+    }
+    Ok(count)
+}
+
+/// The number of stems of a file of lemmas, or why its first bad line is refused. Keeps the stem of
+/// one line at a time; the time is linear in the text.
+pub fn count_delas(alloc: Global, text: &str) -> Result<usize, DelaError>
+    ensures ok { IfOk result (IsStemCount text.now) }
+    ensures refused { IfErr result (λ error. (error ≡ NoMemory) ⊎ RefusesStems text.now error) }
+    ensures exact { IfOk result (λ _. (error : DelaError) → RefusesStems text.now error → ⊥) }
+{
+    // A text has at most as many lines as bytes, so that a line's number fits.
+    let _bytes = text.len();
+    let mut stems = Vec::new(alloc);
+    let mut number = 0;
+    let mut count = 0;
+    for line in lines(text) {
+        number += 1;
+        delas::read_line(alloc, line, number, &mut stems)?;
+        count = add(count, stems.len())?;
+        stems.clear();
+    }
+    Ok(count)
+}
+
+/// The sum, where `usize` has it. It always has here: no line says more entries than it has bytes,
+/// and a text has fewer bytes than `usize` counts.
+fn add(count: usize, more: usize) -> Result<usize, DelaError>
+    ensures ok { IfOk result (λ sum. sum ≡ count + more) }
+    ensures err { IfErr result (λ error. error ≡ NoMemory) }
+{
+    count.checked_add(more).ok_or(DelaError::NoMemory)
+}
