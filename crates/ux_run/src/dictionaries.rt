@@ -42,7 +42,7 @@ pub fn report_of<F: Folder>(
 {
     let (alphabet, text) = read_tokens(alloc, text, alphabet, folder)?;
     let dics = read_dictionaries(alloc, dics, folder)?;
-    Ok(applied_report(alloc, &text, &alphabet, &dics)?)
+    Ok(applied_report(alloc, &text, &alphabet, dics)?)
 }
 
 /// Reads the dictionaries, or says how the run ends.
@@ -89,17 +89,18 @@ fn read_dictionary<F: Folder>(
     }
 }
 
-/// The report of the entries that apply to the text.
+/// The report of the entries that apply to the text. The dictionaries are freed before it is made.
 fn applied_report(
     alloc: Global,
     text: &Text,
     alphabet: &Alphabet,
-    dics: &[(Priority, ListLexicon)],
+    dics: Vec<(Priority, ListLexicon)>,
 ) -> Mem<String>
     ensures { IfOk result (λ report. (tables : Tables)
-        × AreApplied alphabet.now dics.now text.now tables
+        × AreApplied alphabet.now dics.items text.now tables
         × IsReport text.now tables (string_bytes report)) }
 {
-    let applied = Applied::of(alloc, text, alphabet, dics)?;
+    let applied = Applied::of(alloc, text, alphabet, &dics)?;
+    drop(dics);
     report(alloc, text, &applied)
 }
