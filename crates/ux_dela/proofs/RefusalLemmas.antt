@@ -62,9 +62,10 @@ list_and front gram w sem infl is =
     ∙ ap (λ t. gram ++ t) (append_assoc (all_behind PLUS sem) (all_behind COLON infl) w)
 
 -- two lists before what stops them have one grammatical code
-one_gram : (front front' gram gram' v w : List Written) (sem sem' infl infl' : List (List Written)) →
-    IsCodeList front gram sem infl → IsCodeList front' gram' sem' infl' →
-    Stopped is_code_sign v → Stopped is_code_sign w → front ++ v ≡ front' ++ w →
+one_gram : (front front' gram gram' v w : List Written)
+    (sem sem' infl infl' : List (List Written)) → IsCodeList front gram sem infl →
+    IsCodeList front' gram' sem' infl' → Stopped is_code_sign v → Stopped is_code_sign w →
+    front ++ v ≡ front' ++ w →
     (gram ≡ gram')
     × (all_behind PLUS sem ++ (all_behind COLON infl ++ v)
     ≡ all_behind PLUS sem' ++ (all_behind COLON infl' ++ w))
@@ -279,14 +280,14 @@ empty_form_comma line (without_dot h) k = no_dot_comma line [] h k
 empty_form_comma line (with_dot lemma codes comment is) k =
     cut_comma line [] lemma codes comment is k
 
--- a line without a dot has the form that is there
+-- a line with an empty form has no other form before a missing dot
 empty_form_dot : (line : List ℕ) (form : List Written) → HasEmptyForm line → form ≢ [] →
     HasNoDot line form → ⊥
 empty_form_dot line form (without_dot h) some k = some (no_dot_form line form [] k h)
 empty_form_dot line form (with_dot lemma codes comment is) some k =
     cut_dot line [] lemma codes form comment is k
 
--- a line that is cut has the form that is there
+-- a line with an empty form has no other form where it is cut
 empty_form_cut : (line : List ℕ) (form lemma codes : List Written) (comment : List ℕ) →
     HasEmptyForm line → form ≢ [] → IsCut line form lemma codes comment → ⊥
 empty_form_cut line form lemma codes comment (without_dot h) some is =
