@@ -11,6 +11,8 @@ pub mod ListLemmas
 pub mod PartLemmas
 pub mod PlainLemmas
 pub mod PrintLemmas
+pub mod RefusalLaws
+pub mod RefusalLemmas
 pub mod RoundTripLemmas
 pub mod RunLemmas
 pub mod ShieldLemmas
