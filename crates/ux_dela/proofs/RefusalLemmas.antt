@@ -12,7 +12,7 @@ use Rattle.ux_dela.proofs.CharactersLemmas.{IsPart-append, characters_part}
 use Rattle.ux_dela.proofs.RunLemmas.{is_none_stop, IsClosed, closed_part, all_behind-push}
 use Rattle.ux_dela.proofs.UniqueLemmas.{Stopped, IsOver, one_front, one_run, sign_stops, no_code, none_empty}
 use Rattle.ux_dela.proofs.CodesLemmas.{over_list}
-use Rattle.ux_dela.proofs.ExclusionLemmas.{same_behind, no_sign, cut_read, after_form, one_cut, open_read, cut_open}
+use Rattle.ux_dela.proofs.ExclusionLemmas.{same_behind, no_sign, after_form, cut_no_comma, cut_no_dot, one_cut, open_read, cut_open}
 
 -- a code stops where more codes follow, or where what stands behind them stops it
 stopped_behind : (sign : ℕ) (stops : ℕ → Bool) (codes : List (List Written)) (w : List Written) →
@@ -201,26 +201,6 @@ no_dot_form line form other h k =
     (after_form line form other h.lemma (bare COMMA ∷ k.lemma) h.is_form k.is_form refl
     (no_dot_read line form h) (no_dot_read line other k)).0
 
--- a line that is cut has a dot
-cut_dot : (line : List ℕ) (form lemma codes other : List Written) (comment : List ℕ) →
-    IsCut line form lemma codes comment → HasNoDot line other → ⊥
-cut_dot line form lemma codes other comment is h =
-    let behind = codes ++ characters comment in
-    let first = after_form line form other (lemma ++ bare DOT ∷ behind) (bare COMMA ∷ h.lemma)
-    is.is_form h.is_form refl (cut_read line form lemma codes comment is)
-    (no_dot_read line other h) in
-    let second = same_behind COMMA COMMA (lemma ++ bare DOT ∷ behind) h.lemma first.1 in
-    no_sign DOT behind
-    (one_front is_dot lemma h.lemma (bare DOT ∷ behind) [] is.is_lemma h.is_lemma refl tt
-    (second ∙ sym (append-nil h.lemma))).1
-
--- a line that is cut has a comma
-cut_comma : (line : List ℕ) (form lemma codes : List Written) (comment : List ℕ) →
-    IsCut line form lemma codes comment → HasNoComma line → ⊥
-cut_comma line form lemma codes comment is =
-    comma_excluded line form (lemma ++ bare DOT ∷ (codes ++ characters comment)) is.is_form
-    (cut_read line form lemma codes comment is)
-
 -- a line whose characters are read up to a backslash at its end
 record IsOpen (line : List ℕ) : Type 0 where
   front : List Written
@@ -278,20 +258,20 @@ no_dot_open line form h =
 empty_form_comma : (line : List ℕ) → HasEmptyForm line → HasNoComma line → ⊥
 empty_form_comma line (without_dot h) k = no_dot_comma line [] h k
 empty_form_comma line (with_dot lemma codes comment is) k =
-    cut_comma line [] lemma codes comment is k
+    cut_no_comma line [] lemma codes comment is k
 
 -- a line with an empty form has no other form before a missing dot
 empty_form_dot : (line : List ℕ) (form : List Written) → HasEmptyForm line → form ≢ [] →
     HasNoDot line form → ⊥
 empty_form_dot line form (without_dot h) some k = some (no_dot_form line form [] k h)
 empty_form_dot line form (with_dot lemma codes comment is) some k =
-    cut_dot line [] lemma codes form comment is k
+    cut_no_dot line [] lemma codes comment is form k
 
 -- a line with an empty form has no other form where it is cut
 empty_form_cut : (line : List ℕ) (form lemma codes : List Written) (comment : List ℕ) →
     HasEmptyForm line → form ≢ [] → IsCut line form lemma codes comment → ⊥
 empty_form_cut line form lemma codes comment (without_dot h) some is =
-    cut_dot line form lemma codes [] comment is h
+    cut_no_dot line form lemma codes comment is [] h
 empty_form_cut line form lemma codes comment (with_dot lemma' codes' comment' other) some is =
     some (one_cut line form lemma codes comment is [] lemma' codes' comment' other).0
 
@@ -323,7 +303,7 @@ module _ (line : List ℕ) (number : ℕ) where
   no_comma_only h (NoDot n place) k = absurd (no_dot_comma line k.1.0 k.1.2 h)
   no_comma_only h (EmptyForm n place) k = absurd (empty_form_comma line k.1 h)
   no_comma_only h (EmptyCode n place) k =
-      absurd (cut_comma line k.1.form k.1.lemma k.1.codes k.1.comment k.1.cut h)
+      absurd (cut_no_comma line k.1.form k.1.lemma k.1.codes k.1.comment k.1.cut h)
   no_comma_only h (BadEscape n place) k = absurd (no_comma_open line h k.1)
   no_comma_only h (BadClass n place) k = absurd k
   no_comma_only h NoMemory k = absurd k
@@ -336,7 +316,7 @@ module _ (line : List ℕ) (number : ℕ) where
       ap (λ m. NoDot m place) k.0 ∙ ap (λ p. NoDot number p) k.2
   no_dot_only form some h (EmptyForm n place) k = absurd (empty_form_dot line form k.1 some h)
   no_dot_only form some h (EmptyCode n place) k =
-      absurd (cut_dot line k.1.form k.1.lemma k.1.codes form k.1.comment k.1.cut h)
+      absurd (cut_no_dot line k.1.form k.1.lemma k.1.codes k.1.comment k.1.cut form h)
   no_dot_only form some h (BadEscape n place) k = absurd (no_dot_open line form h k.1)
   no_dot_only form some h (BadClass n place) k = absurd k
   no_dot_only form some h NoMemory k = absurd k
@@ -359,9 +339,9 @@ module _ (line : List ℕ) (number : ℕ) where
   empty_code_only : (at : ℕ) → HasEmptyCode line at → (error : DelaError) →
       HasFault line number error → error ≡ EmptyCode number at
   empty_code_only at h (NoComma n place) k =
-      absurd (cut_comma line h.form h.lemma h.codes h.comment h.cut k.1)
+      absurd (cut_no_comma line h.form h.lemma h.codes h.comment h.cut k.1)
   empty_code_only at h (NoDot n place) k =
-      absurd (cut_dot line h.form h.lemma h.codes k.1.0 h.comment h.cut k.1.2)
+      absurd (cut_no_dot line h.form h.lemma h.codes h.comment h.cut k.1.0 k.1.2)
   empty_code_only at h (EmptyForm n place) k =
       absurd (empty_form_cut line h.form h.lemma h.codes h.comment k.1 h.some_form h.cut)
   empty_code_only at h (EmptyCode n place) k =
