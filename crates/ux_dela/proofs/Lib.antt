@@ -11,6 +11,7 @@ pub mod ListLemmas
 pub mod PartLemmas
 pub mod PlainLemmas
 pub mod PrintLemmas
+pub mod RefusedOnceLemmas
 pub mod RoundTripLemmas
 pub mod RunLemmas
 pub mod ShieldLemmas

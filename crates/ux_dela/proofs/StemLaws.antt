@@ -1,14 +1,16 @@
--- A line of lemmas says one thing only and is refused in one way only.
+-- Lines and files of lemmas say one thing only, and are refused in one way only.
 use Rattle.std.proofs.Common.{arith, ◌≡◌, ◌≢◌, ℕ, ◌+◌, List, [], ◌∷◌, ◌++◌, refl, sym, ◌∙◌, ap, subst, length}
 use Rattle.ux_base.specs.Lines.{lines_of}
 use Rattle.ux_dela.specs.Signs.{COMMA}
 use Rattle.ux_dela.specs.Written.{Written, bare, written, meant, all_meant}
 use Rattle.ux_dela.specs.Delas.{IsStemCut, IsStemList, IsClass, IsDelasLine, DelasSays, skipped, stem, IsStemEmptyAt, HasEmptyStemCode, HasBadClass, HasEmptyLemma, HasStemFault, RefusesDelas}
-use Rattle.ux_dela.specs.Files.{AreStems}
+use Rattle.ux_dela.specs.Files.{AreStems, RefusesStems}
 use Rattle.ux_dela.specs.declared.entry.Stem.{Stem}
 use Rattle.ux_dela.specs.declared.error.DelaError.{DelaError}
 use Rattle.ux_dela.specs.declared.error.DelaError.TheVariants.{NoComma, NoDot, EmptyForm, EmptyCode, BadEscape, BadClass, NoMemory}
 use Rattle.ux_dela.proofs.FileLemmas.{said_once}
+use Rattle.ux_dela.proofs.RefusedOnceLemmas.{refused_once}
+use Rattle.ux_dela.proofs.StemExclusionLemmas.{stem_excluded}
 use Rattle.ux_dela.proofs.StemUniqueLemmas.{same_stem_cut, same_stem_list, one_class, one_empty_place, listed_not_empty, cut_has_comma, cut_not_open, open_has_end}
 
 -- the stem of these parts
@@ -196,3 +198,10 @@ fault_once line number NoMemory other a b = absurd a
 pub delas_refused_once : (line : List ℕ) (number : ℕ) (one other : DelaError) →
     RefusesDelas line number one → RefusesDelas line number other → one ≡ other
 delas_refused_once line number one other a b = fault_once line number one other a.fault b.fault
+
+-- no file of lemmas is refused in two ways
+pub stems_refused_once : (text : List ℕ) (one other : DelaError) → RefusesStems text one →
+    RefusesStems text other → one ≡ other
+stems_refused_once text one other a b =
+    refused_once DelasSays RefusesDelas stem_excluded delas_refused_once (lines_of text) 1 one
+    other a b
