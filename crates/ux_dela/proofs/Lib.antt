@@ -18,7 +18,9 @@ pub mod RunLemmas
 pub mod ShieldLemmas
 pub mod SoundLemmas
 pub mod StemExclusionLemmas
+pub mod StemLaws
 pub mod StemLemmas
+pub mod StemUniqueLemmas
 pub mod StopLemmas
 pub mod TagLemmas
 pub mod UniqueLaws
