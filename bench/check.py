@@ -6,13 +6,9 @@ Needs the built program (make example) and a folder to write to (bench/data).
 """
 import os
 import random
-import sys
-import time
 
-HERE = os.path.dirname(os.path.abspath(__file__))
-PROGRAM = os.path.join(HERE, "..", "crates", "unitex", "out", "unitex")
-DATA = os.path.join(HERE, "data")
-RUNS = 3
+from measuring import DATA, PROGRAM, apart, best, prepare
+
 CODES = [".N+Conc:ms", ".N+Hum:fs:fp", ".V+t:P3s", ".A:mp", ".ADV"]
 
 
@@ -26,37 +22,18 @@ def line(draw, compound):
     return f"{form},{lemma}{draw.choice(CODES)}\n"
 
 
-def dictionary(size):
+def write(path, size):
+    """Writes a dictionary of so many lines."""
     draw = random.Random(20261127)
-    path = os.path.join(DATA, f"forms{size}.dic")
     with open(path, "w", encoding="utf-8") as file:
-        for number in range(size):
-            file.write(line(draw, number % 3 == 0))
-    return path
-
-
-def run(arguments):
-    """The seconds, and the peak of resident memory in bytes, of one run."""
-    begun = time.perf_counter()
-    child = os.fork()
-    if child == 0:
-        os.dup2(os.open(os.devnull, os.O_WRONLY), 1)
-        os.execvp(arguments[0], arguments)
-    _, status, usage = os.wait4(child, 0)
-    if os.waitstatus_to_exitcode(status) != 0:
-        sys.exit(f"{arguments[0]} failed with {status}")
-    return time.perf_counter() - begun, usage.ru_maxrss * 1024
-
-
-def best(arguments):
-    runs = [run(arguments) for _ in range(RUNS)]
-    return min(seconds for seconds, _ in runs), max(memory for _, memory in runs)
+        file.writelines(line(draw, number % 3 == 0) for number in range(size))
 
 
 def main():
-    os.makedirs(DATA, exist_ok=True)
+    prepare()
     for size in [150_000, 300_000, 1_000_000]:
-        path = dictionary(size)
+        path = os.path.join(DATA, f"forms{size}.dic")
+        apart(write, path, size)
         length = os.path.getsize(path)
         print(f"{size} lines, {length / 1e6:.1f} MB")
         for name, arguments in [("unitex check", [PROGRAM, "check", path]), ("wc -l", ["wc", "-l", path])]:

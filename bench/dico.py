@@ -7,13 +7,9 @@ Needs the built program (make example) and a folder to write to (bench/data).
 """
 import os
 import random
-import sys
-import time
 
-HERE = os.path.dirname(os.path.abspath(__file__))
-PROGRAM = os.path.join(HERE, "..", "crates", "unitex", "out", "unitex")
-DATA = os.path.join(HERE, "data")
-RUNS = 3
+from measuring import DATA, PROGRAM, RUNS, apart, least, prepare, run
+
 CODES = [".N+Conc:ms", ".N+Hum:fs:fp", ".V+t:P3s", ".A:mp", ".ADV"]
 ALPHABET = "".join(f"{c.upper()}{c}\n" for c in "abcdefghijklmnopqrstuvwxyz")
 
@@ -26,8 +22,13 @@ def words(draw, size):
     return list(seen)
 
 
-def data(size):
+def paths_of(size):
     """The paths of a dictionary of so many lines, of its forms and of a text."""
+    return [os.path.join(DATA, f"dico{size}{end}") for end in (".dic", ".forms", ".txt")]
+
+
+def write(size):
+    """Writes these files."""
     draw = random.Random(20261127)
     simple = words(draw, size - size // 3)
     compounds = {}
@@ -35,7 +36,7 @@ def data(size):
         compounds[f"{draw.choice(simple)} {draw.choice(simple)}"] = None
     compounds = list(compounds)
     forms = simple + compounds
-    paths = [os.path.join(DATA, f"dico{size}{end}") for end in (".dic", ".forms", ".txt")]
+    paths = paths_of(size)
     with open(paths[0], "w", encoding="utf-8") as file:
         file.writelines(f"{form},{draw.choice(CODES)}\n" for form in sorted(forms))
     with open(paths[1], "w", encoding="utf-8") as file:
@@ -47,7 +48,6 @@ def data(size):
         length += len(line) + 1
     with open(paths[2], "w", encoding="utf-8") as file:
         file.writelines(f"{line}\n" for line in lines)
-    return paths
 
 
 def one(draw, simple, compounds):
@@ -58,28 +58,14 @@ def one(draw, simple, compounds):
     return form.capitalize() if draw.random() < 0.05 else form
 
 
-def run(arguments, locale):
-    """The seconds, and the peak of resident memory in bytes, of one run."""
-    begun = time.perf_counter()
-    child = os.fork()
-    if child == 0:
-        os.environ["LC_ALL"] = locale
-        # To a file: grep stops at its first match where its output is thrown away.
-        os.dup2(os.open(os.path.join(DATA, "out.txt"), os.O_WRONLY | os.O_CREAT | os.O_TRUNC), 1)
-        os.execvp(arguments[0], arguments)
-    _, status, usage = os.wait4(child, 0)
-    if os.waitstatus_to_exitcode(status) != 0:
-        sys.exit(f"{arguments[0]} failed with {status}")
-    return time.perf_counter() - begun, usage.ru_maxrss * 1024
-
-
 def main():
-    os.makedirs(DATA, exist_ok=True)
+    prepare()
     letters = os.path.join(DATA, "letters.txt")
     with open(letters, "w", encoding="utf-8") as file:
         file.write(ALPHABET)
     for size in [150_000, 300_000]:
-        dictionary, forms, text = data(size)
+        apart(write, size)
+        dictionary, forms, text = paths_of(size)
         both = os.path.getsize(dictionary) + os.path.getsize(text)
         print(f"{size} lines, a text of {os.path.getsize(text) / 1e6:.1f} MB, both {both / 1e6:.1f} MB")
         programs = [
@@ -87,10 +73,10 @@ def main():
             ("grep, UTF-8", ["grep", "-o", "-w", "-F", "-f", forms, text], "C.UTF-8"),
             ("grep, bytes", ["grep", "-o", "-w", "-F", "-f", forms, text], "C"),
         ]
-        runs = [[run(arguments, locale) for _, arguments, locale in programs] for _ in range(RUNS)]
-        for number, (name, _, _) in enumerate(programs):
-            seconds = min(row[number][0] for row in runs)
-            memory = max(row[number][1] for row in runs)
+        runs = [[run(arguments, environment=dict(os.environ, LC_ALL=locale)) for _, arguments, locale in programs]
+                for _ in range(RUNS)]
+        for (name, _, _), column in zip(programs, zip(*runs)):
+            seconds, memory = least(column)
             print(f"  {name:12}  {seconds:.3f} s  {memory / 1e6:.1f} MB  {memory / both:.1f} of the two files")
 
 

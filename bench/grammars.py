@@ -6,34 +6,8 @@ Needs the built program (make example), GNU grep and a folder to write to (bench
 """
 import os
 import random
-import sys
-import time
 
-HERE = os.path.dirname(os.path.abspath(__file__))
-PROGRAM = os.path.join(HERE, "..", "crates", "unitex", "out", "unitex")
-DATA = os.path.join(HERE, "data")
-RUNS = 3
-
-
-def run(arguments, output, environment=None):
-    """The seconds, and the peak of resident memory in bytes, of one run.
-
-    The peak is never below this script's own, which the new process begins with.
-    """
-    begun = time.perf_counter()
-    child = os.fork()
-    if child == 0:
-        os.dup2(os.open(output, os.O_WRONLY | os.O_CREAT | os.O_TRUNC, 0o644), 1)
-        os.execvpe(arguments[0], arguments, environment or os.environ)
-    _, status, usage = os.wait4(child, 0)
-    if os.waitstatus_to_exitcode(status) != 0:
-        sys.exit(f"{arguments[0]} failed with {status}")
-    return time.perf_counter() - begun, usage.ru_maxrss * 1024
-
-
-def best(arguments, output, environment=None):
-    runs = [run(arguments, output, environment) for _ in range(RUNS)]
-    return min(seconds for seconds, _ in runs), max(memory for _, memory in runs)
+from measuring import DATA, OUT, PROGRAM, best, prepare
 
 
 def lines(path):
@@ -83,20 +57,19 @@ def phrases(alphabet):
         chosen.add(" ".join(text[at:at + source.randint(2, 4)]))
     patterns = write("patterns.txt", "\n".join(sorted(chosen)) + "\n")
     grammar = write("phrases.grf", graph([("<E>", [2]), ("", []), ("+".join(sorted(chosen)), [1])]))
-    out = os.path.join(DATA, "out.txt")
     print("2,000 phrases over 4 MB")
-    seconds, memory = best([PROGRAM, "locate", grammar, corpus, alphabet], out)
-    print(f"  unitex locate           {seconds:.3f} s  {lines(out) - 1} hits, all of them  {memory / 1e6:.1f} MB")
+    seconds, memory = best([PROGRAM, "locate", grammar, corpus, alphabet])
+    print(f"  unitex locate           {seconds:.3f} s  {lines(OUT) - 1} hits, all of them  {memory / 1e6:.1f} MB")
     for locale in ["C.UTF-8", "C"]:
         environment = dict(os.environ, LC_ALL=locale)
-        seconds, memory = best(["grep", "-o", "-w", "-F", "-f", patterns, corpus], out, environment)
-        print(f"  grep -o -w -F -f, {locale:8} {seconds:.3f} s  {lines(out)} lines, none overlapping,"
+        seconds, memory = best(["grep", "-o", "-w", "-F", "-f", patterns, corpus], environment=environment)
+        print(f"  grep -o -w -F -f, {locale:8} {seconds:.3f} s  {lines(OUT)} lines, none overlapping,"
               f" within lines  {memory / 1e6:.1f} MB")
     raised = [word.capitalize() if place % 7 == 0 else word for place, word in enumerate(text)]
     corpus = write("raised.txt", "\n".join(
         " ".join(raised[at:at + 12]) for at in range(0, len(raised), 12)) + "\n")
-    seconds, memory = best([PROGRAM, "locate", grammar, corpus, alphabet], out)
-    print(f"  unitex locate, every seventh word capitalised  {seconds:.3f} s  {lines(out) - 1} hits"
+    seconds, memory = best([PROGRAM, "locate", grammar, corpus, alphabet])
+    print(f"  unitex locate, every seventh word capitalised  {seconds:.3f} s  {lines(OUT) - 1} hits"
           f"  {memory / 1e6:.1f} MB, {len(set(raised))} different words,"
           f" {len({word for word in raised if word[0].isupper()})} capitalised")
 
@@ -106,17 +79,15 @@ def depth(alphabet):
     main = write("deep.grf", graph([("<E>", [2]), ("", []), ("s", [3]), (":inner", [1])]))
     write("inner.grf", graph([
         ("<E>", [2, 5]), ("", []), ("a", [3]), (":inner", [4]), ("b", [1]), ("a", [6]), ("b", [1])]))
-    out = os.path.join(DATA, "out.txt")
     print("calls inside each other")
     for calls in [500, 5000, 50000, 100000, 200000]:
         text = write("deep.txt", "s" + " a" * calls + " b" * calls)
-        seconds, memory = best([PROGRAM, "locate", main, text, alphabet], out)
-        print(f"  {calls:6} calls  {seconds:.3f} s  {lines(out) - 1} hit  {memory / 1e6:.1f} MB")
+        seconds, memory = best([PROGRAM, "locate", main, text, alphabet])
+        print(f"  {calls:6} calls  {seconds:.3f} s  {lines(OUT) - 1} hit  {memory / 1e6:.1f} MB")
 
 
 def compilation(alphabet):
     """Many graphs of 20 boxes, each calling the next, over an empty text."""
-    out = os.path.join(DATA, "out.txt")
     text = write("empty.txt", "")
     print("graphs of 20 boxes")
     for count in [2500, 5000]:
@@ -129,14 +100,12 @@ def compilation(alphabet):
             boxes.append((f":many{number + 1}" if number < count - 1 else "stop", [1]))
             write(f"many{number}.grf", graph(boxes))
         main = os.path.join(DATA, "many0.grf")
-        seconds, memory = best([PROGRAM, "locate", main, text, alphabet], out)
+        seconds, memory = best([PROGRAM, "locate", main, text, alphabet])
         print(f"  {count:5} graphs  {seconds:.3f} s  {memory / 1e6:.1f} MB")
 
 
 def main():
-    if not os.access(PROGRAM, os.X_OK):
-        sys.exit("build the program first: make example")
-    os.makedirs(DATA, exist_ok=True)
+    prepare()
     alphabet = letters()
     phrases(alphabet)
     depth(alphabet)

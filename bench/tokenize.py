@@ -8,11 +8,9 @@ import os
 import random
 import subprocess
 import sys
-import time
 
-HERE = os.path.dirname(os.path.abspath(__file__))
-PROGRAM = os.path.join(HERE, "..", "crates", "unitex", "out", "unitex")
-DATA = os.path.join(HERE, "data")
+from measuring import DATA, HERE, PROGRAM, apart, least, prepare, run
+
 RUNS = 5
 SIZE = 16_000_000
 
@@ -44,30 +42,9 @@ def write(name, content):
 
 
 def write_texts():
-    """Writes the texts in a process of its own, whose memory the measured ones don't begin with."""
-    child = os.fork()
-    if child == 0:
-        content = text()
-        write("tokens.txt", content.encode())
-        write("tokens16.txt", b"\xff\xfe" + content.encode("utf-16-le"))
-        os._exit(0)
-    if os.waitstatus_to_exitcode(os.waitpid(child, 0)[1]) != 0:
-        sys.exit("the texts could not be written")
-
-
-def run(arguments, output):
-    """The seconds, and the peak of resident memory in bytes, of one run."""
-    begun = time.perf_counter()
-    child = os.posix_spawn(
-        arguments[0],
-        arguments,
-        os.environ,
-        file_actions=[(os.POSIX_SPAWN_OPEN, 1, output, os.O_WRONLY | os.O_CREAT | os.O_TRUNC, 0o644)],
-    )
-    _, status, usage = os.wait4(child, 0)
-    if os.waitstatus_to_exitcode(status) != 0:
-        sys.exit(f"{arguments[0]} failed with {status}")
-    return time.perf_counter() - begun, usage.ru_maxrss * 1024
+    content = text()
+    write("tokens.txt", content.encode())
+    write("tokens16.txt", b"\xff\xfe" + content.encode("utf-16-le"))
 
 
 def read(path):
@@ -75,8 +52,8 @@ def read(path):
         return file.read()
 
 
-os.makedirs(DATA, exist_ok=True)
-write_texts()
+prepare()
+apart(write_texts)
 letters = "".join(f"{c.upper()}{c}\n" for c in "abcdefghijklmnopqrstuvwxyzéö")
 write("letters.txt", letters.encode())
 alphabet = os.path.join(DATA, "letters.txt")
@@ -102,7 +79,6 @@ for encoding, file in files.items():
     if len({read(output) for output in outputs.values()}) != 1:
         sys.exit("the token files differ")
     for name in commands:
-        seconds = min(seconds for seconds, _ in runs[name])
-        memory = max(memory for _, memory in runs[name])
+        seconds, memory = least(runs[name])
         size = os.path.getsize(file)
         print(f"| {encoding} | `{name}` | {seconds:.3f} s | {memory / 1e6:.1f} MB | {memory / size:.1f} |")

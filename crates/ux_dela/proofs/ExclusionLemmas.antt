@@ -71,7 +71,7 @@ after_lemma lemma other w r p q s e = one_front is_dot lemma other (bare DOT ∷
 module _ (line : List ℕ) (form lemma codes : List Written) (comment : List ℕ)
     (is : IsCut line form lemma codes comment) where
   -- a line that is cut has a comma
-  cut_no_comma : HasNoComma line → ⊥
+  pub cut_no_comma : HasNoComma line → ⊥
   cut_no_comma h =
       let read : characters line ≡ h.form ++ [] =
       ap characters h.whole ∙ characters_part is_comma h.form h.is_form
@@ -81,7 +81,7 @@ module _ (line : List ℕ) (form lemma codes : List Written) (comment : List ℕ
       is.is_form h.is_form tt (cut_read line form lemma codes comment is) read).1
 
   -- and a dot
-  cut_no_dot : (other : List Written) → HasNoDot line other → ⊥
+  pub cut_no_dot : (other : List Written) → HasNoDot line other → ⊥
   cut_no_dot other h =
       let closed : IsClosed (other ++ bare COMMA ∷ h.lemma) =
       IsPart-append is_none_stop other (bare COMMA ∷ h.lemma)

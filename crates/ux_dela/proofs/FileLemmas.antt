@@ -96,3 +96,21 @@ module _ {T : Type 0} (Says : List ℕ → List T → Type 0)
       (line_then line' rest' here' later' says' h') =
       ap (λ t. t ++ later) (once line here here' says says')
       ∙ ap (λ t. here' ++ t) (said_once once rest later later' h h')
+
+  -- lines are refused in one way, where each line is
+  pub refused_in_one_way : (excluded : (line : List ℕ) (number : ℕ) (said : List T)
+      (error : DelaError) → Says line said → Refuses line number error → ⊥) →
+      (once : (line : List ℕ) (number : ℕ) (one other : DelaError) → Refuses line number one →
+      Refuses line number other → one ≡ other) →
+      (lines : List (List ℕ)) (number : ℕ) (one other : DelaError) →
+      IsRefused Says Refuses number lines one → IsRefused Says Refuses number lines other →
+      one ≡ other
+  refused_in_one_way excluded once lines number one other (this_line n line rest e r)
+      (this_line n' line' rest' e' r') = once line number one other r r'
+  refused_in_one_way excluded once lines number one other (this_line n line rest e r)
+      (later_line n' line' rest' said e' says r') = absurd (excluded line number said one says r)
+  refused_in_one_way excluded once lines number one other (later_line n line rest said e says r)
+      (this_line n' line' rest' e' r') = absurd (excluded line number said other says r')
+  refused_in_one_way excluded once lines number one other (later_line n line rest said e says r)
+      (later_line n' line' rest' said' e' says' r') =
+      refused_in_one_way excluded once rest (number + 1) one other r r'

@@ -11,12 +11,16 @@ pub mod ListLemmas
 pub mod PartLemmas
 pub mod PlainLemmas
 pub mod PrintLemmas
+pub mod RefusalLaws
+pub mod RefusalLemmas
 pub mod RoundTripLemmas
 pub mod RunLemmas
 pub mod ShieldLemmas
 pub mod SoundLemmas
 pub mod StemExclusionLemmas
+pub mod StemLaws
 pub mod StemLemmas
+pub mod StemUniqueLemmas
 pub mod StopLemmas
 pub mod TagLemmas
 pub mod UniqueLaws

@@ -1,10 +1,7 @@
--- A file of forms says one list of entries, and a file of lemmas one list of stems.
-use Rattle.std.proofs.Common.{arith, ◌≡◌, ℕ, List, [], ◌∷◌, ◌++◌, refl, sym, ◌∙◌, ap, subst, length, take}
-use Rattle.std.specs.List.{prefix_len}
-use Rattle.std.proofs.lemmas.List.{take_at}
+-- A file of forms says one list of entries.
+use Rattle.std.proofs.Common.{◌≡◌, ℕ, List, [], refl, sym, ◌∙◌, ap, subst}
 use Rattle.ux_base.specs.Lines.{lines_of}
-use Rattle.ux_dela.specs.Signs.{is_upper}
-use Rattle.ux_dela.specs.Written.{Written, meant, all_meant}
+use Rattle.ux_dela.specs.Written.{Written}
 use Rattle.ux_dela.specs.Codes.{IsCodeList}
 use Rattle.ux_dela.specs.Delaf.{DelafParts, IsDelafLine, DelafSays, skipped, entries, entries_of, RefusesDelaf}
 use Rattle.ux_dela.specs.Files.{AreEntries}

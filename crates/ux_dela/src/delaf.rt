@@ -4,7 +4,7 @@
 //! read. Where a backslash ends a line, no other fault is named; `specs/Delaf.antt` has the faults.
 
 ghost use Rattle.std.specs.Prelude.{◌≡◌, ◌≢◌, ◌↔◌, ◌⊎◌, ◌++◌, ◌∷◌, [], All, IsTrue, IfOk, IfErr, OnOk};
-ghost use Rattle.ux_dela.specs.Delaf.{IsSkipped, IsCut, HasFault, RefusesDelaf, lemma_of};
+ghost use Rattle.ux_dela.specs.Delaf.{IsSkipped, IsCut, HasFault, DelafSays, RefusesDelaf, lemma_of};
 ghost use Rattle.ux_dela.specs.Files.{AreEntries, Refuses};
 ghost use Rattle.ux_dela.specs.Reading.{characters, mark_sign, IsCutOf, IsListed, has_mark_in, entry_in, entries_in, AddsSaid};
 ghost use Rattle.ux_dela.specs.Signs.{COMMA, DOT, SPACE, HYPHEN, is_comma, is_dot};
@@ -43,6 +43,18 @@ pub fn read_delaf(alloc: Global, text: &str) -> Result<Vec<Entry>, DelaError>
     ensures exact { IfOk result (λ _. (error : DelaError) → Refuses text.now error → ⊥) }
 {
     read_entries(alloc, text)
+}
+
+/// The entries of one line of a file of forms, or why this line of that number is refused. So a
+/// file can be read with no list of all of its entries. The time is linear in the line.
+pub fn read_delaf_line(alloc: Global, line: &str, number: usize) -> Result<Vec<Entry>, DelaError>
+    ensures ok { IfOk result (λ entries. DelafSays line.now entries.items) }
+    ensures refused { IfErr result (λ error.
+        (error ≡ NoMemory) ⊎ RefusesDelaf line.now number error) }
+{
+    let mut entries = Vec::new(alloc);
+    read_line(alloc, line, number, &mut entries)?;
+    Ok(entries)
 }
 
 /// The entries of a file of forms.

@@ -25,7 +25,7 @@ pub mod printing;
 pub mod tag;
 
 pub use counting::{count_delaf, count_delas};
-pub use delaf::read_delaf;
+pub use delaf::{read_delaf, read_delaf_line};
 pub use delas::read_delas;
 pub use entry::{Codes, Entry, Stem};
 pub use error::DelaError;

@@ -13,3 +13,4 @@ pub mod KeyLemmas
 pub mod NearLemmas
 pub mod RunLemmas
 pub mod CodesLemmas
+pub mod ReadLemmas

@@ -1,4 +1,5 @@
 pub mod Content
+pub mod FileContent
 pub mod Equal
 pub mod Forms
 pub mod Keys

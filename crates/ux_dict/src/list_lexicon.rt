@@ -56,7 +56,15 @@ impl ListLexicon {
         requires { All IsSound entries.items }
         ensures { IfOk result (IsContent entries.items) }
     {
-        let entries = content_of(alloc, entries)?;
+        let content = content_of(alloc, entries)?;
+        Ok(ListLexicon::of_content(alloc, content)?)
+    }
+
+    /// The dictionary of this content, with what is kept beside it.
+    pub(crate) fn of_content(alloc: Global, entries: Vec<Stored>) -> Result<ListLexicon, AllocError>
+        requires { IsDictionary entries.items }
+        ensures { IfOk result (λ lexicon. lexicon ≡ entries.items) }
+    {
         let keys = keys_of(alloc, &entries)?;
         let letters = letters_of(alloc, &entries)?;
         let longest = longest_form(&entries);

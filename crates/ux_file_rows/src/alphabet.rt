@@ -11,6 +11,9 @@ type Letter = (&'static str, char, bool, bool);
 /// A file, a character of an entry and one of the text, and whether the first fits the second.
 type Fit = (&'static str, char, char, bool);
 
+/// A file, a character of a text, and whether no other character of an entry fits it.
+type Alone = (&'static str, char, bool);
+
 /// A name, a file, and its refusal.
 type Refusal = (&'static str, &'static str, Option<AlphabetError>);
 
@@ -35,6 +38,12 @@ fn check_letter(rt: &impl Abort, alloc: Global, row: &Letter) -> Result<(), Alph
 fn check_fit(rt: &impl Abort, alloc: Global, row: &Fit) -> Result<(), AlphabetError> {
     let alphabet = Alphabet::read(alloc, row.0)?;
     compare(rt, alphabet.fits(row.1, row.2), row.3, (row.0, row.2));
+    Ok(())
+}
+
+fn check_alone(rt: &impl Abort, alloc: Global, row: &Alone) -> Result<(), AlphabetError> {
+    let alphabet = Alphabet::read(alloc, row.0)?;
+    compare(rt, alphabet.fits_alone(row.1), row.2, (row.0, row.1));
     Ok(())
 }
 
@@ -154,6 +163,27 @@ fn an_upper_case_form_fits_one_way(rt: HostRuntime) -> Result<(), Fail> {
     ];
     for row in ROWS {
         check_fit(&rt, rt.alloc(), row)?;
+    }
+    Ok(())
+}
+
+#[test]
+fn a_character_may_fit_alone(rt: HostRuntime) -> Result<(), Fail> {
+    const ROWS: &[Alone] = &[
+        ("Aa", 'a', true),
+        ("Aa", 'A', false),
+        ("Aa", ' ', true),
+        ("AA", 'A', true),
+        ("#AZ", 'A', true),
+        ("x", 'x', true),
+        (" x", ' ', false),
+        ("{x", '{', false),
+        ("{x", '}', true),
+        ("", 'é', true),
+        ("Éé", 'É', false),
+    ];
+    for row in ROWS {
+        check_alone(&rt, rt.alloc(), row)?;
     }
     Ok(())
 }

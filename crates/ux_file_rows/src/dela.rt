@@ -6,7 +6,7 @@ use std::test::Fail;
 use ux_base::Txt;
 use ux_dela::{
     DelaError, Entry, Stem, count_delaf, count_delas, print_codes, print_delaf, read_codes,
-    read_delaf, read_delas, read_tag,
+    read_delaf, read_delaf_line, read_delas, read_tag,
 };
 
 /// A name, a file, and what it says: its entries or stems, each between brackets.
@@ -380,6 +380,15 @@ fn lines_of_forms_are_refused(rt: HostRuntime) {
         compare_refusal(&rt, read_delaf(rt.alloc(), row.1).err(), row);
         compare_refusal(&rt, count_delaf(rt.alloc(), row.1).err(), row);
     }
+}
+
+#[test]
+fn a_line_is_read_by_itself(rt: HostRuntime) -> Result<(), Fail> {
+    assert_eq!(rt; read_delaf_line(rt.alloc(), "a=b,.N", 7)?.len(), 2);
+    assert_eq!(rt; read_delaf_line(rt.alloc(), "/a comment", 7)?.len(), 0);
+    let refused = read_delaf_line(rt.alloc(), "abc", 7).err();
+    assert_eq!(rt; refused, Some(DelaError::NoComma { line: 7, place: 3 }));
+    Ok(())
 }
 
 #[test]

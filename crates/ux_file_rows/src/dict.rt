@@ -4,7 +4,7 @@ use std::alloc::Global;
 use std::process::Abort;
 use std::test::Fail;
 use ux_alphabet::Alphabet;
-use ux_dela::{Entry, print_delaf, read_delaf};
+use ux_dela::{DelaError, Entry, print_delaf, read_delaf};
 use ux_dict::{AnyLexicon, Lexicon, ListLexicon, different};
 
 /// The pairs of letters in all rows: `X` has none.
@@ -28,8 +28,7 @@ type Counts = (
 );
 
 fn lexicon(alloc: Global, lines: &str) -> Result<AnyLexicon, Fail> {
-    let entries = read_delaf(alloc, lines)?;
-    Ok(AnyLexicon::List(ListLexicon::new(alloc, entries)?))
+    Ok(AnyLexicon::List(ListLexicon::read(alloc, lines)?))
 }
 
 /// The entries as lines, each between brackets.
@@ -48,8 +47,8 @@ fn compare(rt: &impl Abort, got: &str, want: &str, name: &str) {
     assert_eq!(rt; got, want, "{name}");
 }
 
-fn check_fitting(rt: &impl Abort, alloc: Global, row: &Fitting) -> Result<(), Fail> {
-    let alphabet = Alphabet::read(alloc, PAIRS)?;
+fn check_fitting(rt: &impl Abort, alloc: Global, pairs: &str, row: &Fitting) -> Result<(), Fail> {
+    let alphabet = Alphabet::read(alloc, pairs)?;
     let entries = lexicon(alloc, row.1)?.fitting(alloc, row.2, &alphabet)?;
     compare(rt, printed(alloc, &entries)?.as_str(), row.3, row.0);
     Ok(())
@@ -103,7 +102,21 @@ fn entries_of_fitting_forms_are_found(rt: HostRuntime) -> Result<(), Fail> {
         ("no text", "cat,.N", "", ""),
     ];
     for row in ROWS {
-        check_fitting(&rt, rt.alloc(), row)?;
+        check_fitting(&rt, rt.alloc(), PAIRS, row)?;
+    }
+    Ok(())
+}
+
+#[test]
+fn what_is_no_letter_may_fit_too(rt: HostRuntime) -> Result<(), Fail> {
+    const SIGNS: &str = " x\n{y\n";
+    const ROWS: &[Fitting] = &[
+        ("a space as x", "axb,.N\na b,.N", "a b", "[a b,.N][axb,.N]"),
+        ("a brace as y", "y,.N", "{", "[y,.N]"),
+        ("an x as no space", "a b,.N", "axb", ""),
+    ];
+    for row in ROWS {
+        check_fitting(&rt, rt.alloc(), SIGNS, row)?;
     }
     Ok(())
 }
@@ -155,6 +168,21 @@ fn a_long_form_is_found(rt: HostRuntime) -> Result<(), Fail> {
     assert_eq!(rt; lexicon.fitting(alloc, lower.as_str(), &alphabet)?.len(), 1);
     assert_eq!(rt; lexicon.fitting(alloc, upper.as_str(), &alphabet)?.len(), 1);
     Ok(())
+}
+
+#[test]
+fn a_list_makes_the_dictionary_of_its_file(rt: HostRuntime) -> Result<(), Fail> {
+    let entries = read_delaf(rt.alloc(), "b,.N\na,.N\nb,.N")?;
+    let lexicon = ListLexicon::new(rt.alloc(), entries)?;
+    assert_eq!(rt; lexicon.count(), 2);
+    assert_eq!(rt; lexicon.exact("b"), Some(1));
+    Ok(())
+}
+
+#[test]
+fn the_first_bad_line_of_a_dictionary_is_named(rt: HostRuntime) {
+    let refused = ListLexicon::read(rt.alloc(), "a,.N\n\nabc\nabcd").err();
+    assert_eq!(rt; refused, Some(DelaError::NoComma { line: 3, place: 3 }));
 }
 
 #[test]

@@ -2,21 +2,20 @@
 //!
 //! The file is read and decoded as any other, and its entries are counted line by line, with no list
 //! of them: by `count_entries` in files of forms, and by `count_stems` in files of lemmas. Both write
-//! the same line. `read_forms` gives the entries themselves, for other commands.
+//! the same line.
 
-ghost use Rattle.std.specs.Prelude.{◌≡◌, ◌≢◌, ◌⊎◌, All, IfOk, IfErr, string_bytes};
+ghost use Rattle.std.specs.Prelude.{◌≡◌, ◌≢◌, ◌⊎◌, IfOk, IfErr, string_bytes};
 ghost use Rattle.ux_dela.specs.Files.{AreEntries, AreStems, Refuses, RefusesStems};
-ghost use Rattle.ux_dela.specs.Sound.{IsSound};
 ghost use Rattle.ux_dela.specs.declared.error.DelaError.TheVariants as dela_error;
 ghost use Rattle.ux_run.specs.Entries.{entries_line};
-ghost use Rattle.ux_run.specs.Running.{counts_of, dictionary_format, HasEntries, IsCountOf, NoneFell, Stops};
+ghost use Rattle.ux_run.specs.Running.{counts_of, dictionary_format, IsCountOf, NoneFell, Stops};
 
 use crate::reading::{read_decoded, refused};
 use crate::status::{Reason, Status};
 use itoa::Buffer;
 use std::alloc::Global;
 use ux_base::{Folder, Mem};
-use ux_dela::{DelaError, Entry, count_delaf, count_delas, read_delaf};
+use ux_dela::{DelaError, count_delaf, count_delas};
 
 /// Counts the entries of a file of forms, and tells their number, or how the run ends.
 pub fn count_entries<F: Folder>(alloc: Global, name: &str, folder: &mut F) -> Result<String, Status>
@@ -32,29 +31,6 @@ pub fn count_entries<F: Folder>(alloc: Global, name: &str, folder: &mut F) -> Re
     let text = read_decoded(alloc, name, folder)?;
     match count_delaf(alloc, text.as_str()) {
         Ok(count) => counted(alloc, count),
-        Err(error) => Err(no_dictionary(alloc, name, error)),
-    }
-}
-
-/// Reads a file of forms, and gives its entries, or tells how the run ends.
-pub fn read_forms<F: Folder>(
-    alloc: Global,
-    name: &str,
-    folder: &mut F,
-) -> Result<Vec<Entry>, Status>
-    ensures kept { F.files folder.new ≡ F.files folder.old }
-    ensures counts { NoneFell (counts_of F.faults F.misses F.overlong folder.old)
-        (counts_of F.faults F.misses F.overlong folder.new) }
-    ensures sound { IfOk result (λ entries. All IsSound entries.items) }
-    ensures ok { IfOk result (λ entries.
-        HasEntries AreEntries (F.files folder.old) name.now entries.items) }
-    ensures err { IfErr result (Stops (dictionary_format Refuses) name.now (F.files folder.old)
-        (counts_of F.faults F.misses F.overlong folder.old)
-        (counts_of F.faults F.misses F.overlong folder.new)) }
-{
-    let text = read_decoded(alloc, name, folder)?;
-    match read_delaf(alloc, text.as_str()) {
-        Ok(entries) => Ok(entries),
         Err(error) => Err(no_dictionary(alloc, name, error)),
     }
 }
@@ -79,7 +55,7 @@ pub fn count_stems<F: Folder>(alloc: Global, name: &str, folder: &mut F) -> Resu
 }
 
 /// The ending that names a file which is no dictionary.
-fn no_dictionary(alloc: Global, name: &str, error: DelaError) -> Status
+pub fn no_dictionary(alloc: Global, name: &str, error: DelaError) -> Status
     ensures { (result ≡ Status.NoMemory) ⊎ ((error ≢ dela_error.NoMemory)
         × (result ≡ Status.Refused name.now (Reason.Dela error))) }
 {

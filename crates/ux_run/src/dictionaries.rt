@@ -9,9 +9,9 @@ ghost use Rattle.ux_dela.specs.Files.{Refuses};
 ghost use Rattle.ux_report.specs.Report.{IsReport};
 ghost use Rattle.ux_run.specs.Running.{counts_of, dictionary_format, ExplainsReport, HasDictionary, HaveDictionaries, IsReportOf, NoneFell, Stops, StopsDictionaries};
 
-use crate::checking::read_forms;
+use crate::checking::no_dictionary;
 use crate::naming::base_of;
-use crate::reading::read_tokens;
+use crate::reading::{read_decoded, read_tokens};
 use crate::status::Status;
 use std::alloc::Global;
 use ux_alphabet::Alphabet;
@@ -42,7 +42,7 @@ pub fn report_of<F: Folder>(
 {
     let (alphabet, text) = read_tokens(alloc, text, alphabet, folder)?;
     let dics = read_dictionaries(alloc, dics, folder)?;
-    Ok(applied_report(alloc, &text, &alphabet, &dics)?)
+    Ok(applied_report(alloc, &text, &alphabet, dics)?)
 }
 
 /// Reads the dictionaries, or says how the run ends.
@@ -82,22 +82,25 @@ fn read_dictionary<F: Folder>(
         (counts_of F.faults F.misses F.overlong folder.old)
         (counts_of F.faults F.misses F.overlong folder.new)) }
 {
-    let entries = read_forms(alloc, name, folder)?;
-    let lexicon = ListLexicon::new(alloc, entries)?;
-    Ok((Priority::of(base_of(name)), lexicon))
+    let text = read_decoded(alloc, name, folder)?;
+    match ListLexicon::read(alloc, text.as_str()) {
+        Ok(lexicon) => Ok((Priority::of(base_of(name)), lexicon)),
+        Err(error) => Err(no_dictionary(alloc, name, error)),
+    }
 }
 
-/// The report of the entries that apply to the text.
+/// The report of the entries that apply to the text. The dictionaries are freed before it is made.
 fn applied_report(
     alloc: Global,
     text: &Text,
     alphabet: &Alphabet,
-    dics: &[(Priority, ListLexicon)],
+    dics: Vec<(Priority, ListLexicon)>,
 ) -> Mem<String>
     ensures { IfOk result (λ report. (tables : Tables)
-        × AreApplied alphabet.now dics.now text.now tables
+        × AreApplied alphabet.now dics.items text.now tables
         × IsReport text.now tables (string_bytes report)) }
 {
-    let applied = Applied::of(alloc, text, alphabet, dics)?;
+    let applied = Applied::of(alloc, text, alphabet, &dics)?;
+    drop(dics);
     report(alloc, text, &applied)
 }

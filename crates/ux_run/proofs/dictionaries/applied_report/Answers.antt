@@ -1,4 +1,4 @@
-use Rattle.std.proofs.Common.{◌≡◌, List, String, Global, string_bytes, subst}
+use Rattle.std.proofs.Common.{◌≡◌, ◌∙◌, List, String, Global, string_bytes, subst}
 use Rattle.std.proofs.lemmas.List.{map-id}
 use Rattle.std.proofs.lemmas.Result.{IfOk-weaker}
 use Rattle.ux_dela.specs.declared.entry.Entry.{Entry}
@@ -14,8 +14,10 @@ returns c =
     let lines = c.args.alphabet.now in
     let tokens = c.args.text.now in
     let applied = c.in_ok-applied.applied in
-    let dics : List (Priority × List Entry) = c.args.dics.now in
-    let same : contents (λ (content : List Entry). content) dics ≡ dics = map-id dics in
+    let dics : List (Priority × List Entry) = c.args.dics.items in
+    let lent = c.deref.result.now in
+    let same : contents (λ (content : List Entry). content) lent ≡ dics =
+    map-id lent ∙ c.deref.ensures.value in
     let are = subst (λ (l : List (Priority × List Entry)). AreApplied lines l tokens applied) same
     c.in_ok-applied.ensures in
     IfOk-weaker c.report.result
