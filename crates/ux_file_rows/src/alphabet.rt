@@ -47,16 +47,24 @@ fn check_alone(rt: &impl Abort, alloc: Global, row: &Alone) -> Result<(), Alphab
     Ok(())
 }
 
-#[test]
-fn reads_an_alphabet_and_answers(rt: HostRuntime) -> Result<(), Fail> {
-    let alphabet = Alphabet::read(rt.alloc(), "Tt\nÉe\n")?;
+/// The answers of an alphabet of the pairs `Tt` and `Ée`.
+fn check_pairs(rt: &impl Abort, alphabet: &Alphabet) {
     assert!(rt; alphabet.is_letter('t'));
     assert!(rt; alphabet.is_upper('É'));
     assert!(rt; alphabet.is_lower('e'));
     assert!(rt; alphabet.fits('e', 'É'));
-    let none = Alphabet::empty();
+}
+
+/// The answers of an alphabet without letters.
+fn check_none(rt: &impl Abort, none: &Alphabet) {
     assert!(rt; !none.is_letter('t'));
     assert!(rt; none.fits('t', 't'));
+}
+
+#[test]
+fn reads_an_alphabet_and_answers(rt: HostRuntime) -> Result<(), Fail> {
+    check_pairs(&rt, &Alphabet::read(rt.alloc(), "Tt\nÉe\n")?);
+    check_none(&rt, &Alphabet::empty());
     Ok(())
 }
 

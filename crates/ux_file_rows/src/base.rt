@@ -3,6 +3,7 @@
 use std::alloc::{AllocError, Global};
 use std::io::Write;
 use std::process::Abort;
+use std::rt::Files;
 use std::test::Fail;
 use std::{env, fs, io, process};
 use ux_base::{
@@ -55,40 +56,51 @@ fn file(alloc: Global, name: &str, text: &str) -> Result<(String, Vec<u8>), Allo
     ))
 }
 
-/// Reads file after file: a name, its text, and the error.
-fn compare_reads(
-    rt: &impl Abort,
-    alloc: Global,
-    folder: &mut MemFolder,
-    rows: &[(&str, Option<&str>, Option<FolderError>)],
-) {
-    for (name, text, error) in rows {
-        let got = folder.read(alloc, name);
-        assert_eq!(rt;
-            got.as_ref().ok().map(|bytes| bytes.as_slice()),
-            text.map(str::as_bytes),
-            "{name}"
-        );
-        assert_eq!(rt; got.err(), *error, "{name}");
+/// Files of these names and texts.
+fn files(alloc: Global, rows: &[(&str, &str)]) -> Result<Vec<(String, Vec<u8>)>, AllocError> {
+    let mut files = Vec::new(alloc);
+    for (name, text) in rows {
+        files.push(file(alloc, name, text)?)?;
+    }
+    Ok(files)
+}
+
+/// A folder of three files, whose third read fails.
+fn folder_of_three(alloc: Global) -> Result<MemFolder, AllocError> {
+    let files = files(alloc, &[("a", "1"), ("a", "2"), ("b", "")])?;
+    Ok(MemFolder::new(files, vec![in alloc; 2]?))
+}
+
+/// A name, the text of its file, and the error.
+type Reading = (&'static str, Option<&'static str>, Option<FolderError>);
+
+/// What a read gave, as the row tells it.
+fn compare_read(rt: &impl Abort, got: &Result<Vec<u8>, FolderError>, row: &Reading) {
+    assert_eq!(rt;
+        got.as_ref().ok().map(|bytes| bytes.as_slice()),
+        row.1.map(str::as_bytes),
+        "{}",
+        row.0
+    );
+    assert_eq!(rt; got.as_ref().err(), row.2.as_ref(), "{}", row.0);
+}
+
+/// Reads file after file.
+fn compare_reads(rt: &impl Abort, alloc: Global, folder: &mut MemFolder, rows: &[Reading]) {
+    for row in rows {
+        compare_read(rt, &folder.read(alloc, row.0), row);
     }
 }
 
 #[test]
 fn a_folder_in_memory_gives_the_first_file_and_fails_as_told(rt: HostRuntime) -> Result<(), Fail> {
-    let alloc = rt.alloc();
-    let files = vec![in alloc;
-        file(alloc, "a", "1")?,
-        file(alloc, "a", "2")?,
-        file(alloc, "b", "")?,
-    ]?;
-    let mut folder = MemFolder::new(files, vec![in alloc; 2]?);
-    const ROWS: &[(&str, Option<&str>, Option<FolderError>)] = &[
+    const ROWS: &[Reading] = &[
         ("a", Some("1"), None),
         ("c", None, Some(FolderError::Absent)),
         ("a", None, Some(FolderError::Fault)),
         ("b", Some(""), None),
     ];
-    compare_reads(&rt, alloc, &mut folder, ROWS);
+    compare_reads(&rt, rt.alloc(), &mut folder_of_three(rt.alloc())?, ROWS);
     Ok(())
 }
 
@@ -163,28 +175,78 @@ fn a_writer_is_written_to_until_it_fails(rt: HostRuntime) -> Result<(), Fail> {
     Ok(())
 }
 
-#[test]
-fn the_system_gives_back_what_was_written(rt: HostRuntime) -> Result<(), Fail> {
-    let alloc = rt.alloc();
-    let name = format!(in alloc; "ux_base_{}", process::id(rt.process()))?;
-    let place = env::temp_dir(&rt)?.join(alloc, name.as_str())?;
-    let path = place.to_str().unwrap_or("");
-    fs::remove_file(&rt, path).is_ok();
-    let mut folder = RealFolder::new(&rt);
-    assert_eq!(rt; folder.read(alloc, path).err(), Some(FolderError::Absent));
+/// A path in the system's folder of temporary files that is this process's own.
+fn own_path(rt: &HostRuntime) -> Result<String, Fail> {
+    let name = format!(in rt.alloc(); "ux_base_{}", process::id(rt.process()))?;
+    let place = env::temp_dir(rt)?.join(rt.alloc(), name.as_str())?;
+    Ok(String::from_str(rt.alloc(), place.to_str().unwrap_or(""))?)
+}
 
-    // Longer than the first room of a read, so that the buffer grows.
-    let text = vec![in alloc; b'x'; 70_000]?;
-    let mut sink = StdSink::new(fs::create(&rt, path)?);
-    assert_eq!(rt; sink.write_all(text.as_slice()), Ok(()));
+/// The error of a read.
+fn fault(alloc: Global, folder: &mut impl Folder, path: &str) -> Option<FolderError> {
+    folder.read(alloc, path).err()
+}
+
+/// Writes the bytes and one more.
+fn check_writes(rt: &impl Abort, sink: &mut impl Sink, bytes: &[u8]) {
+    assert_eq!(rt; sink.write_all(bytes), Ok(()));
     assert_eq!(rt; sink.write_all(b"y"), Ok(()));
+}
+
+/// Writes a file that is longer than the first room of a read, so that the buffer grows.
+fn write_long<R: Abort + AllocGlobal + Files>(rt: &R, path: &str) -> Result<(), Fail> {
+    let bytes = vec![in rt.alloc(); b'x'; 70_000]?;
+    check_writes(
+        rt,
+        &mut StdSink::new(fs::create(rt, path)?),
+        bytes.as_slice(),
+    );
+    Ok(())
+}
+
+/// Reads the long file.
+fn check_long(
+    rt: &impl Abort,
+    alloc: Global,
+    folder: &mut impl Folder,
+    path: &str,
+) -> Result<(), Fail> {
     let got = folder.read(alloc, path)?;
     assert_eq!(rt; (got.len(), got.last()), (70_001, Some(&b'y')));
-    fs::remove_file(&rt, path)?;
+    Ok(())
+}
 
-    fs::create_dir(&rt, path)?;
-    let fault = folder.read(alloc, path).err();
-    fs::remove_dir(&rt, path)?;
+/// A file is absent, and gives back its bytes once it is written.
+fn check_file<R: Abort + AllocGlobal + Files>(
+    rt: &R,
+    folder: &mut impl Folder,
+    path: &str,
+) -> Result<(), Fail> {
+    assert_eq!(rt; fault(rt.alloc(), folder, path), Some(FolderError::Absent));
+    write_long(rt, path)?;
+    check_long(rt, rt.alloc(), folder, path)?;
+    fs::remove_file(rt, path)?;
+    Ok(())
+}
+
+/// A directory can't be read.
+fn check_directory<R: Abort + AllocGlobal + Files>(
+    rt: &R,
+    folder: &mut impl Folder,
+    path: &str,
+) -> Result<(), Fail> {
+    fs::create_dir(rt, path)?;
+    let fault = fault(rt.alloc(), folder, path);
+    fs::remove_dir(rt, path)?;
     assert_eq!(rt; fault, Some(FolderError::Fault));
     Ok(())
+}
+
+#[test]
+fn the_system_gives_back_what_was_written(rt: HostRuntime) -> Result<(), Fail> {
+    let path = own_path(&rt)?;
+    fs::remove_file(&rt, path.as_str()).is_ok();
+    let mut folder = RealFolder::new(&rt);
+    check_file(&rt, &mut folder, path.as_str())?;
+    check_directory(&rt, &mut folder, path.as_str())
 }

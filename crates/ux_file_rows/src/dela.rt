@@ -5,7 +5,7 @@ use std::process::Abort;
 use std::test::Fail;
 use ux_base::Txt;
 use ux_dela::{
-    DelaError, Entry, Stem, count_delaf, count_delas, print_codes, print_delaf, read_codes,
+    Codes, DelaError, Entry, Stem, count_delaf, count_delas, print_codes, print_delaf, read_codes,
     read_delaf, read_delaf_line, read_delas, read_tag,
 };
 
@@ -101,15 +101,25 @@ fn check_printed(rt: &impl Abort, alloc: Global, row: &Row) -> Result<(), Fail> 
     Ok(())
 }
 
+/// The parts of codes as they are.
+fn put_codes(out: &mut String, codes: &Codes) -> Result<(), AllocError> {
+    out.push_str(codes.gram.as_str())?;
+    put_all(out, "|+", codes.sem.as_slice())?;
+    put_all(out, "|:", codes.infl.as_slice())
+}
+
+/// The parts of the codes of a text, or nothing where the text isn't printed codes.
+fn codes_of(alloc: Global, text: &str) -> Result<String, Fail> {
+    let mut out = String::new(alloc);
+    if let Some(codes) = read_codes(alloc, text)? {
+        put_codes(&mut out, &codes)?;
+    }
+    Ok(out)
+}
+
 /// Whether the text is printed codes.
 fn check_codes(rt: &impl Abort, alloc: Global, row: &Row) -> Result<(), Fail> {
-    let mut out = String::new(alloc);
-    if let Some(codes) = read_codes(alloc, row.1)? {
-        out.push_str(codes.gram.as_str())?;
-        put_all(&mut out, "|+", codes.sem.as_slice())?;
-        put_all(&mut out, "|:", codes.infl.as_slice())?;
-    }
-    compare(rt, out.as_str(), row);
+    compare(rt, codes_of(alloc, row.1)?.as_str(), row);
     Ok(())
 }
 
@@ -124,14 +134,26 @@ fn printed_twice(alloc: Global, text: &str) -> Result<String, Fail> {
     Ok(out)
 }
 
+/// Whether a copy of the entry is the first of the others.
+fn is_first(entry: &Entry, others: &[Entry]) -> Result<bool, AllocError> {
+    match others.first() {
+        Some(other) => Ok(entry.copy()?.same(other)),
+        None => Ok(false),
+    }
+}
+
+/// Whether a copy of the first entry is the first of the others.
+fn are_same_firsts(entries: &[Entry], others: &[Entry]) -> Result<bool, AllocError> {
+    match entries.first() {
+        Some(entry) => is_first(entry, others),
+        None => Ok(false),
+    }
+}
+
 /// Whether a copy of the first file's entry is the second file's.
 fn are_same(alloc: Global, text: &str, other: &str) -> Result<bool, Fail> {
     let entries = read_delaf(alloc, text)?;
-    let others = read_delaf(alloc, other)?;
-    match (entries.first(), others.first()) {
-        (Some(entry), Some(other)) => Ok(entry.copy()?.same(other)),
-        _ => Ok(false),
-    }
+    Ok(are_same_firsts(&entries, &read_delaf(alloc, other)?)?)
 }
 
 #[test]

@@ -1,6 +1,6 @@
 //! What dictionaries find, by rows.
 
-use std::alloc::Global;
+use std::alloc::{AllocError, Global};
 use std::process::Abort;
 use std::test::Fail;
 use ux_alphabet::Alphabet;
@@ -47,16 +47,36 @@ fn compare(rt: &impl Abort, got: &str, want: &str, name: &str) {
     assert_eq!(rt; got, want, "{name}");
 }
 
-fn check_fitting(rt: &impl Abort, alloc: Global, pairs: &str, row: &Fitting) -> Result<(), Fail> {
+/// The entries whose forms fit the text, over these pairs of letters.
+fn fitting(
+    alloc: Global,
+    lexicon: &AnyLexicon,
+    text: &str,
+    pairs: &str,
+) -> Result<Vec<Entry>, Fail> {
     let alphabet = Alphabet::read(alloc, pairs)?;
-    let entries = lexicon(alloc, row.1)?.fitting(alloc, row.2, &alphabet)?;
-    compare(rt, printed(alloc, &entries)?.as_str(), row.3, row.0);
+    Ok(lexicon.fitting(alloc, text, &alphabet)?)
+}
+
+/// The entries of the row that are found, as lines.
+fn found(alloc: Global, pairs: &str, row: &Fitting) -> Result<String, Fail> {
+    let entries = fitting(alloc, &lexicon(alloc, row.1)?, row.2, pairs)?;
+    printed(alloc, &entries)
+}
+
+fn check_fitting(rt: &impl Abort, alloc: Global, pairs: &str, row: &Fitting) -> Result<(), Fail> {
+    compare(rt, found(alloc, pairs, row)?.as_str(), row.3, row.0);
     Ok(())
 }
 
-fn check_begun(rt: &impl Abort, alloc: Global, row: &Begun) -> Result<(), Fail> {
+/// Whether a form may begin with the text.
+fn may_begin(alloc: Global, lexicon: &AnyLexicon, text: &str) -> Result<bool, Fail> {
     let alphabet = Alphabet::read(alloc, PAIRS)?;
-    let may = lexicon(alloc, row.1)?.may_begin(alloc, row.2, &alphabet)?;
+    Ok(lexicon.may_begin(alloc, text, &alphabet)?)
+}
+
+fn check_begun(rt: &impl Abort, alloc: Global, row: &Begun) -> Result<(), Fail> {
+    let may = may_begin(alloc, &lexicon(alloc, row.1)?, row.2)?;
     assert_eq!(rt; may, row.3, "{}", row.0);
     Ok(())
 }
@@ -154,20 +174,41 @@ fn entries_are_counted(rt: HostRuntime) -> Result<(), Fail> {
     Ok(())
 }
 
-#[test]
-fn a_long_form_is_found(rt: HostRuntime) -> Result<(), Fail> {
-    let alloc = rt.alloc();
-    let alphabet = Alphabet::read(alloc, PAIRS)?;
+/// The dictionary of one entry, whose form is 10,000 times `a`.
+fn long_lexicon(alloc: Global) -> Result<AnyLexicon, Fail> {
     let mut line = "a".repeat(alloc, 10000)?;
     line.push_str(",.N")?;
-    let lexicon = lexicon(alloc, line.as_str())?;
-    let lower = "a".repeat(alloc, 10000)?;
-    let upper = "A".repeat(alloc, 10000)?;
+    lexicon(alloc, line.as_str())
+}
+
+/// The number of entries whose form is 10,000 times the letter.
+fn exact_long(
+    alloc: Global,
+    lexicon: &AnyLexicon,
+    letter: &str,
+) -> Result<Option<usize>, AllocError> {
+    Ok(lexicon.exact(letter.repeat(alloc, 10000)?.as_str()))
+}
+
+/// The number of entries whose forms fit 10,000 times the letter.
+fn fitting_long(alloc: Global, lexicon: &AnyLexicon, letter: &str) -> Result<usize, Fail> {
+    let alphabet = Alphabet::read(alloc, PAIRS)?;
+    let text = letter.repeat(alloc, 10000)?;
+    Ok(lexicon.fitting(alloc, text.as_str(), &alphabet)?.len())
+}
+
+/// The long form is found as it is and in capitals.
+fn check_long(rt: &impl Abort, alloc: Global, lexicon: &AnyLexicon) -> Result<(), Fail> {
     assert_eq!(rt; lexicon.longest(), 10000);
-    assert_eq!(rt; lexicon.exact(lower.as_str()), Some(1));
-    assert_eq!(rt; lexicon.fitting(alloc, lower.as_str(), &alphabet)?.len(), 1);
-    assert_eq!(rt; lexicon.fitting(alloc, upper.as_str(), &alphabet)?.len(), 1);
+    assert_eq!(rt; exact_long(alloc, lexicon, "a")?, Some(1));
+    assert_eq!(rt; fitting_long(alloc, lexicon, "a")?, 1);
+    assert_eq!(rt; fitting_long(alloc, lexicon, "A")?, 1);
     Ok(())
+}
+
+#[test]
+fn a_long_form_is_found(rt: HostRuntime) -> Result<(), Fail> {
+    check_long(&rt, rt.alloc(), &long_lexicon(rt.alloc())?)
 }
 
 #[test]

@@ -5,7 +5,11 @@
 //! text is that of the tokens between.
 
 ghost use Rattle.std.specs.Prelude.{◌≡◌, ◌<◌, ◌↔◌, ◌++◌, ℕ, Contains, IsTrue, IfOk, OnOk, length, map};
+ghost use Rattle.ux_net.specs.Measured.{IsMeasured};
 ghost use Rattle.ux_net.specs.Nets.{net_grammar};
+ghost use Rattle.ux_tokens.specs.Numbers.{different_texts};
+ghost use Rattle.ux_walk.specs.Fronts.{AreKept};
+ghost use Rattle.ux_walk.specs.Sieves.{IsSieve};
 ghost use Rattle.ux_run.specs.Hits.{IsStart};
 ghost use Rattle.ux_run.specs.Searching.{ListsSpans, span_to};
 ghost use Rattle.ux_run.specs.Spans.{IsSpan};
@@ -34,6 +38,24 @@ pub fn hits(alloc: Global, net: &Net, alphabet: &Alphabet, text: &Text) -> Mem<V
     net.is_measured();
     let mut fronts = Fronts::of(alloc, text, alphabet)?;
     let sieve = Sieve::of(alloc, net, text, alphabet, &mut fronts)?;
+    hits_through(alloc, net, alphabet, text, &sieve, &mut fronts)
+}
+
+/// The hits whose starts pass the sieve, and so all.
+fn hits_through(
+    alloc: Global,
+    net: &Net,
+    alphabet: &Alphabet,
+    text: &Text,
+    sieve: &Sieve,
+    fronts: &mut Fronts,
+) -> Mem<Vec<Span>>
+    requires measured { IsMeasured net.now }
+    requires kept { AreKept alphabet.now (different_texts text.now) net.now fronts.now }
+    requires sieve { IsSieve alphabet.now (different_texts text.now) net.now sieve.now }
+    ensures { IfOk result (λ hits.
+        ListsSpans (IsSpan alphabet.now text.now (net_grammar net.now)) hits.items) }
+{
     let mut look_ups = LookUps::new(alloc);
     let mut ends = Vec::new(alloc);
     let mut hits = Vec::new(alloc);
@@ -49,7 +71,7 @@ pub fn hits(alloc: Global, net: &Net, alphabet: &Alphabet, text: &Text) -> Mem<V
             net,
             text,
             alphabet,
-            &mut fronts,
+            fronts,
             &mut look_ups,
             start,
             &mut ends,

@@ -4,7 +4,7 @@
 //! targets. In a content `E` is the empty word, `_` a space that must stand there, and `A` or `B` a
 //! call of the first or second graph.
 
-ghost use Rattle.std.specs.Prelude.{◌<◌, IfOk};
+ghost use Rattle.std.specs.Prelude.{◌≡◌, ◌<◌, IfOk, string_bytes};
 ghost use Rattle.ux_grf.specs.Size.{size_of};
 ghost use Rattle.ux_grf.specs.WellFormed.{IsWellFormed};
 
@@ -62,21 +62,25 @@ fn graph(alloc: Global, boxes: &str) -> Result<Graph, NetError>
     }
 }
 
+/// The graph of a file that isn't long, under this name.
+fn named(alloc: Global, name: &str, boxes: &str) -> Result<(String, Graph), NetError>
+    ensures name { IfOk result (λ named. string_bytes named.0 ≡ name.now) }
+    ensures formed { IfOk result (λ named. IsWellFormed named.1) }
+    ensures small { IfOk result (λ named. size_of named.1 < 4294967296) }
+{
+    let graph = graph(alloc, boxes)?;
+    Ok((String::from_str(alloc, name)?, graph))
+}
+
 /// A grammar of one graph, compiled.
 fn one(alloc: Global, first: &str, alphabet: &Alphabet) -> Result<Net, NetError> {
-    let first = graph(alloc, first)?;
-    let mut graphs = Vec::new(alloc);
-    graphs.push((String::from_str(alloc, "A")?, first))?;
+    let graphs = vec![in alloc; named(alloc, "A", first)?]?;
     Net::compile(alloc, graphs, alphabet)
 }
 
 /// A grammar of two graphs, compiled.
 fn two(alloc: Global, first: &str, second: &str, alphabet: &Alphabet) -> Result<Net, NetError> {
-    let first = graph(alloc, first)?;
-    let second = graph(alloc, second)?;
-    let mut graphs = Vec::new(alloc);
-    graphs.push((String::from_str(alloc, "A")?, first))?;
-    graphs.push((String::from_str(alloc, "B")?, second))?;
+    let graphs = vec![in alloc; named(alloc, "A", first)?, named(alloc, "B", second)?]?;
     Net::compile(alloc, graphs, alphabet)
 }
 

@@ -177,15 +177,31 @@ fn joins_neighbours_and_counts_different_tokens(rt: HostRuntime) -> Result<(), F
     Ok(())
 }
 
+/// The token file of a text that is read.
+fn printed(alloc: Global, text: &str) -> Result<String, Fail> {
+    let text = read(alloc, text)??;
+    Ok(print_tokens(alloc, &text)?)
+}
+
+/// The token file of a text that isn't kept, over an alphabet.
+fn token_file(alloc: Global, text: &str, alphabet: &Alphabet) -> Result<String, TextError> {
+    token_file_of(alloc, String::from_str(alloc, text)?, alphabet)
+}
+
+/// The token file of a text that isn't kept.
+fn printed_at_once(alloc: Global, text: &str) -> Result<String, Fail> {
+    Ok(token_file(alloc, text, &Alphabet::read(alloc, "#az\n")?)?)
+}
+
+/// The token file that both ways print.
+fn compare_file(rt: &impl Abort, got: &str) {
+    assert_eq!(rt; got, "4\na\n \n{S}\nb\n");
+}
+
 #[test]
 fn prints_the_token_file(rt: HostRuntime) -> Result<(), Fail> {
-    const WANT: &str = "4\na\n \n{S}\nb\n";
-    let alloc = rt.alloc();
-    let text = read(alloc, "a  {S}b\ta{S}")??;
-    let file = print_tokens(alloc, &text)?;
-    assert_eq!(rt; file.as_str(), WANT);
-    let alphabet = Alphabet::read(alloc, "#az\n")?;
-    let file = token_file_of(alloc, String::from_str(alloc, "a  {S}b\ta{S}")?, &alphabet)?;
-    assert_eq!(rt; file.as_str(), WANT);
+    const TEXT: &str = "a  {S}b\ta{S}";
+    compare_file(&rt, printed(rt.alloc(), TEXT)?.as_str());
+    compare_file(&rt, printed_at_once(rt.alloc(), TEXT)?.as_str());
     Ok(())
 }

@@ -40,16 +40,41 @@ fn compare(rt: &impl Abort, row: &Row, got: &str) {
     assert_eq!(rt; got, row.3, "{}", row.0);
 }
 
-fn compare_walks(rt: &impl Abort, alloc: Global, rows: &[Row]) -> Result<(), Fail> {
-    let alphabet = Alphabet::read(alloc, "Tt\nHh\nEe\nNn\nCc\nAa\n")?;
-    let text = Text::read(alloc, String::from_str(alloc, "The  cat, x")?, &alphabet)?;
+/// The graph of one box, compiled.
+fn one_box(alloc: Global, content: &str, alphabet: &Alphabet) -> Result<Net, Fail> {
+    let boxes = format!(in alloc; "E|2 | {content}|1")?;
+    Ok(compiled(alloc, &[boxes.as_str()], alphabet)?)
+}
+
+/// The ends of the walks of a row.
+fn found(alloc: Global, text: &Text, alphabet: &Alphabet, row: &Row) -> Result<String, Fail> {
+    let net = one_box(alloc, row.1, alphabet)?;
+    Ok(walked(alloc, &net, text, alphabet, row.2)?)
+}
+
+/// The rows, over one text and alphabet.
+fn compare_rows(
+    rt: &impl Abort,
+    alloc: Global,
+    text: &Text,
+    alphabet: &Alphabet,
+    rows: &[Row],
+) -> Result<(), Fail> {
     for row in rows {
-        let boxes = format!(in alloc; "E|2 | {}|1", row.1)?;
-        let net = compiled(alloc, &[boxes.as_str()], &alphabet)?;
-        let got = walked(alloc, &net, &text, &alphabet, row.2)?;
-        compare(rt, row, got.as_str());
+        compare(rt, row, found(alloc, text, alphabet, row)?.as_str());
     }
     Ok(())
+}
+
+/// The text of the rows.
+fn read(alloc: Global, alphabet: &Alphabet) -> Result<Text, Fail> {
+    let text = String::from_str(alloc, "The  cat, x")?;
+    Ok(Text::read(alloc, text, alphabet)?)
+}
+
+fn compare_walks(rt: &impl Abort, alloc: Global, rows: &[Row]) -> Result<(), Fail> {
+    let alphabet = Alphabet::read(alloc, "Tt\nHh\nEe\nNn\nCc\nAa\n")?;
+    compare_rows(rt, alloc, &read(alloc, &alphabet)?, &alphabet, rows)
 }
 
 #[test]

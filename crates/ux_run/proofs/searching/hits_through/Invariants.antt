@@ -5,7 +5,7 @@ use Rattle.ux_walk.specs.LookUps.{AreSound}
 use Rattle.ux_walk.specs.Sieves.{IsSieve}
 use Rattle.ux_run.specs.Searching.{ListsUpTo}
 use Rattle.ux_run.specs.Spans.{IsSpan}
-use Rattle.ux_run.proofs.searching.hits.Given as goal
+use Rattle.ux_run.proofs.searching.hits_through.Given as goal
 
 -- the spans that begin before the token are listed, and what was looked up is right
 abbrev pub invariant-loop-start : goal.invariant-loop-start
