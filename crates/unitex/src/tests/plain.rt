@@ -51,19 +51,28 @@ fn compare_texts<R: Abort + AllocGlobal>(rt: &R, graph: &str) -> Result<(), Fail
     Ok(())
 }
 
-/// The index of a graph's file over a text, by the definition.
-fn plain_index(alloc: Global, grf: &str, text: &str) -> Result<String, Fail> {
-    let alphabet = Alphabet::read(alloc, LETTERS)?;
-    let graph = read_grf(alloc, grf)?;
-    let words = words_of_graph(alloc, &graph)?;
-    let text = Text::read(alloc, String::from_str(alloc, text)?, &alphabet)?;
+/// The index of a graph over a text, by the definition.
+fn index_of_graph(
+    alloc: Global,
+    alphabet: &Alphabet,
+    text: &Text,
+    graph: &Graph,
+) -> Result<String, Fail> {
+    let words = words_of_graph(alloc, graph)?;
     let mut index = String::from_str(alloc, "#I\n")?;
     for first in 0..text.len() {
         if text.kind(first) != Kind::Space {
-            push_hits(alloc, &alphabet, &text, words.as_slice(), first, &mut index)?;
+            push_hits(alloc, alphabet, text, words.as_slice(), first, &mut index)?;
         }
     }
     Ok(index)
+}
+
+/// The index of a graph's file over a text, by the definition.
+fn plain_index(alloc: Global, grf: &str, text: &str) -> Result<String, Fail> {
+    let alphabet = Alphabet::read(alloc, LETTERS)?;
+    let text = Text::read(alloc, String::from_str(alloc, text)?, &alphabet)?;
+    index_of_graph(alloc, &alphabet, &text, &read_grf(alloc, grf)?)
 }
 
 /// Adds the line of each hit from a token.

@@ -329,17 +329,36 @@ fn long_word(alloc: Global, behind: &str) -> Result<String, AllocError> {
     Ok(word)
 }
 
+/// The report on a text of which each different word has one entry, a line of the dictionary.
+fn all_known(alloc: Global, count: usize, dic: &str) -> Result<String, AllocError> {
+    format!(in alloc; "#DLF {count}\n{dic}#DLC 0\n#ERR 0\n")
+}
+
+/// Reports on a long text of so many different words, each with a line in the dictionary.
+fn check_long(
+    rt: &impl Abort,
+    alloc: Global,
+    name: &str,
+    text: &str,
+    dic: &str,
+    count: usize,
+) -> Result<(), Fail> {
+    let got = reported_long(alloc, text, dic)?;
+    compare_given(
+        rt,
+        name,
+        &got,
+        (all_known(alloc, count, dic)?.as_str(), "", 0),
+    );
+    Ok(())
+}
+
 #[test]
 fn finds_a_form_of_ten_thousand_characters(rt: HostRuntime) -> Result<(), Fail> {
     let alloc = rt.alloc();
     let text = long_word(alloc, "")?;
     let dic = long_word(alloc, ",.N\n")?;
-    let mut want = String::from_str(alloc, "#DLF 1\n")?;
-    want.push_str(dic.as_str())?;
-    want.push_str("#DLC 0\n#ERR 0\n")?;
-    let got = reported_long(alloc, text.as_str(), dic.as_str())?;
-    compare_given(&rt, "a long form", &got, (want.as_str(), "", 0));
-    Ok(())
+    check_long(&rt, alloc, "a long form", text.as_str(), dic.as_str(), 1)
 }
 
 /// The letters of the words of four letters.
@@ -380,15 +399,12 @@ fn ends_soon_on_a_large_dictionary(rt: HostRuntime) -> Result<(), Fail> {
     let alloc = rt.alloc();
     let text = words_of_four(alloc, " ")?;
     let dic = words_of_four(alloc, ",.N\n")?;
-    let mut want = String::from_str(alloc, "#DLF 160000\n")?;
-    want.push_str(dic.as_str())?;
-    want.push_str("#DLC 0\n#ERR 0\n")?;
-    let got = reported_long(alloc, text.as_str(), dic.as_str())?;
-    compare_given(
+    check_long(
         &rt,
+        alloc,
         "all words of four letters",
-        &got,
-        (want.as_str(), "", 0),
-    );
-    Ok(())
+        text.as_str(),
+        dic.as_str(),
+        160_000,
+    )
 }
