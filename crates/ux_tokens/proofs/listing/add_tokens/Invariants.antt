@@ -3,7 +3,7 @@ use Rattle.ux_tokens.specs.Numbers.{texts_in}
 use Rattle.ux_tokens.specs.Known.{AreKnown}
 use Rattle.ux_tokens.proofs.ListingLemmas.{IsCounted}
 use Rattle.ux_tokens.specs.Regions.{IsFree}
-use Rattle.ux_tokens.proofs.listing.different_tokens.Given as goal
+use Rattle.ux_tokens.proofs.listing.add_tokens.Given as goal
 
 abbrev pub invariant-loop-end : goal.invariant-loop-end
 invariant-loop-end l = record {

@@ -1,6 +1,6 @@
 use Rattle.ux_base.specs.Lines.{lines_of}
 use Rattle.ux_dict.proofs.ReadLemmas.{IsFiledTo}
-use Rattle.ux_dict.proofs.reading.table_of.Given as goal
+use Rattle.ux_dict.proofs.reading.put_lines.Given as goal
 
 -- the entries of the lines so far are in the table
 abbrev pub invariant-loop-line : goal.invariant-loop-line

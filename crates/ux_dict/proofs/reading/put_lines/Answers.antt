@@ -4,7 +4,7 @@ use Rattle.ux_base.specs.Lines.{lines_of}
 use Rattle.ux_dela.specs.Delaf.{DelafSays, RefusesDelaf}
 use Rattle.ux_dela.proofs.FileLemmas.{lines_of-count, read_stops}
 use Rattle.ux_dict.proofs.ReadLemmas.{filed_more, filed_whole}
-use Rattle.ux_dict.proofs.reading.table_of.Goals as goal
+use Rattle.ux_dict.proofs.reading.put_lines.Goals as goal
 
 -- this line is one of the text's, which are no more than its bytes
 pub overflow_add-number : goal.overflow_add-number

@@ -5,11 +5,11 @@ use Rattle.ux_tokens.specs.Columns.{AreEven, pieces_of}
 use Rattle.ux_tokens.specs.Cutting.{IsSoFar}
 use Rattle.ux_tokens.specs.Known.{AreKnown}
 use Rattle.ux_tokens.specs.Regions.{IsFree}
-use Rattle.ux_tokens.proofs.cutting.cut_text.Given as goal
+use Rattle.ux_tokens.proofs.cutting.push_tokens.Given as goal
 
 abbrev pub invariant-loop-end : goal.invariant-loop-end
 invariant-loop-end l = record {
-  classes : AreClasses l.alphabet l.classes.items;
+  classes : AreClasses l.alphabet l.classes;
   so_far : IsSoFar l.alphabet l.text l.end (pieces_of l.pieces) (texts_in l.numbers);
   even : AreEven l.pieces;
   known : AreKnown (texts_in l.numbers) l.known;

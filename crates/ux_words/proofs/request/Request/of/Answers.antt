@@ -1,0 +1,7 @@
+use Rattle.std.proofs.Common.{arith}
+use Rattle.std.proofs.lemmas.Grind.{common_steps}
+use Rattle.ux_words.proofs.request.Request.of.Goals as goal
+
+-- by name, so that a wrong body is refused at once
+pub returns-in-len1-up-clause-usage : goal.returns-in-len1-up-clause-usage
+returns-in-len1-up-clause-usage c = grind (arith, common_steps)
