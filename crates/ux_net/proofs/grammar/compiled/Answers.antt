@@ -1,4 +1,5 @@
 use Rattle.std.proofs.Common.{arith, ◌≤◌, ℕ, List, length, sym, subst}
+use Rattle.std.proofs.lemmas.Grind.{common_steps}
 use Rattle.std.specs.Prelude.{All}
 use Rattle.std.proofs.lemmas.List.{length-map}
 use Rattle.std.proofs.lemmas.Result.{IfErr-weaker, IfOk-weaker, on_ok_weaker}
@@ -105,3 +106,9 @@ returns-clause-err c = IfErr-weaker c.net_of.result _ _ (λ error refuses.
     (sym c.deref.ensures.value) c.in_ok-places.ensures) error
     c.in_ok-refuse_missing.ensures.ok c.in_ok-refuse_beyond.ensures.ok refuses)
     c.net_of.ensures.err
+
+pub split_graphs-requires-clause-few : goal.split_graphs-requires-clause-few
+split_graphs-requires-clause-few c = grind (arith, common_steps)
+
+pub net_of-requires-clause-count : goal.net_of-requires-clause-count
+net_of-requires-clause-count c = grind (arith, common_steps)

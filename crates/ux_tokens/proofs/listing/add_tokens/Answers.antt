@@ -1,4 +1,5 @@
 use Rattle.std.proofs.Common.{ℕ, List, drop, refl, sym, subst, arith}
+use Rattle.std.proofs.lemmas.Grind.{common_steps}
 use Rattle.ux_tokens.specs.Known.{AreKnown}
 use Rattle.ux_tokens.specs.Numbers.{texts_in}
 use Rattle.ux_tokens.proofs.ListingLemmas.{counted_start, counted_next, counted_more, counted_whole, few_texts}
@@ -49,3 +50,6 @@ pub returns-clause-ok : goal.returns-clause-ok
 returns-clause-ok c =
     counted_whole c.args.alphabet.now c.args.text.now c.loop-end.end c.loop-end.count
     (texts_in c.loop-end.texts) c.loop-end.invariant.counted (omega arith)
+
+pub overflow_add-end : goal.overflow_add-end
+overflow_add-end c = grind (arith, common_steps)

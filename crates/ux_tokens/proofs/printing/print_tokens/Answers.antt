@@ -1,4 +1,5 @@
 use Rattle.std.proofs.Common.{arith, ◌≡◌, ◌+◌, string_bytes, ℕ, suc, length, List, [], ◌∷◌, ◌++◌, Option, Some, ap, subst, sym, ◌∙◌, length-append}
+use Rattle.std.proofs.lemmas.Grind.{common_steps}
 use Rattle.std.specs.Prelude.{IsSomeAnd}
 use Rattle.std.specs.Fmt.{decimal}
 use Rattle.std.specs.List.{flat_map, slice_get}
@@ -49,3 +50,6 @@ loop-i-preserved c =
             printed = known.printed ∙ ap length (sym same);
           })
     ]
+
+pub returns : goal.returns
+returns c = grind (arith, common_steps)
