@@ -7,7 +7,7 @@ ghost use Rattle.std.specs.Prelude.{◌≡◌, ◌≢◌, ◌↔◌, ◌⊎◌, 
 ghost use Rattle.ux_dela.specs.Delaf.{IsSkipped, IsCut, HasFault, DelafSays, RefusesDelaf, lemma_of};
 ghost use Rattle.ux_dela.specs.Files.{AreEntries, Refuses};
 ghost use Rattle.ux_dela.specs.Reading.{characters, mark_sign, IsCutOf, IsListed, has_mark_in, entry_in, entries_in, AddsSaid};
-ghost use Rattle.ux_dela.specs.Signs.{COMMA, DOT, SPACE, HYPHEN, is_comma, is_dot};
+ghost use Rattle.ux_dela.specs.Signs.{COMMA, DOT, is_comma, is_dot};
 ghost use Rattle.ux_dela.specs.Sound.{IsSound};
 ghost use Rattle.ux_dela.specs.Written.{IsPart, meant_as};
 ghost use Rattle.ux_dela.specs.declared.error.DelaError.{DelaError};
@@ -209,27 +209,25 @@ fn put_entries(
 ) -> Result<(), AllocError>
     ensures { OnOk result (entries.new.items ≡ entries.old.items ++ entries_in cut.now codes) }
 {
-    if !has_mark(cut) {
-        entries.push(entry_of(alloc, cut, codes, Mark::AsItself)?)?;
-        return Ok(());
+    if has_mark(cut) {
+        put_entry(alloc, cut, codes.copy()?, Mark::AsSpace, entries)?;
+        return put_entry(alloc, cut, codes, Mark::AsHyphen, entries);
     }
-    put_both(alloc, cut, codes, entries)
+    put_entry(alloc, cut, codes, Mark::AsItself, entries)
 }
 
-/// Puts the entry with spaces for marks behind the others, and then the one with hyphens.
-fn put_both(
+/// Puts the entry of these parts behind the others, where each mark of form and lemma means this.
+fn put_entry(
     alloc: Global,
     cut: &Cut<'_>,
     codes: Codes,
+    mark: Mark,
     entries: &mut Vec<Entry>,
 ) -> Result<(), AllocError>
     ensures { OnOk result (entries.new.items ≡ entries.old.items
-        ++ entry_in SPACE cut.now codes ∷ (entry_in HYPHEN cut.now codes ∷ [])) }
+        ++ entry_in (mark_sign mark) cut.now codes ∷ []) }
 {
-    let spaced = entry_of(alloc, cut, codes.copy()?, Mark::AsSpace)?;
-    let hyphened = entry_of(alloc, cut, codes, Mark::AsHyphen)?;
-    entries.push(spaced)?;
-    entries.push(hyphened)?;
+    entries.push(entry_of(alloc, cut, codes, mark)?)?;
     Ok(())
 }
 

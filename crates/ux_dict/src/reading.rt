@@ -3,7 +3,7 @@
 //! The entries of a file are taken over line by line, so that no list of them is there beside the
 //! dictionary's own.
 
-ghost use Rattle.std.specs.Prelude.{◌≡◌, ◌⊎◌, IfOk, IfErr};
+ghost use Rattle.std.specs.Prelude.{◌≡◌, ◌⊎◌, [], IfOk, IfErr, OnOk};
 ghost use Rattle.ux_dela.specs.Files.{Refuses};
 ghost use Rattle.ux_dela.specs.declared.error.DelaError.{DelaError};
 ghost use Rattle.ux_dela.specs.declared.error.DelaError.TheVariants.{NoMemory};
@@ -48,15 +48,30 @@ fn table_of(alloc: Global, text: &str) -> Result<IndexSet<Stored>, DelaError>
     ensures ok { IfOk result (λ table. IsFileTable text.now table.keys) }
     ensures refused { IfErr result (λ error. (error ≡ NoMemory) ⊎ Refuses text.now error) }
 {
-    // A text has at most as many lines as bytes, so that a line's number fits.
-    let _bytes = text.len();
     let mut codes = CodesTable::new(alloc);
     let mut table = IndexSet::new(alloc);
+    put_lines(alloc, text, &mut codes, &mut table)?;
+    Ok(table)
+}
+
+/// Puts the file's entries that differ into the empty table.
+fn put_lines(
+    alloc: Global,
+    text: &str,
+    codes: &mut CodesTable,
+    table: &mut IndexSet<Stored>,
+) -> Result<(), DelaError>
+    requires { table.now.keys ≡ [] }
+    ensures ok { OnOk result (IsFileTable text.now table.new.keys) }
+    ensures refused { IfErr result (λ error. (error ≡ NoMemory) ⊎ Refuses text.now error) }
+{
+    // A text has at most as many lines as bytes, so that a line's number fits.
+    let _bytes = text.len();
     let mut number = 0;
     for line in lines(text) {
         number += 1;
         let entries = read_delaf_line(alloc, line, number)?;
-        put_all(alloc, entries, &mut codes, &mut table)?;
+        put_all(alloc, entries, codes, table)?;
     }
-    Ok(table)
+    Ok(())
 }

@@ -4,6 +4,7 @@
 //! linear in the graph.
 
 ghost use Rattle.std.specs.Prelude.{◌≡◌, [], ◌++◌, map, string_bytes, IfOk, OnOk};
+ghost use Rattle.std.specs.List.{flat_map};
 ghost use Rattle.ux_grf.specs.WellFormed.{IsWellFormed};
 ghost use Rattle.ux_grf.specs.Needs.{calls_of_item, calls_of_line, calls_of_box, with_name, with_names, called_names, names_in};
 
@@ -19,10 +20,19 @@ pub fn needs(alloc: Global, graph: &Graph) -> Mem<Vec<String>>
     ensures { IfOk result (λ names. map string_bytes names.items ≡ called_names graph.now) }
 {
     let mut names: IndexSet<&str> = IndexSet::new(alloc);
-    for drawn in graph.boxes.as_slice() {
-        note_box(&mut names, drawn)?;
+    note_boxes(&mut names, graph.boxes.as_slice())?;
+    Ok(copies(alloc, names.as_slice())?)
+}
+
+/// Notes the names that the boxes call.
+fn note_boxes<'a>(names: &mut IndexSet<&'a str>, boxes: &'a [GrfBox]) -> Result<(), AllocError>
+    ensures { OnOk result (names_in names.new
+        ≡ with_names (names_in names.old) (flat_map calls_of_box boxes.now)) }
+{
+    for drawn in boxes {
+        note_box(names, drawn)?;
     }
-    Ok(copies(alloc, &noted(alloc, &names)?)?)
+    Ok(())
 }
 
 /// Notes the names that the box calls.
@@ -72,13 +82,6 @@ fn note_name<'a>(names: &mut IndexSet<&'a str>, name: &'a str) -> Result<(), All
 {
     names.insert_full(name)?;
     Ok(())
-}
-
-/// The names in the set, in order.
-fn noted<'a>(alloc: Global, names: &IndexSet<&'a str>) -> Result<Vec<&'a str>, AllocError>
-    ensures { IfOk result (λ list. list.items ≡ names.now.keys) }
-{
-    names.iter().copied().collect(alloc)
 }
 
 /// A copy of each name.

@@ -1,15 +1,17 @@
 -- What the parts of compiling give: names that are there, places, refusals and a net.
-use Rattle.std.specs.Prelude.{◌≡◌, ℕ, suc, ◌<◌, List, Some, slice_get, length, Contains}
+use Rattle.std.specs.Prelude.{◌≡◌, ℕ, suc, ◌<◌, List, Bool, Some, slice_get, length, map, Contains}
 use Rattle.ux_alphabet.specs.declared.line.Line.{Line}
 use Rattle.ux_net.specs.declared.error.NetError.{NetError}
 use Rattle.ux_net.specs.declared.error.NetError.TheVariants.{MissingGraph, NotYet, EmptyLoop, LeftRecursion, NoMemory}
 use Rattle.ux_net.specs.declared.net_graph.NetGraph.{NetGraph}
 use Rattle.ux_net.specs.declared.place.Place.{Place}
 use Rattle.ux_net.specs.Admissible.{IsOnEmptyLoop, IsLeftRecursive}
+use Rattle.ux_net.specs.Admission.{ArePlaceRanks}
 use Rattle.ux_net.specs.Boxes.{Drawn, boxes_of, names_of}
 use Rattle.ux_net.specs.Construct.{states_of}
 use Rattle.ux_net.specs.Nets.{graph_at}
 use Rattle.ux_net.specs.Places.{ArePlaces, places_of, place_grammar}
+use Rattle.ux_net.specs.Ranks.{AreBuilt}
 use Rattle.ux_net.specs.Refusing.{IsFirstMissing, IsFirstNamed, is_named}
 
 -- every name of the first list is on the second
@@ -64,3 +66,12 @@ pub record IsConstructed (alphabet : List Line) (graphs : List Drawn) (net : Lis
   pub count : length net ≡ length graphs
   pub each : (g : ℕ) (graph : NetGraph) → graph_at net g ≡ Some graph →
       IsConstructedOf alphabet graphs g graph
+
+-- a net is built of the places, by ranks of theirs, and its graphs have these names
+pub record IsBuiltOf (names : List (List ℕ)) (places : List (List Place))
+    (net : List NetGraph) : Type 0 where
+  pub named : map (λ (graph : NetGraph). graph.name) net ≡ names
+  pub ranks : List (List ℕ)
+  pub free : List (List Bool)
+  pub ranked : ArePlaceRanks places ranks free
+  pub built : AreBuilt places ranks free net

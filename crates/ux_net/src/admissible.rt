@@ -7,21 +7,26 @@
 //! itself at an edge of the second kind inside a component of all. In a grammar that is neither,
 //! the numbers of the components fall along each edge: they are the ranks by which every walk ends.
 
-ghost use Rattle.std.specs.Prelude.{◌≡◌, length, All, IfOk, IfErr, OnOk};
+ghost use Rattle.std.specs.Prelude.{◌≡◌, ℕ, length, All, IfOk, IfErr, OnOk};
 ghost use Rattle.ux_net.specs.Fit.{IsFit};
 ghost use Rattle.ux_net.specs.Places.{place_grammar};
-ghost use Rattle.ux_net.specs.Admissible.{IsAdmissible};
+ghost use Rattle.ux_net.specs.Admissible.{IsAdmissible, IsLeftRecursive, IsOnEmptyLoop};
 ghost use Rattle.ux_net.specs.Admission.{ArePlaceRanks};
+ghost use Rattle.ux_net.specs.Cycles.{AreNumbered};
+ghost use Rattle.ux_net.specs.Numbers.{AreOffsets, all_places};
 ghost use Rattle.ux_net.specs.Refusals.{IsRefusal};
+ghost use Rattle.ux_net.specs.Rows.{cut};
+ghost use Rattle.ux_net.specs.Ways.{AreFreeMarks, AreWays};
 
 use crate::cycles::{first_loop, first_recursion, numbers_of};
 use crate::freeness::free_places;
 use crate::offsets::offsets_of;
 use crate::place::Place;
 use crate::rows::rows_by_graph;
+use crate::way::Way;
 use crate::ways::ways_of;
 use std::alloc::{AllocError, Global};
-use ux_base::{Lst, NoMemory};
+use ux_base::{Lst, Mem, NoMemory};
 
 /// What an admissible grammar has: in a row for each graph, with an entry for each place.
 #[derive(Drop)]
@@ -66,20 +71,74 @@ pub fn admit(alloc: Global, graphs: &[Lst<Place>]) -> Result<Admission, Admissio
     let offsets = offsets_of(alloc, graphs)?;
     let ways = ways_of(alloc, graphs, &offsets)?;
     let marks = free_places(alloc, graphs, &offsets, &ways)?;
-    if let Some(spot) = first_loop(alloc, graphs, &offsets, &ways, &marks)? {
-        return Err(AdmissionError::EmptyLoop {
-            graph: spot.graph,
-            node: spot.node,
-        });
-    }
+    refuse_loops(alloc, graphs, &offsets, &ways, &marks)?;
     let numbers = numbers_of(alloc, graphs, &offsets, &ways, &marks)?;
-    if let Some(spot) = first_recursion(alloc, graphs, &ways, &numbers)? {
-        return Err(AdmissionError::LeftRecursion {
+    refuse_recursion(alloc, graphs, &ways, &numbers)?;
+    Ok(admission_of(alloc, graphs, &numbers, &marks)?)
+}
+
+/// Refuses a grammar with an empty loop, at the least node on one in the first graph that has one.
+fn refuse_loops(
+    alloc: Global,
+    graphs: &[Lst<Place>],
+    offsets: &[usize],
+    ways: &[Way],
+    marks: &[bool],
+) -> Result<(), AdmissionError>
+    requires fit { All (IsFit (length graphs.now)) graphs.now }
+    requires offsets { AreOffsets graphs.now offsets.now }
+    requires ways { AreWays graphs.now ways.now }
+    requires marks { AreFreeMarks graphs.now marks.now }
+    ensures ok { OnOk result ((g n : ℕ) → IsOnEmptyLoop (place_grammar graphs.now) g n → ⊥) }
+    ensures cause { IfErr result (IsRefusal graphs.now) }
+{
+    match first_loop(alloc, graphs, offsets, ways, marks)? {
+        Some(spot) => Err(AdmissionError::EmptyLoop {
             graph: spot.graph,
             node: spot.node,
-        });
+        }),
+        None => Ok(()),
     }
-    let ranks = rows_by_graph(alloc, graphs, &numbers)?;
-    let free = rows_by_graph(alloc, graphs, &marks)?;
+}
+
+/// Refuses a grammar without empty loops in which a graph begins with itself, at the least node at
+/// which the first such graph does.
+fn refuse_recursion(
+    alloc: Global,
+    graphs: &[Lst<Place>],
+    ways: &[Way],
+    numbers: &[usize],
+) -> Result<(), AdmissionError>
+    requires no_loop { (g n : ℕ) → IsOnEmptyLoop (place_grammar graphs.now) g n → ⊥ }
+    requires fit { All (IsFit (length graphs.now)) graphs.now }
+    requires ways { AreWays graphs.now ways.now }
+    requires numbers { AreNumbered graphs.now numbers.now }
+    ensures ok { OnOk result ((g n : ℕ) → IsLeftRecursive (place_grammar graphs.now) g n → ⊥) }
+    ensures cause { IfErr result (IsRefusal graphs.now) }
+{
+    match first_recursion(alloc, graphs, ways, numbers)? {
+        Some(spot) => Err(AdmissionError::LeftRecursion {
+            graph: spot.graph,
+            node: spot.node,
+        }),
+        None => Ok(()),
+    }
+}
+
+/// The ranks and the marks of all places, in a row for each graph.
+fn admission_of(
+    alloc: Global,
+    graphs: &[Lst<Place>],
+    numbers: &[usize],
+    marks: &[bool],
+) -> Mem<Admission>
+    requires numbers { length numbers.now ≡ all_places graphs.now }
+    requires marks { length marks.now ≡ all_places graphs.now }
+    ensures ranks { IfOk result (λ admission.
+        admission.ranks.items ≡ cut graphs.now numbers.now) }
+    ensures free { IfOk result (λ admission. admission.free.items ≡ cut graphs.now marks.now) }
+{
+    let ranks = rows_by_graph(alloc, graphs, numbers)?;
+    let free = rows_by_graph(alloc, graphs, marks)?;
     Ok(Admission { ranks, free })
 }

@@ -9,7 +9,7 @@ ghost use Rattle.ux_net.specs.declared.place.Place.{Place};
 ghost use Rattle.ux_net.specs.Admissible.{IsAdmissible};
 ghost use Rattle.ux_net.specs.Admission.{ArePlaceRanks, AreRows};
 ghost use Rattle.ux_net.specs.Boxes.{box_grammar, names_of as names_of_graphs};
-ghost use Rattle.ux_net.specs.Compiling.{AreSplit, IsConstructed, RefusesPlaces};
+ghost use Rattle.ux_net.specs.Compiling.{AreSplit, IsBuiltOf, IsConstructed, RefusesPlaces};
 ghost use Rattle.ux_net.specs.Construct.{AreFit};
 ghost use Rattle.ux_net.specs.Fit.{IsFit};
 ghost use Rattle.ux_net.specs.Nets.{net_graph, states_of};
@@ -58,11 +58,27 @@ pub fn compiled(
     refuse_missing(alloc, graphs, &names)?;
     refuse_beyond(alloc, graphs)?;
     let places = split_graphs(alloc, alphabet, &names, graphs)?;
-    let admission = match admitted(alloc, graphs, &places) {
-        Ok(admission) => admission,
-        Err(error) => return Err(error),
-    };
-    Ok(build(alloc, graphs, &places, &admission.ranks, &admission.free)?)
+    net_of(alloc, graphs, &places)
+}
+
+/// The states of graphs of these places, if their grammar is admissible.
+fn net_of(
+    alloc: Global,
+    graphs: &[(String, Graph)],
+    places: &[Lst<Place>],
+) -> Result<Vec<NetGraph>, NetError>
+    requires count { length places.now ≡ length graphs.now }
+    requires few_graphs { length graphs.now ≤ 65535 }
+    requires fit { All (IsFit (length places.now)) places.now }
+    requires few { All (λ (graph : List Place). length graph ≤ 65535) places.now }
+    requires are_fit { All AreFit places.now }
+    ensures admissible { OnOk result (IsAdmissible (place_grammar places.now)) }
+    ensures built { IfOk result (λ net.
+        IsBuiltOf (names_of_graphs (drawn graphs.now)) places.now net.items) }
+    ensures err { IfErr result (RefusesPlaces (drawn graphs.now) places.now) }
+{
+    let admission = admitted(alloc, graphs, places)?;
+    Ok(build(alloc, graphs, places, &admission.ranks, &admission.free)?)
 }
 
 /// The places of the graphs.

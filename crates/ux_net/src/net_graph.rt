@@ -18,7 +18,7 @@ pub struct NetGraph {
 
 /// The rank of a state: a lower major number is lower, and among equal ones a lower minor number.
 /// Nothing reads the ranks of a net as it runs: they are why every walk through it ends.
-#[derive(Clone, Copy, Debug, PartialEq, Eq)]
+#[derive(Clone, Copy, Debug)]
 pub struct Rank {
     /// How far the state is from a token, by boxes.
     pub major: usize,

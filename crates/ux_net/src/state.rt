@@ -4,7 +4,7 @@ use crate::label::Label;
 use ux_base::Lst;
 
 /// An edge from a state to a state of the same graph.
-#[derive(Clone, Debug, Drop, PartialEq, Eq)]
+#[derive(Debug, Drop)]
 pub struct Edge {
     /// What it finds in the text.
     pub label: Label,

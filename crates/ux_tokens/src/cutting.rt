@@ -46,37 +46,51 @@ pub fn cut_text(alloc: Global, alphabet: &Alphabet, text: &str) -> Result<Cut, T
     let mut numbers: IndexSet<&str> = IndexSet::new(alloc);
     let mut known = Known::new(alloc)?;
     let mut pieces = Pieces::new(alloc);
-    let mut block = Block::new();
-    let mut free = 0;
-    let mut end = 0;
-    while end < text.len() {
-        let behind = push_block(
-            &classes,
-            &mut block,
-            &mut numbers,
-            &mut known,
-            &mut pieces,
-            text,
-            end,
-        )?;
-        end = if behind > end {
-            behind
-        } else {
-            push_front(
-                alphabet,
-                &mut numbers,
-                &mut known,
-                &mut pieces,
-                &mut free,
-                text,
-                end,
-            )?
-        };
-    }
+    push_tokens(
+        alphabet,
+        &classes,
+        &mut numbers,
+        &mut known,
+        &mut pieces,
+        text,
+    )?;
     Ok(Cut {
         pieces,
         different: numbers.len(),
     })
+}
+
+/// Puts the tokens of the text last, in blocks where it can.
+fn push_tokens<'a>(
+    alphabet: &Alphabet,
+    classes: &[Kind],
+    numbers: &mut IndexSet<&'a str>,
+    known: &mut Known,
+    pieces: &mut Pieces,
+    text: &'a str,
+) -> Result<(), TextError>
+    requires classes { AreClasses alphabet.now classes.now }
+    requires none { texts_in numbers.now ≡ [] }
+    requires known { AreKnown [] known.now }
+    requires no_pieces { pieces_of pieces.now ≡ [] }
+    requires even { AreEven pieces.now }
+    ensures so_far { OnOk result (IsSoFar alphabet.now text.now (length text.now)
+        (pieces_of pieces.new) (texts_in numbers.new)) }
+    ensures even { OnOk result (AreEven pieces.new) }
+    ensures err { IfErr result (RefusesCut alphabet.now text.now) }
+{
+    let mut block = Block::new();
+    let mut free = 0;
+    let mut end = 0;
+    while end < text.len() {
+        let behind = push_block(classes, &mut block, numbers, known, pieces, text, end)?;
+        end = if behind > end {
+            behind
+        } else {
+            push_front(alphabet, numbers, known, pieces, &mut free, text, end)?
+        };
+    }
+    Ok(())
 }
 
 /// Puts the token last that begins at a place. Answers the place behind it.

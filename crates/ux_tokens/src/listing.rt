@@ -1,7 +1,8 @@
 //! The token file of a text that keeps none of its tokens: only the different ones.
 
-ghost use Rattle.std.specs.Prelude.{◌≡◌, IfOk, IfErr, OnOk, string_bytes};
+ghost use Rattle.std.specs.Prelude.{◌≡◌, [], IfOk, IfErr, OnOk, string_bytes};
 ghost use Rattle.ux_tokens.specs.Cutting.{IsListing, RefusesCut};
+ghost use Rattle.ux_tokens.specs.Known.{AreKnown};
 ghost use Rattle.ux_tokens.specs.Numbers.{texts_in};
 ghost use Rattle.ux_tokens.specs.Reading.{HasTooManyTokens, Refuses};
 ghost use Rattle.ux_tokens.specs.TokenFile.{IsTokenFileOf, file_of};
@@ -9,6 +10,7 @@ ghost use Rattle.ux_tokens.specs.TokenFile.{IsTokenFileOf, file_of};
 use crate::cutting::MAX_TOKENS;
 use crate::front::number_front;
 use crate::known::Known;
+use crate::printing::push_line;
 use crate::spaces::into_single_spaced;
 use crate::text_error::TextError;
 use indexmap::IndexSet;
@@ -39,6 +41,22 @@ fn different_tokens<'a>(
 {
     let mut texts: IndexSet<&str> = IndexSet::new(alloc);
     let mut known = Known::new(alloc)?;
+    add_tokens(alphabet, &mut texts, &mut known, text)?;
+    Ok(texts)
+}
+
+/// Adds the texts of the tokens, each once.
+fn add_tokens<'a>(
+    alphabet: &Alphabet,
+    texts: &mut IndexSet<&'a str>,
+    known: &mut Known,
+    text: &'a str,
+) -> Result<(), TextError>
+    requires none { texts_in texts.now ≡ [] }
+    requires known { AreKnown [] known.now }
+    ensures ok { OnOk result (IsListing alphabet.now text.now (texts_in texts.new)) }
+    ensures err { IfErr result (RefusesCut alphabet.now text.now) }
+{
     let mut free = 0;
     let mut count = 0;
     let mut end = 0;
@@ -46,11 +64,11 @@ fn different_tokens<'a>(
         if count == MAX_TOKENS {
             return Err(TextError::TooManyTokens);
         }
-        let front = number_front(alphabet, &mut texts, &mut known, &mut free, text, end)?;
+        let front = number_front(alphabet, texts, known, &mut free, text, end)?;
         end += front.end;
         count += 1;
     }
-    Ok(texts)
+    Ok(())
 }
 
 /// The number of the texts, and then each of them on a line.
@@ -59,8 +77,7 @@ fn print_texts(alloc: Global, texts: &IndexSet<&str>) -> Result<String, AllocErr
 {
     let mut file = format!(in alloc; "{}\n", texts.len())?;
     for text in texts.iter() {
-        file.push_str(text)?;
-        file.push('\n')?;
+        push_line(&mut file, text)?;
     }
     Ok(file)
 }

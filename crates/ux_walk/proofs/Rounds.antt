@@ -17,7 +17,6 @@ use Rattle.ux_walk.specs.declared.reached.Reached.{Reached}
 use Rattle.ux_walk.specs.Derivations.{Der}
 use Rattle.ux_walk.specs.Links.{AreBelow}
 use Rattle.ux_walk.specs.Configurations.{Course, GoesOn, IsAfter, IsRound, IsFoundAs, IsNamed, IsFound, Has, IsSound, AddsFrom, frames_of, events_of}
-use Rattle.ux_walk.proofs.MatchingLemmas.{through}
 use Rattle.ux_walk.proofs.OneStep.{Completes, Ends, step_forth, step_back, starts_forth, starts_back, onto, onto-none}
 use Rattle.ux_walk.proofs.Weights.{weight_of, load, greatest, spells_named}
 use Rattle.ux_walk.proofs.Lighter.{next_lighter}
@@ -159,7 +158,7 @@ module _ (alphabet : List Line) (tokens : List Token) (graphs : List NetGraph) (
         )
 
     -- where nothing is pending all is found
-    walking_ends : (r : Reached) → Walking r → length r.pending.keys ≤ 0 →
+    pub walking_ends : (r : Reached) → Walking r → length r.pending.keys ≤ 0 →
         (j : ℕ) (events : List Event) →
         IsFoundAs r j events ↔ Der alphabet tokens (net_grammar graphs) 1 start j events
     walking_ends r walk none j events = (
@@ -187,14 +186,6 @@ module _ (alphabet : List Line) (tokens : List Token) (graphs : List NetGraph) (
               at = c.1.0;
               is = c.2 ∙ (ap (λ (l : List Event). onto is.before l) c.1.1 ∙ onto-none is.before);
             }
-
-    -- a list of what was found is one of what is derived
-    pub all_found : (r : Reached) → Walking r → length r.pending.keys ≤ 0 →
-        (ds : List (ℕ × List Event)) → ((j : ℕ) (events : List Event) →
-        Contains ds (j, events) ↔ IsFoundAs r j events) → (j : ℕ) (events : List Event) →
-        Contains ds (j, events) ↔ Der alphabet tokens (net_grammar graphs) 1 start j events
-    all_found r walk none ds exactly j events =
-        through (exactly j events) (walking_ends r walk none j events)
 
     -- and each round has less to do
     module _ (old new : Reached) (walk : Walking old)

@@ -1,7 +1,6 @@
 -- What a walk through fronts found so far, and what its front gives, is all that is derived.
-use Rattle.std.proofs.Common.{arith, ◌≡◌, ℕ, ◌+◌, ◌<◌, ◌≤◌, List, [], ◌∷◌, ◌++◌, ◌⊎◌, ◌↔◌, inl, inr, refl, sym, ◌∙◌, ap, subst, reverse, length}
+use Rattle.std.proofs.Common.{arith, ◌≡◌, ℕ, ◌+◌, ◌≤◌, List, [], ◌∷◌, ◌++◌, ◌⊎◌, ◌↔◌, inl, inr, refl, sym, ◌∙◌, ap, subst, reverse}
 use Rattle.std.specs.Prelude.{Contains, Some, Option, slice_get, IsSomeAnd}
-use Rattle.std.proofs.lemmas.Option.{slice_get_within, get_or_from_slice_get}
 use Rattle.std.proofs.lemmas.List.{append-nil}
 use Rattle.std.proofs.lemmas.List.Elements.{Contains-append_left, Contains-push, Contains-push_cases}
 use Rattle.ux_alphabet.specs.declared.line.Line.{Line}
@@ -16,9 +15,9 @@ use Rattle.ux_walk.specs.declared.fronts.Fronts.{Fronts}
 use Rattle.ux_walk.specs.declared.fronts.Reading.{Reading}
 use Rattle.ux_walk.specs.declared.fronts.Reading.TheVariants.{Beyond, Through, Final}
 use Rattle.ux_walk.specs.Derivations.{Der, MayStandFor}
-use Rattle.ux_walk.specs.Links.{AreOnce, Extends, Names}
+use Rattle.ux_walk.specs.Links.{Extends, Names}
 use Rattle.ux_walk.specs.Fronts.{AreKept, IsRead, IsReadAs, Stands, TurnsTo, ends_of, links_of}
-use Rattle.ux_walk.proofs.LinksLemmas.{get_pushed, one_list}
+use Rattle.ux_walk.proofs.LinksLemmas.{one_list}
 use Rattle.ux_net.proofs.JoinedLemmas.{first_or_later, nothing_in, contains_first}
 use Rattle.ux_walk.proofs.OneStep.{starts_forth, starts_back}
 use Rattle.ux_walk.proofs.FrontsLemmas.{stands_kept, stands_nowhere}

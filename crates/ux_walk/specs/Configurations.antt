@@ -71,6 +71,13 @@ frames_of r = r.frames.links.keys
 abbrev pub events_of : Reached → List (Link Event)
 events_of r = r.events.links.keys
 
+-- nothing is reached
+pub record IsNothing (r : Reached) : Type 0 where
+  pub frames : frames_of r ≡ []
+  pub events : events_of r ≡ []
+  pub pending : r.pending.keys ≡ []
+  pub found : r.found.keys ≡ []
+
 -- the lists of frames and events that the configuration's numbers name
 pub record Spells (r : Reached) (c : Config) (back : List Frame) (before : List Event)
     : Type 0 where

@@ -1,11 +1,10 @@
 -- Fronts: the states in which walks stand that took the same tokens, as long as only literals stand
 -- on their edges. And the tokens that a literal fits.
-use Rattle.std.specs.Prelude.{◌≡◌, ℕ, suc, ◌+◌, ◌≤◌, zero, List, [], ◌∷◌, ◌⊎◌, ◌↔◌, Some, slice_get, Contains, All, length, map}
+use Rattle.std.specs.Prelude.{◌≡◌, ℕ, ◌≤◌, List, [], ◌∷◌, ◌⊎◌, ◌↔◌, Some, slice_get, Contains, All, length, map}
 use Rattle.std.specs.List.{AllZip}
 use Rattle.std.specs.Str.{chars, IsUtf8}
 use Rattle.ux_alphabet.specs.declared.line.Line.{Line}
 use Rattle.ux_alphabet.specs.Letters.{Fits}
-use Rattle.ux_tokens.specs.Tokens.{Token}
 use Rattle.ux_tokens.specs.Numbers.{StandOnce, texts_in}
 use Rattle.ux_net.specs.declared.label.Label.{Label}
 use Rattle.ux_net.specs.declared.label.Label.TheVariants.{Empty, Fold, Exact, Space, Glue, Call}
@@ -14,8 +13,6 @@ use Rattle.ux_net.specs.declared.state.State.{State}
 use Rattle.ux_net.specs.declared.net_graph.NetGraph.{NetGraph}
 use Rattle.ux_net.specs.Nets.{IsNetEnd, states_of}
 use Rattle.ux_outputs.specs.declared.event.Event.{Event}
-use Rattle.ux_outputs.specs.declared.event.Event.TheVariants.{Take}
-use Rattle.ux_outputs.specs.Rendering.{skip}
 use Rattle.ux_walk.specs.declared.lists.Link.{Link}
 use Rattle.ux_walk.specs.declared.words.Words.{Words}
 use Rattle.ux_walk.specs.declared.turns.Turn.{Turn}

@@ -159,8 +159,7 @@ impl<'t> Fronts<'t> {
             AreNamed self.old → ((number to : ℕ) → TurnsTo self.old front number to → ⊥) →
             IfOk result (IsReadAs alphabet.now texts net.now self.new front) }
     {
-        let listed = self.lists.spell(alloc, front)?;
-        let states = distinct(alloc, listed.as_slice())?;
+        let states = self.states(alloc, front)?;
         let states = states.as_slice();
         let cost = self.cost(net, states);
         if self.left < cost || MOST_TURNS < self.turns.len() || !have_literals(net, states) {
@@ -173,6 +172,16 @@ impl<'t> Fronts<'t> {
         } else {
             Ok(Reading::Through)
         }
+    }
+
+    /// The states of a front, each once.
+    fn states(&self, alloc: Global, front: usize) -> Mem<IndexSet<u32>>
+        requires { AreBelow (links_of self.now) }
+        ensures { IfOk result (λ set. (states : List ℕ) → Names (links_of self.now) front states →
+            (s : ℕ) → Contains set.keys s ↔ Stands (links_of self.now) front s) }
+    {
+        let listed = self.lists.spell(alloc, front)?;
+        distinct(alloc, listed.as_slice())
     }
 
     /// How many comparisons it takes at most to find the turns of these states.

@@ -8,7 +8,7 @@ ghost use Rattle.ux_tokens.specs.Numbers.{different_texts};
 ghost use Rattle.ux_walk.specs.Links.{AreOnce, Names};
 ghost use Rattle.ux_walk.specs.LookUps.{AreSound};
 ghost use Rattle.ux_walk.specs.declared.config.Config.{Config};
-ghost use Rattle.ux_walk.specs.Configurations.{Adds, AddsFrom, Course, GoesOn, IsAfterSome, IsFoundAs, IsNamed, IsOver, IsOverAt, IsOverSome, IsOverSomeAt, IsRound, IsSound, events_of};
+ghost use Rattle.ux_walk.specs.Configurations.{Adds, AddsFrom, Course, GoesOn, IsAfterSome, IsFoundAs, IsNamed, IsNothing, IsOver, IsOverAt, IsOverSome, IsOverSomeAt, IsRound, IsSound, events_of};
 
 use crate::config::{Config, Found, Frame};
 use crate::lists::Lists;
@@ -39,10 +39,7 @@ pub struct Reached {
 impl Reached {
     /// Nothing yet. Takes no memory.
     pub fn new(alloc: Global) -> Reached
-        ensures frames { result.frames.links.keys ≡ [] }
-        ensures events { result.events.links.keys ≡ [] }
-        ensures pending { result.pending.keys ≡ [] }
-        ensures found { result.found.keys ≡ [] }
+        ensures { IsNothing result }
     {
         Reached {
             frames: Lists::new(alloc),

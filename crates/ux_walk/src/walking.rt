@@ -1,9 +1,10 @@
 //! The walk of the main graph over a text.
 
-ghost use Rattle.std.specs.Prelude.{◌≡◌, ◌≤◌, ◌↔◌, ℕ, List, Contains, IfOk, length};
+ghost use Rattle.std.specs.Prelude.{◌≡◌, ◌≤◌, ◌↔◌, ℕ, List, Contains, IfOk, OnOk, length};
 ghost use Rattle.ux_net.specs.Measured.{IsMeasured};
 ghost use Rattle.ux_net.specs.Nets.{net_grammar};
 ghost use Rattle.ux_outputs.specs.declared.event.Event.{Event};
+ghost use Rattle.ux_walk.specs.Configurations.{IsFoundAs, IsNothing, IsSound};
 ghost use Rattle.ux_walk.specs.Derivations.{Der};
 ghost use Rattle.ux_walk.specs.Following.{Follows};
 ghost use Rattle.ux_tokens.specs.Numbers.{different_texts};
@@ -65,6 +66,30 @@ pub fn walk_through(
     ensures once { IfOk result (λ found. AreOnce found.items) }
 {
     let mut reached = Reached::new(alloc);
+    reach(alloc, net, text, alphabet, look_ups, start, &mut reached)?;
+    reached.derivations(alloc)
+}
+
+/// Goes on from `start` by rounds, until no configuration is pending.
+fn reach(
+    alloc: Global,
+    net: &Net,
+    text: &Text,
+    alphabet: &Alphabet,
+    look_ups: &mut LookUps,
+    start: usize,
+    reached: &mut Reached,
+) -> Mem<()>
+    requires measured { IsMeasured net.now }
+    requires sound { AreSound alphabet.now net.now (different_texts text.now) look_ups.now }
+    requires inside { start ≤ length text.now }
+    requires nothing { IsNothing reached.now }
+    ensures sound { AreSound alphabet.now net.now (different_texts text.now) look_ups.new }
+    ensures named { OnOk result (IsSound reached.new) }
+    ensures exactly { OnOk result ((end : ℕ) (events : List Event) →
+        IsFoundAs reached.new end events
+        ↔ Der alphabet.now text.now (net_grammar net.now) 1 start end events) }
+{
     let main = Frame { graph: 1, state: 0 };
     let first = Config {
         here: main,
@@ -76,5 +101,5 @@ pub fn walk_through(
     while reached.is_pending() {
         reached.round(alloc, net, text, alphabet, look_ups)?;
     }
-    reached.derivations(alloc)
+    Ok(())
 }

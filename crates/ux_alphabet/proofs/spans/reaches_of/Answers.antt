@@ -1,4 +1,5 @@
 use Rattle.std.proofs.Common.{◌≡◌, ◌<◌, ◌+◌, ◌∙◌, max, List, length, get_or, set, take, ap, subst, arith}
+use Rattle.std.proofs.lemmas.Grind.{common_steps}
 use Rattle.std.proofs.lemmas.List.{get_or_default, length-set}
 use Rattle.std.proofs.Math.Seq.{take-length}
 use Rattle.ux_alphabet.specs.Spans.{AreReaches}
@@ -32,3 +33,6 @@ returns-clause-reaches c =
     ap (λ n. take n spans) all ∙ take-length spans in
     let reaches = c.loop-span.reaches.items in
     subst (λ (s : List Span). AreReaches s reaches) whole c.loop-span.invariant.reached
+
+pub loop-span-init : goal.loop-span-init
+loop-span-init c = grind (arith, common_steps)

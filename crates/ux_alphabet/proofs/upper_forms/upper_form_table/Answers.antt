@@ -1,4 +1,5 @@
 use Rattle.std.proofs.Common.{◌≡◌, ◌∙◌, ◌+◌, List, Vec, Global, Bool, length, take, ap, subst, sym, refl, arith}
+use Rattle.std.proofs.lemmas.Grind.{common_steps}
 use Rattle.std.proofs.Math.Seq.{take-length}
 use Rattle.ux_alphabet.specs.Tables.{AreUpperForms}
 use Rattle.ux_alphabet.specs.declared.line.Line.{Line}
@@ -35,3 +36,6 @@ returns c =
     ap (λ n. take n lines) all ∙ take-length lines in
     subst (λ (ls : List Line). AreUpperForms ls c.loop-line.table.items) whole
     c.loop-line.invariant.marked
+
+pub loop-line-init : goal.loop-line-init
+loop-line-init c = grind (arith, common_steps)

@@ -1,3 +1,5 @@
+use Rattle.std.proofs.Common.{arith}
+use Rattle.std.proofs.lemmas.Grind.{common_steps}
 use Rattle.ux_apply.proofs.applying.push_fitting.Goals as goal
 
 pub returns : goal.returns
@@ -6,3 +8,6 @@ returns g c = record {
   fit = c.in_ok-more.ensures.found;
   added = c.in_ok-append.ensures.items;
 }
+
+pub returns-then-is_empty : goal.returns-then-is_empty
+returns-then-is_empty g c = grind (arith, common_steps)

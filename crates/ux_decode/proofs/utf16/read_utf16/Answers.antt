@@ -1,4 +1,5 @@
 use Rattle.std.proofs.Common.{arith, sym, subst, ◌<◌, ◌∙◌, List, ℕ, length, drop}
+use Rattle.std.proofs.lemmas.Grind.{common_steps}
 use Rattle.std.proofs.lemmas.Bool.Decides.{nat_tests}
 use Rattle.ux_decode.proofs.SpellsLemmas.{Spells-more, RefusesUtf16-lone, RefusesUtf16-half}
 use Rattle.ux_decode.specs.Decoding.{Spells}
@@ -26,3 +27,15 @@ returns-then-not-is_empty-clause-err c =
     let some : 0 < length c.loop-unit.rest.now = grind (arith, nat_tests) in
     RefusesUtf16-half c.args.order c.args.bytes.now _ c.loop-unit.rest.now c.requires
     c.loop-unit.invariant c.in_default.ensures some
+
+pub loop-unit-init : goal.loop-unit-init
+loop-unit-init c = grind (arith, common_steps)
+
+pub overflow_sub-place : goal.overflow_sub-place
+overflow_sub-place c = grind (arith, common_steps)
+
+pub loop-unit-smaller : goal.loop-unit-smaller
+loop-unit-smaller c = grind (arith, common_steps)
+
+pub returns-clause-ok : goal.returns-clause-ok
+returns-clause-ok c = grind (arith, common_steps)

@@ -1,4 +1,5 @@
-use Rattle.std.proofs.Common.{List, ℕ, drop, sym, subst}
+use Rattle.std.proofs.Common.{List, ℕ, drop, sym, subst, arith}
+use Rattle.std.proofs.lemmas.Grind.{common_steps}
 use Rattle.std.proofs.lemmas.List.{take_rest}
 use Rattle.ux_dela.specs.Reading.{is_stop, IsPartEnd}
 use Rattle.ux_dela.proofs.PartLemmas.{part_step}
@@ -16,3 +17,6 @@ loop-stop-preserved c =
     let next = part_step (is_stop c.args.stop) c.args.text.now place c.written_len-place.result
     c.loop-stop.invariant.inside c.loop-stop.invariant.part goes_on c.written_len-place.ensures in
     record { inside = next.0; part = next.1 }
+
+pub returns-clause-split : goal.returns-clause-split
+returns-clause-split c = grind (arith, common_steps)

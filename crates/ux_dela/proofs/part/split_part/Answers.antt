@@ -1,3 +1,5 @@
+use Rattle.std.proofs.Common.{arith}
+use Rattle.std.proofs.lemmas.Grind.{common_steps}
 use Rattle.ux_dela.proofs.StopLemmas.{part_end_cut}
 use Rattle.ux_dela.proofs.part.split_part.Goals as goal
 
@@ -6,3 +8,6 @@ pub range_from-requires : goal.range_from-requires
 range_from-requires c =
     λ _. part_end_cut c.args.stop c.as_bytes.result.now c.args.text.now c.part_len-end.result
     c.as_bytes.ensures.value c.part_len-end.ensures.within c.part_len-end.ensures.split.ends
+
+pub range-requires-clause-end_boundary : goal.range-requires-clause-end_boundary
+range-requires-clause-end_boundary c = grind (arith, common_steps)

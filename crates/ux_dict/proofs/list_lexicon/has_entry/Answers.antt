@@ -1,4 +1,5 @@
 use Rattle.std.proofs.Common.{◌≡◌, ◌<◌, length, refl, sym, arith}
+use Rattle.std.proofs.lemmas.Grind.{common_steps}
 use Rattle.std.proofs.lemmas.Bool.{eqb-false}
 use Rattle.ux_dict.proofs.FittingLemmas.{some_entry}
 use Rattle.ux_dict.proofs.list_lexicon.has_entry.Goals as goal
@@ -12,3 +13,9 @@ returns-then-not-is_empty c =
     let some = some_entry c.args.parts.now c.loop-part.part-index part (omega arith) c.part-item.is
     inside in
     (λ t. some, λ lt. refl)
+
+pub loop-part-preserved : goal.loop-part-preserved
+loop-part-preserved c = grind (arith, common_steps)
+
+pub returns : goal.returns
+returns c = grind (arith, common_steps)

@@ -1,4 +1,5 @@
-use Rattle.std.proofs.Common.{length}
+use Rattle.std.proofs.Common.{length, arith}
+use Rattle.std.proofs.lemmas.Grind.{common_steps}
 use Rattle.ux_digraph.proofs.MarkingLemmas.{rule_inside, look_goes_on}
 use Rattle.ux_digraph.proofs.closing.apply_all.Goals as goal
 
@@ -26,3 +27,6 @@ loop-rule-preserved c =
     c.loop-rule.marks.items c.apply.new.marks.items c.loop-rule.work.items c.apply.new.work.items
     c.loop-rule.rule-index _ c.loop-rule-test.true c.loop-rule.invariant c.in_ok-apply.ensures.len
     c.in_ok-apply.ensures.left c.in_ok-apply.ensures.applied
+
+pub returns-clause-done : goal.returns-clause-done
+returns-clause-done c = grind (arith, common_steps)

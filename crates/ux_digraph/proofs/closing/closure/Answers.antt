@@ -1,4 +1,5 @@
 use Rattle.std.proofs.Common.{arith, ◌+◌, ◌∙◌, List, length, get_or, sym, subst, take, map}
+use Rattle.std.proofs.lemmas.Grind.{common_steps}
 use Rattle.std.proofs.lemmas.List.Elements.{Contains-get_or}
 use Rattle.ux_digraph.specs.declared.closing.Rule.{Rule}
 use Rattle.ux_digraph.specs.Marking.{Marking, Waiting}
@@ -55,3 +56,9 @@ returns-clause-marks c =
     (none_waits c.args.rules.now c.args.facts.now c.loop-place.marks.items c.loop-place.work.items
     (emptied c.loop-place.work.items c.pop.new.self.items _ c.in_default.ensures.items
     c.in_default.ensures.rest c.in_default.ensures.cases.0) c.loop-place.invariant.state)
+
+pub loop-fact-init : goal.loop-fact-init
+loop-fact-init c = grind (arith, common_steps)
+
+pub loop-place-init : goal.loop-place-init
+loop-place-init c = grind (arith, common_steps)

@@ -1,4 +1,5 @@
-use Rattle.std.proofs.Common.{◌≡◌, ◌∙◌, length, get_or, map, List, take, ◌+◌, Vec, Global}
+use Rattle.std.proofs.Common.{◌≡◌, ◌∙◌, length, get_or, map, List, take, ◌+◌, Vec, Global, arith}
+use Rattle.std.proofs.lemmas.Grind.{common_steps}
 use Rattle.std.proofs.lemmas.List.{length-map}
 use Rattle.ux_digraph.specs.declared.closing.Rule.{Rule}
 use Rattle.ux_digraph.proofs.Lists.{take_more}
@@ -48,3 +49,6 @@ loop-rule-preserved c =
           (length-map second (λ row. row.items) ∙ len) c.loop-rule-test.true).1
           c.in_ok-put.ensures.put c.in_ok-put-2.ensures.put c.loop-rule.invariant.uses;
     }
+
+pub returns-clause-uses : goal.returns-clause-uses
+returns-clause-uses c = grind (arith, common_steps)

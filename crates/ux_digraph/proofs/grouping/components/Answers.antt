@@ -1,4 +1,5 @@
 use Rattle.std.proofs.Common.{arith, ◌∙◌, ap, sym, subst, List, ℕ}
+use Rattle.std.proofs.lemmas.Grind.{common_steps}
 use Rattle.std.specs.Prelude.{map}
 use Rattle.ux_digraph.specs.Components.{AreComponents}
 use Rattle.ux_digraph.specs.Grouping.{number_of}
@@ -12,3 +13,6 @@ returns c =
     (components_found c.args.edges.now c.requires.inside c.loop-node.marks.items c.loop-node.count
     c.loop-node.invariant.resting (λ u h. let most = c.loop-node-test.false in
     c.loop-node.invariant.met u (omega arith)))
+
+pub loop-node-init : goal.loop-node-init
+loop-node-init c = grind (arith, common_steps)

@@ -1,4 +1,5 @@
 use Rattle.std.proofs.Common.{arith, length}
+use Rattle.std.proofs.lemmas.Grind.{common_steps}
 use Rattle.std.proofs.lemmas.List.Elements.{Contains-push}
 use Rattle.ux_digraph.specs.declared.grouping.Mark.TheVariants.{New}
 use Rattle.ux_digraph.proofs.MarksLemmas.{numbering_keeps, opened_falls}
@@ -93,3 +94,15 @@ returns-in-Done-clause-searching c =
     c.in-Some.ensures.some.1 c.in-Some.ensures.some.0 c.requires.searching
     c.index.result.now c.in-Done.field-0 c.index.ensures c.in-Done.is c.push.new.self.items
     c.in_ok-push.ensures.items
+
+pub close-requires-clause-inside : goal.close-requires-clause-inside
+close-requires-clause-inside c = grind (arith, common_steps)
+
+pub returns-in_default-clause-falls : goal.returns-in_default-clause-falls
+returns-in_default-clause-falls c = grind (arith, common_steps)
+
+pub returns-in-Open-clause-falls : goal.returns-in-Open-clause-falls
+returns-in-Open-clause-falls c = grind (arith, common_steps)
+
+pub returns-in-Done-clause-falls : goal.returns-in-Done-clause-falls
+returns-in-Done-clause-falls c = grind (arith, common_steps)

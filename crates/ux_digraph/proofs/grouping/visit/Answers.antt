@@ -1,4 +1,5 @@
 use Rattle.std.proofs.Common.{arith, ◌≡◌, ◌<◌, length}
+use Rattle.std.proofs.lemmas.Grind.{common_steps}
 use Rattle.ux_digraph.specs.declared.grouping.Mark.TheVariants.{New}
 use Rattle.ux_digraph.specs.Grouping.{mark_at}
 use Rattle.ux_digraph.proofs.StepLemmas.{mark_read}
@@ -35,3 +36,6 @@ returns-clause-resting c =
     c.loop-group.ahead.items c.loop-group.groups.items c.loop-group.count
     (emptied c.loop-group.groups.items c.pop.new.self.items _ c.in_default.ensures.items
     c.in_default.ensures.rest c.in_default.ensures.cases.0) c.loop-group.invariant.searching
+
+pub returns-then-not-is_new-clause-met : goal.returns-then-not-is_new-clause-met
+returns-then-not-is_new-clause-met c = grind (arith, common_steps)

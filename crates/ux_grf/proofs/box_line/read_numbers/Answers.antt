@@ -1,4 +1,5 @@
-use Rattle.std.proofs.Common.{◌≡◌, ◌∙◌, ap, subst, [], ◌∷◌, ◌++◌, false, true}
+use Rattle.std.proofs.Common.{◌≡◌, ◌∙◌, ap, subst, [], ◌∷◌, ◌++◌, false, true, arith}
+use Rattle.std.proofs.lemmas.Grind.{common_steps}
 use Rattle.ux_grf.specs.Numbers.{is_number, value_of}
 use Rattle.ux_grf.proofs.BoxLineLemmas.{all_more, values_more, numbers_in-bad, texts, texts_inside, texts_at}
 use Rattle.ux_grf.proofs.box_line.read_numbers.Goals as goal
@@ -27,3 +28,6 @@ loop-word-preserved c =
           c.loop-word.invariant.1
           (c.in_ok-push-in-Some.ensures.items ∙ ap (λ v. c.loop-word.values.items ++ v ∷ []) value),
     )
+
+pub returns : goal.returns
+returns c = grind (arith, common_steps)

@@ -1,4 +1,5 @@
-use Rattle.std.proofs.Common.{sym, ◌∙◌, ap}
+use Rattle.std.proofs.Common.{sym, ◌∙◌, ap, arith}
+use Rattle.std.proofs.lemmas.Grind.{common_steps}
 use Rattle.ux_grf.specs.Lines.{without_back}
 use Rattle.ux_grf.proofs.BlanksLemmas.{without_back-more, without_back-all}
 use Rattle.ux_grf.proofs.marked.trimmed.Goals as goal
@@ -15,3 +16,12 @@ pub returns : goal.returns
 returns c =
     sym (without_back-all c.loop-front.front.now (sym c.loop-front-test.ensures))
     ∙ c.loop-front.invariant.1
+
+pub overflow_sub-front : goal.overflow_sub-front
+overflow_sub-front c = grind (arith, common_steps)
+
+pub before-front-requires-clause-inside : goal.before-front-requires-clause-inside
+before-front-requires-clause-inside c = grind (arith, common_steps)
+
+pub loop-front-smaller : goal.loop-front-smaller
+loop-front-smaller c = grind (arith, common_steps)

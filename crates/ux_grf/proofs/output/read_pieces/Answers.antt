@@ -1,4 +1,5 @@
-use Rattle.std.proofs.Common.{sym}
+use Rattle.std.proofs.Common.{sym, arith}
+use Rattle.std.proofs.lemmas.Grind.{common_steps}
 use Rattle.ux_grf.proofs.OutputLemmas.{pieces_more, pieces_all}
 use Rattle.ux_grf.proofs.output.read_pieces.Goals as goal
 
@@ -18,3 +19,6 @@ returns c =
     pieces_all c.args.text.now c.loop-place.rest.now c.loop-place.pieces.items
     c.loop-place.invariant.pieces c.put_chars-2.new.pieces.items
     (sym c.in_default.ensures.place) c.in_ok-put_chars-2.ensures
+
+pub loop-place-smaller : goal.loop-place-smaller
+loop-place-smaller c = grind (arith, common_steps)

@@ -1,4 +1,5 @@
-use Rattle.std.proofs.Common.{sym, ◌∙◌, ap, ◌≡◌, ◌<◌, subst, map, List, ℕ, length}
+use Rattle.std.proofs.Common.{sym, ◌∙◌, ap, ◌≡◌, ◌<◌, subst, map, List, ℕ, length, arith}
+use Rattle.std.proofs.lemmas.Grind.{common_steps}
 use Rattle.std.proofs.lemmas.Result.{err_from_is_err_and}
 use Rattle.std.proofs.lemmas.List.{length-map}
 use Rattle.ux_digraph.specs.Paths.{IsInside}
@@ -46,3 +47,9 @@ returns-clause-draws c =
     (length c.args.boxes.now) c.new.ensures
     (sym (length-map c.args.boxes.now said_by)) c.in_ok-make_boxes.ensures.len
     c.in_ok-make_boxes.ensures.made
+
+pub reached-requires-clause-start : goal.reached-requires-clause-start
+reached-requires-clause-start c = grind (arith, common_steps)
+
+pub make_boxes-requires-clause-len : goal.make_boxes-requires-clause-len
+make_boxes-requires-clause-len c = grind (arith, common_steps)

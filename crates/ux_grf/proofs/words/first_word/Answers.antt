@@ -1,3 +1,5 @@
+use Rattle.std.proofs.Common.{arith}
+use Rattle.std.proofs.lemmas.Grind.{common_steps}
 use Rattle.std.proofs.lemmas.Str.{IsCharBoundary-before_ascii}
 use Rattle.ux_grf.proofs.WordsLemmas.{words_of-gap, words_of-last, gap_is_ascii}
 use Rattle.ux_grf.proofs.words.first_word.Goals as goal
@@ -19,3 +21,6 @@ pub returns-in-None-clause-words : goal.returns-in-None-clause-words
 returns-in-None-clause-words c =
     words_of-last c.args.gap c.args.text.now c.range_from.result.now c.in-None.ensures
     c.range_from.ensures.value
+
+pub returns-in-Some-clause-shorter : goal.returns-in-Some-clause-shorter
+returns-in-Some-clause-shorter c = grind (arith, common_steps)

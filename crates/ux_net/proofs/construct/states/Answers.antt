@@ -1,4 +1,5 @@
-use Rattle.std.proofs.Common.{◌<◌, List, length, sym, subst}
+use Rattle.std.proofs.Common.{◌<◌, List, length, sym, subst, arith}
+use Rattle.std.proofs.lemmas.Grind.{common_steps}
 use Rattle.ux_net.specs.declared.state.State.{State}
 use Rattle.ux_net.specs.Words.{HaveSameWords}
 use Rattle.ux_net.specs.Places.{place_graph}
@@ -27,3 +28,6 @@ returns-clause-inside c =
     (sym (built c.args.places.now c.requires c.chain_states.new.states.items
     c.in_ok-states.states.items c.in_ok-chain_states.ensures c.in_ok-states.ensures))
     (targets_inside c.args.places.now c.requires)
+
+pub returns-clause-some : goal.returns-clause-some
+returns-clause-some c = grind (arith, common_steps)

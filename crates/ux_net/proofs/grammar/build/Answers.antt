@@ -1,4 +1,5 @@
 use Rattle.std.proofs.Common.{arith, ◌+◌, List, sym, subst, ◌∙◌}
+use Rattle.std.proofs.lemmas.Grind.{common_steps}
 use Rattle.ux_net.specs.declared.net_graph.NetGraph.{NetGraph}
 use Rattle.ux_net.proofs.CompileLemmas.{AreBuiltTo, built_more, built_at}
 use Rattle.ux_net.proofs.grammar.build.Goals as goal
@@ -27,3 +28,6 @@ loop-number-preserved c =
     c.as_slice.ensures c.as_slice-in-loop-number.ensures c.as_slice-in-loop-number-2.ensures
     c.in_ok-build_graph.ensures.built)
     (c.in_ok-build_graph.ensures.name ∙ c.as_str.ensures.value))
+
+pub returns-clause-names : goal.returns-clause-names
+returns-clause-names c = grind (arith, common_steps)

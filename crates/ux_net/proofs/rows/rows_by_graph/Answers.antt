@@ -1,4 +1,5 @@
-use Rattle.std.proofs.Common.{◌≡◌, ◌∙◌, [], get_or}
+use Rattle.std.proofs.Common.{◌≡◌, ◌∙◌, [], get_or, arith}
+use Rattle.std.proofs.lemmas.Grind.{common_steps}
 use Rattle.std.proofs.lemmas.List.{get_or_default}
 use Rattle.ux_net.proofs.CutLemmas.{split_fits, rest_next, rows_next}
 use Rattle.ux_net.proofs.rows.rows_by_graph.Goals as goal
@@ -27,3 +28,6 @@ loop-places-preserved g c =
           (c.new.ensures ∙ (c.in_ok-copied.ensures ∙ c.split_at.ensures.front))
           c.loop-places.invariant.rows c.in_ok-push.ensures.items;
     }
+
+pub returns : goal.returns
+returns g c = grind (arith, common_steps)

@@ -1,4 +1,5 @@
-use Rattle.std.proofs.Common.{refl, sym, ◌∙◌, ap}
+use Rattle.std.proofs.Common.{refl, sym, ◌∙◌, ap, arith}
+use Rattle.std.proofs.lemmas.Grind.{common_steps}
 use Rattle.std.specs.Option.{is_some}
 use Rattle.ux_net.proofs.NamesLemmas.{named_at, named_there}
 use Rattle.ux_net.proofs.split.number_of_name.Goals as goal
@@ -17,3 +18,9 @@ returns c = (
       (sym c.get_index_of.ensures.index ∙ c.in-Some.is),
   refl,
 )
+
+pub overflow_cast-result : goal.overflow_cast-result
+overflow_cast-result c = grind (arith, common_steps)
+
+pub overflow_add-result : goal.overflow_add-result
+overflow_add-result c = grind (arith, common_steps)

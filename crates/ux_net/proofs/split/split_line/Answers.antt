@@ -1,3 +1,5 @@
+use Rattle.std.proofs.Common.{arith}
+use Rattle.std.proofs.lemmas.Grind.{common_steps}
 use Rattle.ux_net.proofs.SplittingLemmas.{split_line_more}
 use Rattle.ux_tokens.specs.Numbers.{texts_in}
 use Rattle.ux_net.proofs.split.split_line.Goals as goal
@@ -8,3 +10,6 @@ loop-item-preserved c =
     c.loop-item.item-index
     c.item-item.result _ _ c.loop-item-test.true c.item-item.is c.loop-item.invariant
     c.in_ok-split_item.ensures
+
+pub returns : goal.returns
+returns c = grind (arith, common_steps)

@@ -1,4 +1,5 @@
-use Rattle.std.proofs.Common.{◌≡◌, List, ◌++◌, ◌∷◌, [], sym, subst, take, ◌+◌}
+use Rattle.std.proofs.Common.{◌≡◌, List, ◌++◌, ◌∷◌, [], sym, subst, take, ◌+◌, arith}
+use Rattle.std.proofs.lemmas.Grind.{common_steps}
 use Rattle.ux_grf.specs.declared.item.Item.{Item}
 use Rattle.ux_net.specs.declared.label.Label.{Label}
 use Rattle.ux_net.specs.Boxes.{IsSplitLine}
@@ -22,3 +23,6 @@ loop-line-preserved c =
     subst (AreSplitLines alphabet names (take (i + 1) lines)) (sym {A = List (List Label)} grown)
     (split_lines_more alphabet names lines i c.line-item.result split labels
     c.loop-line-test.true c.line-item.is c.loop-line.invariant one)
+
+pub returns : goal.returns
+returns c = grind (arith, common_steps)

@@ -1,4 +1,5 @@
 use Rattle.std.proofs.Common.{arith, ◌≡◌, ◌-◌, ◌++◌, ℕ, List, [], ◌∷◌, ap, sym, subst, take, ◌∙◌}
+use Rattle.std.proofs.lemmas.Grind.{common_steps}
 use Rattle.ux_tokens.specs.Tokens.{with_single_spaces}
 use Rattle.ux_net.specs.declared.label.Label.{Label}
 use Rattle.ux_net.specs.Splitting.{label_by}
@@ -40,3 +41,6 @@ loop-rest-preserved c =
           c.loop-rest.invariant.0 c.first_token-kind.ensures.cut c.first_token-kind.ensures.is
           c.first_token-kind.ensures.plain c.range_from-rest.ensures.value c.loop-rest.invariant.1),
     )
+
+pub returns : goal.returns
+returns c = grind (arith, common_steps)

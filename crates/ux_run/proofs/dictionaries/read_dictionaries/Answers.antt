@@ -1,4 +1,5 @@
-use Rattle.std.proofs.Common.{◌∙◌}
+use Rattle.std.proofs.Common.{◌∙◌, arith}
+use Rattle.std.proofs.lemmas.Grind.{common_steps}
 use Rattle.std.proofs.lemmas.Result.{err_from_is_err_and}
 use Rattle.ux_run.specs.Running.{counts_of}
 use Rattle.ux_run.proofs.DictionariesInOrder.{memory_here, read_more, stops_here}
@@ -47,3 +48,6 @@ loop-name-preserved g c =
           c.loop-name-test.true c.name-item.is l.dics.items l.invariant.have (told l.folder)
           l.invariant.kept c.in_ok-dic.dic c.push.new.self.items c.in_ok-push.ensures.items has;
     }
+
+pub returns-clause-ok : goal.returns-clause-ok
+returns-clause-ok g c = grind (arith, common_steps)

@@ -1,4 +1,5 @@
-use Rattle.std.proofs.Common.{◌∙◌, ap, string_bytes}
+use Rattle.std.proofs.Common.{◌∙◌, ap, string_bytes, arith}
+use Rattle.std.proofs.lemmas.Grind.{common_steps}
 use Rattle.std.proofs.lemmas.Result.{err_from_is_err_and}
 use Rattle.ux_run.specs.Grammars.{file_of}
 use Rattle.ux_run.specs.Running.{counts_of}
@@ -61,3 +62,6 @@ returns-clause-ok g c =
     c.in_ok-graph.graph count c.as_str-2.result.now c.requires.reading
     (c.len-count.ensures ∙ c.args.graphs.now.ok.0) c.in_ok-name.ensures file read.few read.ok
     read.given c.in_ok-add_needs.ensures c.in_ok-push.ensures.items
+
+pub returns-in_err-file-clause-err : goal.returns-in_err-file-clause-err
+returns-in_err-file-clause-err g c = grind (arith, common_steps)

@@ -1,4 +1,5 @@
-use Rattle.std.proofs.Common.{sym}
+use Rattle.std.proofs.Common.{sym, arith}
+use Rattle.std.proofs.lemmas.Grind.{common_steps}
 use Rattle.ux_run.specs.declared.searching.Span.{Span}
 use Rattle.ux_run.proofs.IndexLemmas.{index_more}
 use Rattle.ux_run.proofs.index.index_text.Goals as goal
@@ -9,3 +10,6 @@ loop-hit-preserved c =
     let more =
     index_more c.args.text.now c.args.hits.now c.loop-hit.hit-index none c.loop-hit-test.true in
     rw (c.in_ok-push_line.ensures, c.loop-hit.invariant) (sym more)
+
+pub returns : goal.returns
+returns c = grind (arith, common_steps)

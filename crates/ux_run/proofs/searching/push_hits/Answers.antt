@@ -1,4 +1,5 @@
 use Rattle.std.proofs.Common.{◌++◌, ◌∙◌, List, ℕ, map, ap, arith, get_or}
+use Rattle.std.proofs.lemmas.Grind.{common_steps}
 use Rattle.std.proofs.lemmas.List.{take_all}
 use Rattle.ux_run.specs.Searching.{span_to}
 use Rattle.ux_run.proofs.Listing.{Contains-at}
@@ -13,3 +14,6 @@ overflow_sub-end c =
 pub returns : goal.returns
 returns c = c.loop-end.invariant ∙ ap (λ (es : List ℕ). c.args.hits.now.items ++ map
     (span_to c.args.start) es) (take_all c.loop-end.end-index c.args.ends.now c.loop-end-test.false)
+
+pub loop-end-preserved : goal.loop-end-preserved
+loop-end-preserved c = grind (arith, common_steps)

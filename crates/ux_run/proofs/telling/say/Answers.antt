@@ -1,4 +1,5 @@
 use Rattle.std.proofs.Common.{arith, [], Bor, List, ℕ}
+use Rattle.std.proofs.lemmas.Grind.{common_steps}
 use Rattle.std.proofs.lemmas.Result.{err_from_is_err_and}
 use Rattle.ux_run.proofs.TextLemmas.{written_front, written_more}
 use Rattle.ux_run.proofs.telling.say.Goals as goal
@@ -26,3 +27,6 @@ loop-text-preserved g c =
           (written c.loop-text.err) (written c.write_all.new.self) c.as_bytes.result.now
           c.as_bytes.ensures.value c.loop-text.invariant.written c.in_ok-write_all.ensures.ok;
     }
+
+pub returns-clause-line : goal.returns-clause-line
+returns-clause-line g c = grind (arith, common_steps)

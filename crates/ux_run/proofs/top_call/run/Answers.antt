@@ -1,4 +1,4 @@
-use Rattle.std.proofs.Common.{inr, map, string_bytes}
+use Rattle.std.proofs.Common.{inr, map, string_bytes, rules}
 use Rattle.ux_base.specs.Outside.{Rose}
 use Rattle.ux_run.specs.declared.status.Status.TheVariants.{WriteFault}
 use Rattle.ux_run.specs.Requests.{request_of}
@@ -65,3 +65,16 @@ returns-clause-cut_line g c =
       front_line (written c.args.err.now) (written ended.new.err) ended.result WriteFault unwritten
           ended.ensures.status,
     )
+
+-- by name, so that a wrong body is refused at once
+pub returns-in-Ok-write_all-clause-causes : goal.returns-in-Ok-write_all-clause-causes
+returns-in-Ok-write_all-clause-causes g c = search rules
+
+pub returns-in-Ok-write_all-clause-write_line : goal.returns-in-Ok-write_all-clause-write_line
+returns-in-Ok-write_all-clause-write_line g c = search rules
+
+pub returns-in-Ok-write_all-clause-cut_line : goal.returns-in-Ok-write_all-clause-cut_line
+returns-in-Ok-write_all-clause-cut_line g c = search rules
+
+pub returns-in-Ok-write_all-clause-complete : goal.returns-in-Ok-write_all-clause-complete
+returns-in-Ok-write_all-clause-complete g c = search rules

@@ -1,63 +1,16 @@
-use Rattle.std.proofs.Common.{◌≡◌, ℕ, List, [], length, sym, ◌∙◌, subst, arith}
-use Rattle.ux_tokens.specs.Blocks.{AreClasses}
-use Rattle.ux_tokens.specs.Columns.{pieces_of}
-use Rattle.ux_tokens.specs.Cutting.{IsSoFar}
-use Rattle.ux_tokens.specs.Known.{AreKnown}
+use Rattle.std.proofs.Common.{length, sym, ◌∙◌, refl}
 use Rattle.ux_tokens.specs.Numbers.{texts_in}
-use Rattle.ux_tokens.proofs.CuttingLemmas.{so_far_start, cut_whole}
-use Rattle.ux_tokens.proofs.MarksLemmas.{free_later}
+use Rattle.ux_tokens.proofs.CuttingLemmas.{cut_whole}
 use Rattle.ux_tokens.proofs.NumbersLemmas.{no_texts, length-texts_in}
 use Rattle.ux_tokens.proofs.cutting.cut_text.Goals as goal
 
-pub loop-end-init : goal.loop-end-init
-loop-end-init c =
-    let texts : texts_in c.new-numbers.result ≡ [] =
-    no_texts c.new-numbers.result c.new-numbers.ensures.len in
-    let so_far = so_far_start c.args.alphabet.now c.args.text.now c.utf8.text in
-    record {
-      classes = c.in_ok-classes.ensures;
-      so_far = rw c.new-pieces.ensures.none (rw texts so_far);
-      even = c.new-pieces.ensures.even;
-      known =
-          subst (λ (l : List (List ℕ)). AreKnown l c.in_ok-known.known) (sym texts)
-          c.in_ok-known.ensures;
-      free = λ k low high tag. omega (arith, high);
-    }
-
-pub push_front-requires-clause-so_far : goal.push_front-requires-clause-so_far
-push_front-requires-clause-so_far c =
-    let lines = c.args.alphabet.now in
-    let before = c.loop-end.invariant in
-    let block = c.in_ok-behind.ensures in
-    let not_later = c.if-behind-end.false in
-    let in_order = block.in_order in
-    let same : c.in_ok-behind.behind ≡ c.loop-end.end = omega (arith, not_later, in_order) in
-    subst (λ (n : ℕ). IsSoFar lines c.args.text.now n (pieces_of c.push_block.new.pieces)
-    (texts_in c.push_block.new.numbers)) same (block.so_far lines
-    (subst (AreClasses lines) (sym c.deref.ensures.value) before.classes) before.so_far)
-
-pub loop-end-preserved-then-behind-end : goal.loop-end-preserved-then-behind-end
-loop-end-preserved-then-behind-end c =
-    let lines = c.args.alphabet.now in
-    let before = c.loop-end.invariant in
-    let block = c.in_ok-behind.ensures in
-    record {
-      classes = before.classes;
-      so_far =
-          block.so_far lines
-          (subst (AreClasses lines) (sym c.deref.ensures.value) before.classes) before.so_far;
-      even = block.even;
-      known = block.known;
-      free = free_later c.args.text.now c.loop-end.end c.in_ok-behind.behind c.loop-end.free
-          block.in_order before.free;
-    }
+pub push_tokens-requires-clause-none : goal.push_tokens-requires-clause-none
+push_tokens-requires-clause-none c = no_texts c.new-numbers.result c.new-numbers.ensures.len
 
 pub returns-clause-ok : goal.returns-clause-ok
 returns-clause-ok c =
-    let within = c.loop-end.invariant.so_far.between.0 in
-    let all : c.loop-end.end ≡ length c.args.text.now = omega (arith, within) in
-    let keys = length-texts_in c.loop-end.numbers in
-    cut_whole c.args.alphabet.now c.args.text.now c.loop-end.end c.loop-end.pieces
-    (texts_in c.loop-end.numbers)
-    c.len.result c.loop-end.invariant.so_far c.loop-end.invariant.even all
+    let keys = length-texts_in c.push_tokens.new.numbers in
+    cut_whole c.args.alphabet.now c.args.text.now (length c.args.text.now) c.push_tokens.new.pieces
+    (texts_in c.push_tokens.new.numbers)
+    c.len.result c.in_ok-push_tokens.ensures.so_far c.in_ok-push_tokens.ensures.even refl
     (c.len.ensures.len ∙ sym keys)

@@ -1,4 +1,5 @@
 use Rattle.std.proofs.Common.{◌≡◌, ◌-◌, ◌≤◌, length, drop, refl, arith}
+use Rattle.std.proofs.lemmas.Grind.{common_steps}
 use Rattle.std.proofs.lemmas.List.{length-drop}
 use Rattle.std.proofs.lemmas.Str.{IsUtf8-drop}
 use Rattle.ux_tokens.specs.declared.cutting.TheConstants.{MAX_TOKENS}
@@ -52,3 +53,6 @@ pub returns-clause-free : goal.returns-clause-free
 returns-clause-free c =
     free_later c.args.text.now c.args.start _ c.number_front.new.free (omega arith)
     c.in_ok-front.ensures.free
+
+pub overflow_add-end : goal.overflow_add-end
+overflow_add-end c = grind (arith, common_steps)

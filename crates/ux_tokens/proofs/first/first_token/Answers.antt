@@ -1,4 +1,5 @@
 use Rattle.std.proofs.Common.{◌≡◌, ℕ, ◌++◌, encode_utf8, drop, sym, ◌∙◌, subst, arith}
+use Rattle.std.proofs.lemmas.Grind.{common_steps}
 use Rattle.std.specs.Char.{len_utf8}
 use Rattle.std.specs.Str.{IsCharBoundary}
 use Rattle.std.proofs.lemmas.Str.{IsUtf8-take}
@@ -52,3 +53,6 @@ returns-then-word-gt0-clause-is c =
       );
       longest = λ _. c.word_len-word.ensures.ends;
     }
+
+pub returns-in-Some-eq32-clause-is : goal.returns-in-Some-eq32-clause-is
+returns-in-Some-eq32-clause-is c = grind (arith, common_steps)

@@ -1,4 +1,5 @@
-use Rattle.std.proofs.Common.{drop, refl, sym, ◌∙◌, ap, subst}
+use Rattle.std.proofs.Common.{drop, refl, sym, ◌∙◌, ap, subst, arith}
+use Rattle.std.proofs.lemmas.Grind.{common_steps}
 use Rattle.std.proofs.lemmas.List.{drop-drop}
 use Rattle.ux_tokens.specs.First.{BeginsWithNoLetter}
 use Rattle.ux_tokens.proofs.FirstLemmas.{run_start}
@@ -38,3 +39,6 @@ returns-then-not-is_letter-clause-ends c =
 
 pub returns-clause-ends : goal.returns-clause-ends
 returns-clause-ends c = no_letter_behind c.args.alphabet.now c.args.text.now
+
+pub returns-then-byte-ge128-clause-cut : goal.returns-then-byte-ge128-clause-cut
+returns-then-byte-ge128-clause-cut c = grind (arith, common_steps)

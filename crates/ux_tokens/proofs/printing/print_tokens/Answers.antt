@@ -1,14 +1,14 @@
-use Rattle.std.proofs.Common.{arith, ◌≡◌, ◌+◌, string_bytes, ℕ, suc, length, List, [], ◌∷◌, ◌++◌, Option, Some, ap, subst, sym, ◌∙◌, append_assoc, length-append}
+use Rattle.std.proofs.Common.{arith, ◌≡◌, ◌+◌, string_bytes, ℕ, suc, length, List, [], ◌∷◌, ◌++◌, Option, Some, ap, subst, sym, ◌∙◌, length-append}
+use Rattle.std.proofs.lemmas.Grind.{common_steps}
 use Rattle.std.specs.Prelude.{IsSomeAnd}
 use Rattle.std.specs.Fmt.{decimal}
-use Rattle.std.proofs.lemmas.Str.{encode_ascii}
 use Rattle.std.specs.List.{flat_map, slice_get}
 use Rattle.ux_tokens.specs.Tokens.{Token}
 use Rattle.ux_tokens.specs.Numbers.{different_texts}
-use Rattle.ux_tokens.specs.TokenFile.{LINE_FEED, line_of}
+use Rattle.ux_tokens.specs.TokenFile.{line_of}
 use Rattle.ux_tokens.proofs.PrintingLemmas.{there, so_far, so_far-new, so_far-known, lines-more}
 use Rattle.ux_tokens.proofs.printing.print_tokens.Goals as goal
-use Rattle.ux_tokens.proofs.printing.print_tokens.Goals.{then-number-printed+in_ok-push_str+in_ok-push, else-number-printed}
+use Rattle.ux_tokens.proofs.printing.print_tokens.Goals.{then-number-printed+in_ok-push_line, else-number-printed}
 
 pub loop-i-preserved : goal.loop-i-preserved
 loop-i-preserved c =
@@ -21,7 +21,7 @@ loop-i-preserved c =
     (λ (token : Token). slice_get (different_texts tokens) c.number.result ≡ Some token.text)
     c.number.ensures.place in
     elim c.if-number-printed.branch [
-      | then-number-printed+in_ok-push_str+in_ok-push w ↦
+      | then-number-printed+in_ok-push_line w ↦
           let is : c.number.result ≡ length (so_far tokens i) =
           w.if-number-printed.true ∙ known.printed in
           let more : so_far tokens (i + 1) ≡ so_far tokens i ++ t.0.text ∷ [] =
@@ -29,12 +29,8 @@ loop-i-preserved c =
           let text : w.token.result.now ≡ t.0.text =
           subst (λ (o : Option Token). IsSomeAnd o (λ x. w.token.result.now ≡ x.text)) t.1
           w.token.ensures in
-          let line : string_bytes w.push.new.self ≡ string_bytes c.loop-i.file ++ line_of t.0.text =
-          w.in_ok-push.ensures.bytes
-          ∙ ap (λ (l : List ℕ). string_bytes w.push_str.new.self ++ l)
-          (encode_ascii LINE_FEED (omega arith))
-          ∙ ap (λ (l : List ℕ). l ++ LINE_FEED ∷ []) w.in_ok-push_str.ensures.bytes
-          ∙ append_assoc (string_bytes c.loop-i.file) w.token.result.now (LINE_FEED ∷ [])
+          let line : string_bytes w.push_line.new.file ≡ string_bytes c.loop-i.file ++ line_of t.0.text =
+          w.in_ok-push_line.ensures
           ∙ ap (λ (l : List ℕ). string_bytes c.loop-i.file ++ line_of l) text in
           let one : length (so_far tokens (i + 1)) ≡ length (so_far tokens i) + 1 =
           ap length more ∙ length-append (so_far tokens i) (t.0.text ∷ []) in
@@ -54,3 +50,6 @@ loop-i-preserved c =
             printed = known.printed ∙ ap length (sym same);
           })
     ]
+
+pub returns : goal.returns
+returns c = grind (arith, common_steps)

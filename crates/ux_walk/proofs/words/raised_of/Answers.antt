@@ -1,4 +1,5 @@
-use Rattle.std.proofs.Common.{◌≡◌, ◌+◌, ◌++◌, ◌∷◌, [], Bor, List, ℕ, map, subst, sym}
+use Rattle.std.proofs.Common.{◌≡◌, ◌+◌, ◌++◌, ◌∷◌, [], Bor, List, ℕ, map, subst, sym, arith}
+use Rattle.std.proofs.lemmas.Grind.{common_steps}
 use Rattle.ux_walk.specs.Fronts.{AreRaised}
 use Rattle.ux_walk.proofs.RaisedLemmas.{AreRaisedBefore, raised_all, raised_listed, raised_plain}
 use Rattle.ux_walk.proofs.words.raised_of.Goals as goal
@@ -31,3 +32,6 @@ returns c =
     raised) c.as_slice-texts.ensures.keys
     (raised_all alphabet c.as_slice-texts.result.now c.loop-number.number raised
     c.loop-number-test.false c.loop-number.invariant)
+
+pub overflow_cast-number : goal.overflow_cast-number
+overflow_cast-number c = grind (arith, common_steps)

@@ -1,4 +1,5 @@
-use Rattle.std.proofs.Common.{◌∙◌, ap₂, sym}
+use Rattle.std.proofs.Common.{◌∙◌, ap₂, sym, arith}
+use Rattle.std.proofs.lemmas.Grind.{common_steps}
 use Rattle.std.proofs.lemmas.List.Sums.{fold_more}
 use Rattle.clap.specs.Simple.{with_rule}
 use Rattle.ux_words.specs.Matching.{BARE, option_rule}
@@ -10,3 +11,6 @@ loop-option-preserved c =
     ∙ (ap₂ with_rule c.loop-option.invariant c.option_arg.ensures.rule ∙ sym (fold_more
     (λ app option. with_rule app (option_rule option)) BARE c.args.options.now
     c.loop-option.option-index _ c.loop-option-test.true))
+
+pub returns : goal.returns
+returns c = grind (arith, common_steps)

@@ -1,4 +1,5 @@
-use Rattle.std.proofs.Common.{ℕ, List, [], ◌∷◌, ◌++◌, ◌∙◌, ap}
+use Rattle.std.proofs.Common.{ℕ, List, [], ◌∷◌, ◌++◌, ◌∙◌, ap, arith}
+use Rattle.std.proofs.lemmas.Grind.{common_steps}
 use Rattle.ux_tokens.specs.declared.kind.Kind.{Kind}
 use Rattle.ux_tokens.specs.Columns.{ends_of, pieces_from}
 use Rattle.ux_tokens.proofs.ColumnsLemmas.{pieces_from-push}
@@ -18,3 +19,6 @@ returns-clause-pieces c =
     c.in_ok-push-3.ensures.items
     ∙ pieces_from-push ends numbers kinds piece.end piece.number piece.kind c.requires.ends
     c.requires.kinds
+
+pub returns-clause-even : goal.returns-clause-even
+returns-clause-even c = grind (arith, common_steps)

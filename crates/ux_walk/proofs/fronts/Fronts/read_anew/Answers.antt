@@ -1,8 +1,8 @@
-use Rattle.std.proofs.Common.{◌-◌, ℕ}
+use Rattle.std.proofs.Common.{◌-◌, ◌↔◌, ℕ, List, subst, sym}
 use Rattle.std.specs.Prelude.{Contains}
-use Rattle.ux_walk.specs.Fronts.{Leads, links_of}
+use Rattle.ux_walk.specs.Fronts.{Leads, Stands, links_of}
 use Rattle.ux_walk.proofs.GainsLemmas.{gains_spent, named_spent}
-use Rattle.ux_walk.proofs.KeptLemmas.{spelled_once, front_read, front_end}
+use Rattle.ux_walk.proofs.KeptLemmas.{front_read, front_end}
 use Rattle.ux_walk.proofs.fronts.Fronts.read_anew.Goals as goal
 
 pub returns-then-has_end-clause-read : goal.returns-then-has_end-clause-read
@@ -10,10 +10,9 @@ returns-then-has_end-clause-read c = λ texts ready named unread.
     let old = c.args.self.now in
     let states = c.as_slice-states.result.now in
     let there = c.requires.named in
-    let are = spelled_once (links_of old) c.args.front there.0 c.in_ok-listed.listed.items
-    c.as_slice.result.now c.in_ok-states.states.keys states there.1
-    (c.in_ok-listed.ensures there.0 there.1) c.as_slice.ensures.value c.in_ok-states.ensures
-    c.as_slice-states.ensures.keys in
+    let are : (s : ℕ) → Contains states s ↔ Stands (links_of old) c.args.front s =
+    subst (λ (l : List ℕ). (s : ℕ) → Contains l s ↔ Stands (links_of old) c.args.front s)
+    (sym c.as_slice-states.ensures.keys) (c.in_ok-states.ensures there.0 there.1) in
     let gains = gains_spent old (old.left - c.cost-cost.result) (λ number to.
     (from : ℕ) × Contains states from
     × Leads c.args.alphabet.now texts c.args.net.now from number to) c.args.front
@@ -31,10 +30,9 @@ returns-clause-read c = λ texts ready named unread.
     let old = c.args.self.now in
     let states = c.as_slice-states.result.now in
     let there = c.requires.named in
-    let are = spelled_once (links_of old) c.args.front there.0 c.in_ok-listed.listed.items
-    c.as_slice.result.now c.in_ok-states.states.keys states there.1
-    (c.in_ok-listed.ensures there.0 there.1) c.as_slice.ensures.value c.in_ok-states.ensures
-    c.as_slice-states.ensures.keys in
+    let are : (s : ℕ) → Contains states s ↔ Stands (links_of old) c.args.front s =
+    subst (λ (l : List ℕ). (s : ℕ) → Contains l s ↔ Stands (links_of old) c.args.front s)
+    (sym c.as_slice-states.ensures.keys) (c.in_ok-states.ensures there.0 there.1) in
     let gains = gains_spent old (old.left - c.cost-cost.result) (λ number to.
     (from : ℕ) × Contains states from
     × Leads c.args.alphabet.now texts c.args.net.now from number to) c.args.front

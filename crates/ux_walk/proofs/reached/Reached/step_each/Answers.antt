@@ -1,4 +1,5 @@
-use Rattle.std.proofs.Common.{get_or}
+use Rattle.std.proofs.Common.{get_or, arith}
+use Rattle.std.proofs.lemmas.Grind.{common_steps}
 use Rattle.ux_walk.specs.declared.config.Config.{Config}
 use Rattle.ux_walk.specs.Configurations.{IsAfter}
 use Rattle.ux_walk.proofs.Adding.{keeps}
@@ -30,3 +31,6 @@ loop-config-preserved c = record {
       v.0
       (keeps before) v.1 before.sound c.in_ok-step.ensures.adds);
 }
+
+pub returns-clause-adds : goal.returns-clause-adds
+returns-clause-adds c = grind (arith, common_steps)

@@ -1,4 +1,5 @@
-use Rattle.std.proofs.Common.{◌∙◌, ap, refl, codes, map}
+use Rattle.std.proofs.Common.{◌∙◌, ap, refl, codes, map, arith}
+use Rattle.std.proofs.lemmas.Grind.{common_steps}
 use Rattle.std.proofs.lemmas.List.{take_all}
 use Rattle.clap.specs.Words.{found_of}
 use Rattle.clap.proofs.WalkLemmas.{raw_values-rows}
@@ -12,3 +13,6 @@ returns c = c.into_iter.ensures.rest ∙ (c.loop-name.invariant
     ∙ (ap (λ names. map (λ name. name.now) names.now) c.unwrap_or-names.ensures
     ∙ names_found c.get_strs.result _ _
     (c.get_strs.ensures ∙ raw_values-rows (found_of c.args.matches.now) (codes "files")) refl)))
+
+pub loop-name-preserved : goal.loop-name-preserved
+loop-name-preserved c = grind (arith, common_steps)

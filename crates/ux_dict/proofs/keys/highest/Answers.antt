@@ -1,0 +1,6 @@
+use Rattle.std.proofs.Common.{rules}
+use Rattle.ux_dict.proofs.keys.highest.Goals as goal
+
+-- by name, so that a wrong body is refused at once
+pub returns : goal.returns
+returns c = search rules

@@ -1,9 +1,0 @@
-use Rattle.std.proofs.Common.{◌≡◌, [], take}
-use Rattle.std.specs.List.{flat_map}
-use Rattle.ux_grf.specs.Needs.{calls_of_box, with_names, names_in}
-use Rattle.ux_grf.proofs.calls.needs.Given as goal
-
--- the names of the boxes so far are noted
-abbrev pub invariant-loop-drawn : goal.invariant-loop-drawn
-invariant-loop-drawn l =
-    names_in l.names ≡ with_names [] (flat_map calls_of_box (take l.drawn-index l.drawn-items))

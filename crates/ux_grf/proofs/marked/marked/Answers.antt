@@ -1,0 +1,6 @@
+use Rattle.std.proofs.Common.{arith}
+use Rattle.std.proofs.lemmas.Grind.{common_steps}
+use Rattle.ux_grf.proofs.marked.marked.Goals as goal
+
+pub behind-rest-requires-clause-inside : goal.behind-rest-requires-clause-inside
+behind-rest-requires-clause-inside c = grind (arith, common_steps)

@@ -1,0 +1,19 @@
+use Rattle.std.proofs.Common.{length}
+use Rattle.ux_tokens.specs.Numbers.{different_texts}
+use Rattle.ux_walk.specs.Configurations.{frames_of}
+use Rattle.ux_walk.specs.LookUps.{AreSound}
+use Rattle.ux_walk.proofs.Rounds.{Walking}
+use Rattle.ux_walk.proofs.Weights.{greatest}
+use Rattle.ux_walk.proofs.walking.reach.Given as goal
+
+-- what was found, and what the pending configurations give, is all that is derived
+abbrev pub invariant-loop-alloc : goal.invariant-loop-alloc
+invariant-loop-alloc l = record {
+  sound : AreSound l.alphabet l.net (different_texts l.text) l.look_ups;
+  walking : Walking l.alphabet l.text l.net l.start l.reached;
+}
+
+-- the greatest weight of a pending configuration falls
+abbrev pub decreases-loop-alloc : goal.decreases-loop-alloc
+decreases-loop-alloc l =
+    greatest l.net (length l.text) (frames_of l.reached) l.reached.pending.keys
