@@ -12,7 +12,7 @@ use std::alloc::Global;
 use std::marker::Model;
 
 /// The letters of a language. Contracts see an alphabet as the list of its file's lines.
-#[derive(Debug, Drop)]
+#[derive(Drop)]
 pub struct Alphabet {
     tables: Option<Tables>,
 }

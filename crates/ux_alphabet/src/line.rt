@@ -1,7 +1,7 @@
 //! One line of an alphabet file.
 
 /// What a line says of its characters.
-#[derive(Clone, Copy, Debug, PartialEq, Eq)]
+#[derive(Clone, Copy)]
 pub enum Line {
     /// `x`: a letter that is both upper-case and lower-case.
     Single(char),

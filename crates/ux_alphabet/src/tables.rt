@@ -13,7 +13,7 @@ use std::alloc::{AllocError, Global};
 use std::marker::Model;
 
 /// The lines of an alphabet, with what they say of each character.
-#[derive(Debug, Drop)]
+#[derive(Drop)]
 pub(crate) struct Tables {
     lines: Vec<Line>,
     /// By code point, whether the character is an upper-case letter; no letter comes later.

@@ -8,7 +8,7 @@ ghost use Rattle.ux_apply.specs.Applying.{is_same};
 ghost use Rattle.ux_apply.specs.Names.{Gives, IsLastDot, IsPriorityOf, IsStem, DOT};
 
 /// The priority of a dictionary.
-#[derive(Clone, Copy, Debug, PartialEq, Eq)]
+#[derive(Clone, Copy)]
 pub enum Priority {
     /// Asked first.
     High,

@@ -18,7 +18,7 @@ use ux_tokens::Text;
 use ux_tokens::kind::Kind;
 
 /// How forms may begin with a token.
-#[derive(Clone, Copy, Debug)]
+#[derive(Clone, Copy)]
 pub(crate) enum Start {
     /// No form does.
     Never,

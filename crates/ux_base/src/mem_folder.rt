@@ -9,7 +9,7 @@ use std::alloc::Global;
 use std::marker::Model;
 
 /// Files in memory. The reads of the failing numbers, counted from 0, answer a fault.
-#[derive(Debug, Drop)]
+#[derive(Drop)]
 pub struct MemFolder {
     files: Vec<(String, Vec<u8>)>,
     failing: Vec<u64>,

@@ -7,7 +7,7 @@ use std::alloc::AllocError;
 use thiserror::Error;
 
 /// Why a file has no text. Places count bytes from the file's start, from 0, its mark included.
-#[derive(Clone, Copy, Debug, PartialEq, Eq, Error)]
+#[derive(Clone, Copy, Debug, Error)]
 pub enum DecodeError {
     /// In UTF-8, the bytes at the place begin no character.
     #[error("BadUtf8 place={place}")]

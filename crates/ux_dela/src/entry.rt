@@ -1,6 +1,6 @@
 //! What dictionary lines say: entries of forms, and lemmas with their classes.
 //!
-//! All are records of texts. `same` decides equality exactly, and a `clone` is the same value.
+//! All are records of texts. `same` decides equality exactly, and a copy is the same value.
 
 ghost use Rattle.std.specs.Prelude.{◌≡◌, ◌↔◌, IsTrue, IfOk};
 
@@ -8,7 +8,7 @@ use std::alloc::AllocError;
 use ux_base::{Lst, Txt};
 
 /// What a line of forms says of a form.
-#[derive(Clone, Debug, Drop)]
+#[derive(Clone, Drop)]
 pub struct Entry {
     /// The form, as it stands in a text.
     pub form: Txt,
@@ -23,7 +23,7 @@ pub struct Entry {
 }
 
 /// What a line of lemmas says of a lemma.
-#[derive(Clone, Debug, Drop)]
+#[derive(Drop)]
 pub struct Stem {
     /// The lemma.
     pub lemma: Txt,
@@ -36,7 +36,7 @@ pub struct Stem {
 }
 
 /// The codes of an entry.
-#[derive(Clone, Debug, Drop)]
+#[derive(Clone, Drop)]
 pub struct Codes {
     /// The grammatical code.
     pub gram: Txt,
@@ -75,25 +75,6 @@ impl Entry {
     /// A copy.
     pub fn copy(&self) -> Result<Entry, AllocError>
         ensures { IfOk result (λ e. e ≡ self.now) }
-    {
-        self.clone()
-    }
-}
-
-impl Stem {
-    /// Whether two stems are equal.
-    pub fn same(&self, other: &Stem) -> bool
-        ensures { IsTrue result ↔ (self.now ≡ other.now) }
-    {
-        same_text(&self.lemma, &other.lemma)
-            && same_text(&self.class, &other.class)
-            && same_text(&self.gram, &other.gram)
-            && same_texts(&self.sem, &other.sem)
-    }
-
-    /// A copy.
-    pub fn copy(&self) -> Result<Stem, AllocError>
-        ensures { IfOk result (λ s. s ≡ self.now) }
     {
         self.clone()
     }

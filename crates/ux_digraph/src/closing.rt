@@ -14,7 +14,7 @@ use std::alloc::{AllocError, Global};
 use ux_base::Mem;
 
 /// A place that holds where two others do, its premises. They may be one and the same.
-#[derive(Clone, Copy, Debug, PartialEq, Eq)]
+#[derive(Clone, Copy)]
 pub struct Rule {
     /// The place that then holds.
     pub place: usize,

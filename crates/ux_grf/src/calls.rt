@@ -20,8 +20,20 @@ pub fn needs(alloc: Global, graph: &Graph) -> Mem<Vec<String>>
     ensures { IfOk result (λ names. map string_bytes names.items ≡ called_names graph.now) }
 {
     let mut names: IndexSet<&str> = IndexSet::new(alloc);
-    note_boxes(&mut names, graph.boxes.as_slice())?;
-    Ok(copies(alloc, names.as_slice())?)
+    Ok(noted(alloc, &mut names, graph.boxes.as_slice())?)
+}
+
+/// A copy of each name noted, behind those that the boxes call.
+fn noted<'a>(
+    alloc: Global,
+    names: &mut IndexSet<&'a str>,
+    boxes: &'a [GrfBox],
+) -> Result<Vec<String>, AllocError>
+    ensures { IfOk result (λ copies. map string_bytes copies.items
+        ≡ with_names (names_in names.old) (flat_map calls_of_box boxes.now)) }
+{
+    note_boxes(names, boxes)?;
+    copies(alloc, names.as_slice())
 }
 
 /// Notes the names that the boxes call.

@@ -17,7 +17,7 @@ use std::alloc::Global;
 use ux_base::Lst;
 
 /// What a content writes.
-#[derive(Debug, Drop)]
+#[derive(Drop)]
 pub struct Content {
     /// The alternatives, each a list of items.
     pub lines: Lst<Lst<Item>>,

@@ -7,7 +7,7 @@ use std::alloc::{AllocError, AllocFailed};
 use thiserror::Error;
 
 /// Why a graph file is refused. Nodes count boxes from 0.
-#[derive(Clone, Copy, Debug, PartialEq, Eq, Error)]
+#[derive(Clone, Copy, Debug, Error)]
 pub enum GrfError {
     /// The first line isn't `#Unigraph`, or no line `#` stands behind it.
     #[error("no header")]

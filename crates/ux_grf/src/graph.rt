@@ -4,14 +4,14 @@ use crate::item::{Item, Piece};
 use ux_base::Lst;
 
 /// A graph as it is drawn. Box 0 is its start, box 1 its end.
-#[derive(Debug, Drop)]
+#[derive(Drop)]
 pub struct Graph {
     /// The boxes, by node.
     pub boxes: Lst<GrfBox>,
 }
 
 /// A box of a graph.
-#[derive(Debug, Drop)]
+#[derive(Drop)]
 pub struct GrfBox {
     /// Whether a path from box 0 leads here without passing box 1.
     pub reached: bool,

@@ -3,7 +3,7 @@
 use ux_base::Txt;
 
 /// One item of a line. The manual, on graphs.
-#[derive(Debug, Drop)]
+#[derive(Drop)]
 pub enum Item {
     /// A run of characters that is no other item.
     Literal(Txt),
@@ -34,7 +34,7 @@ pub enum Item {
 }
 
 /// A piece of a box's output.
-#[derive(Debug, Drop)]
+#[derive(Drop)]
 pub enum Piece {
     /// Characters that are put as they stand.
     Chars(Txt),

@@ -102,6 +102,26 @@ fn good_box<'a>(
     ensures len { OnOk result (length stamps.new.items ≡ count) }
     ensures below { OnOk result ((u : ℕ) → slice_index stamps.new.items u ≤ node + 1) }
 {
+    let said = told_box(alloc, line, node, count)?;
+    let targets = each_once(alloc, said.targets.as_slice(), stamps, node + 1)?;
+    Ok(BoxLine {
+        content: said.content,
+        targets,
+    })
+}
+
+/// The box that the line tells, if there is one, with the targets as they are told.
+fn told_box<'a>(
+    alloc: Global,
+    line: Option<&'a str>,
+    node: u32,
+    count: u32,
+) -> Result<BoxLine<'a>, GrfError>
+    ensures told { IfOk result (λ said. box_in_line (option_copied line.entry) ≡ Some (said_by said)) }
+    ensures inside { IfOk result (λ said. is_inside count said.targets.items ≡ true) }
+    ensures good { OnOk result (is_good count (box_in_line (option_copied line.entry)) ≡ true) }
+    ensures refused { IfErr result (RefusesBox count node (box_in_line (option_copied line.entry))) }
+{
     let Some(line) = line else {
         return Err(GrfError::BadBoxLine { node });
     };
@@ -111,11 +131,7 @@ fn good_box<'a>(
     if !are_inside(said.targets.as_slice(), count) {
         return Err(GrfError::BadTarget { node });
     }
-    let targets = each_once(alloc, said.targets.as_slice(), stamps, node + 1)?;
-    Ok(BoxLine {
-        content: said.content,
-        targets,
-    })
+    Ok(said)
 }
 
 /// Whether each target is a box.

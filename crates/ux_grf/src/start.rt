@@ -16,7 +16,7 @@ use std::alloc::{AllocError, Global};
 use ux_base::Txt;
 
 /// The sign at a place of a line.
-#[derive(Clone, Copy, PartialEq, Eq)]
+#[derive(Clone, Copy)]
 pub enum Sign {
     /// The content is over.
     Nothing,

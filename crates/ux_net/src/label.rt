@@ -3,7 +3,7 @@
 use ux_base::Txt;
 
 /// What an edge finds in the text.
-#[derive(Clone, Debug, Drop)]
+#[derive(Clone, Drop)]
 pub enum Label {
     /// Nothing.
     Empty,

@@ -10,7 +10,7 @@ use crate::state::{Edge, State};
 use std::marker::Model;
 
 /// A compiled grammar. Contracts see it as the list of its graphs.
-#[derive(Debug, Drop)]
+#[derive(Drop)]
 pub struct Net {
     graphs: Vec<NetGraph>,
 }

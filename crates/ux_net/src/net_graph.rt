@@ -4,7 +4,7 @@ use crate::state::State;
 use ux_base::{Lst, Txt};
 
 /// A graph as states. State 0 is its start.
-#[derive(Debug, Drop)]
+#[derive(Drop)]
 pub struct NetGraph {
     /// The name by which others call it.
     pub name: Txt,
@@ -18,7 +18,7 @@ pub struct NetGraph {
 
 /// The rank of a state: a lower major number is lower, and among equal ones a lower minor number.
 /// Nothing reads the ranks of a net as it runs: they are why every walk through it ends.
-#[derive(Clone, Copy, Debug)]
+#[derive(Clone, Copy)]
 pub struct Rank {
     /// How far the state is from a token, by boxes.
     pub major: usize,

@@ -4,7 +4,7 @@ use crate::label::Label;
 use ux_base::Lst;
 
 /// An edge from a state to a state of the same graph.
-#[derive(Debug, Drop)]
+#[derive(Drop)]
 pub struct Edge {
     /// What it finds in the text.
     pub label: Label,
@@ -13,7 +13,7 @@ pub struct Edge {
 }
 
 /// A state of a compiled graph.
-#[derive(Debug, Drop)]
+#[derive(Drop)]
 pub struct State {
     /// Whether a word of the graph may end here.
     pub is_final: bool,

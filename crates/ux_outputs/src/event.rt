@@ -1,7 +1,7 @@
 //! The events of a derivation.
 
 /// What a derivation tells of its tokens.
-#[derive(Clone, Copy, Debug, PartialEq, Eq, Hash)]
+#[derive(Clone, Copy, PartialEq, Eq, Hash)]
 pub enum Event {
     /// The tokens from one position to another are taken, a space that was passed over among them.
     Take {

@@ -9,7 +9,7 @@ use ux_grf::GrfError;
 use ux_net::NetError;
 
 /// How a run ended.
-#[derive(Debug, Drop)]
+#[derive(Drop)]
 pub enum Status {
     /// The result was written whole.
     Done,
@@ -30,7 +30,7 @@ pub enum Status {
 }
 
 /// Why a file is refused.
-#[derive(Debug, Drop)]
+#[derive(Drop)]
 pub enum Reason {
     /// Why the file has no text.
     Decode(DecodeError),

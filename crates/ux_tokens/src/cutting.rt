@@ -29,7 +29,7 @@ use ux_alphabet::Alphabet;
 pub const MAX_TOKENS: usize = 67_108_864;
 
 /// The tokens of a text.
-#[derive(Debug, Drop)]
+#[derive(Drop)]
 pub struct Cut {
     /// The tokens, by where they end.
     pub pieces: Pieces,

@@ -6,7 +6,7 @@ ghost use Rattle.ux_tokens.specs.Columns.{ends_of};
 use std::alloc::{AllocError, Global};
 
 /// Places in four bytes each, and from the first on that doesn't fit there in eight.
-#[derive(Debug, Drop)]
+#[derive(Drop)]
 pub struct Ends {
     /// The places up to the first that doesn't fit.
     pub near: Vec<u32>,

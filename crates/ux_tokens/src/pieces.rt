@@ -11,7 +11,7 @@ use crate::piece::Piece;
 use std::alloc::{AllocError, Global};
 
 /// Tokens, in columns. Takes nine bytes a token.
-#[derive(Debug, Drop)]
+#[derive(Drop)]
 pub struct Pieces {
     /// The places behind the tokens.
     pub ends: Ends,

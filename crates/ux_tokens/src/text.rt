@@ -22,7 +22,7 @@ use ux_alphabet::Alphabet;
 use ux_dela::Entry;
 
 /// The tokens of a text. Contracts see a text as their list.
-#[derive(Debug, Drop)]
+#[derive(Drop)]
 pub struct Text {
     text: String,
     pieces: Pieces,

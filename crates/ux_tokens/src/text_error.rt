@@ -6,7 +6,7 @@ use std::alloc::{AllocError, AllocFailed};
 use ux_base::NoMemory;
 
 /// Why a text has no list of tokens here.
-#[derive(Clone, Copy, Debug, Drop, PartialEq, Eq, thiserror::Error)]
+#[derive(Clone, Copy, Debug, Drop, thiserror::Error)]
 pub enum TextError {
     /// The list of tokens is longer than `MAX_TOKENS`.
     #[error("TooManyTokens")]

@@ -12,7 +12,7 @@ use std::alloc::Global;
 use ux_base::{Lst, Mode, NoVar, Policy, Sort, Txt};
 
 /// A search: the names of its files, and how it is done.
-#[derive(Debug, Drop, PartialEq, Eq)]
+#[derive(Debug, Drop)]
 pub struct Search {
     /// The graph's file.
     pub graph: Txt,
@@ -31,7 +31,7 @@ pub struct Search {
 }
 
 /// What the words ask for.
-#[derive(Debug, Drop, PartialEq, Eq)]
+#[derive(Debug, Drop)]
 pub enum Request {
     /// The places where a graph is found.
     Locate(Search),

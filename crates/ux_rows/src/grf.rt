@@ -2,6 +2,7 @@
 //! not, its lines in parentheses, `/` and its output, and `>` and each target. A literal has a point
 //! behind it, a call a semicolon, the empty word is `E`, characters of an output have `'` around them.
 
+use crate::comparing::compare;
 use std::alloc::{AllocError, Global};
 use std::process::Abort;
 use std::test::Fail;
@@ -121,10 +122,6 @@ fn content_text(alloc: Global, read: &Content) -> Result<String, AllocError> {
 /// A name, what is read, and what it is shown as.
 type Row = (&'static str, &'static str, &'static str);
 
-fn compare(rt: &impl Abort, row: &Row, got: &str) {
-    assert_eq!(rt; got, row.2, "{}", row.0);
-}
-
 /// Each row's text stands in its file between the two texts of `around`.
 fn compare_files(
     rt: &impl Abort,
@@ -135,7 +132,7 @@ fn compare_files(
     for row in rows {
         let file = format!(in alloc; "{}{}{}", around.0, row.1, around.1)?;
         let got = shown(alloc, file.as_str())?;
-        compare(rt, row, got.as_str());
+        compare(rt, row.0, got.as_str(), row.2);
     }
     Ok(())
 }
@@ -143,7 +140,7 @@ fn compare_files(
 fn compare_contents(rt: &impl Abort, alloc: Global, rows: &[Row]) -> Result<(), Fail> {
     for row in rows {
         let got = shown_content(alloc, row.1)?;
-        compare(rt, row, got.as_str());
+        compare(rt, row.0, got.as_str(), row.2);
     }
     Ok(())
 }
@@ -600,7 +597,7 @@ fn lists_the_names_that_are_called(rt: HostRuntime) -> Result<(), Fail> {
     for row in ROWS {
         let text = format!(in alloc; "#Unigraph\n#\n5\n{}", row.1)?;
         let got = called(alloc, text.as_str())?;
-        compare(&rt, row, got.as_str());
+        compare(&rt, row.0, got.as_str(), row.2);
     }
     Ok(())
 }

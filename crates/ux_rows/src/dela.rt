@@ -1,5 +1,6 @@
 //! Dictionary lines, tags and printed entries, by rows.
 
+use crate::comparing::compare;
 use std::alloc::{AllocError, Global};
 use std::process::Abort;
 use std::test::Fail;
@@ -14,10 +15,6 @@ type Row = (&'static str, &'static str, &'static str);
 
 /// A name, a file, and its refusal.
 type Refusal = (&'static str, &'static str, DelaError);
-
-fn compare(rt: &impl Abort, got: &str, row: &Row) {
-    assert_eq!(rt; got, row.2, "{}", row.0);
-}
 
 fn compare_refusal(rt: &impl Abort, got: Option<DelaError>, row: &Refusal) {
     assert_eq!(rt; got, Some(row.2), "{}", row.0);
@@ -64,7 +61,7 @@ fn check_delaf(rt: &impl Abort, alloc: Global, row: &Row) -> Result<(), Fail> {
     for entry in &entries {
         put_entry(&mut out, entry)?;
     }
-    compare(rt, out.as_str(), row);
+    compare(rt, row.0, out.as_str(), row.2);
     Ok(())
 }
 
@@ -75,7 +72,7 @@ fn check_delas(rt: &impl Abort, alloc: Global, row: &Row) -> Result<(), Fail> {
     for stem in &stems {
         put_stem(&mut out, stem)?;
     }
-    compare(rt, out.as_str(), row);
+    compare(rt, row.0, out.as_str(), row.2);
     Ok(())
 }
 
@@ -84,7 +81,7 @@ fn check_tag(rt: &impl Abort, alloc: Global, row: &Row) -> Result<(), Fail> {
     if let Some(entry) = read_tag(alloc, row.1)? {
         put_entry(&mut out, &entry)?;
     }
-    compare(rt, out.as_str(), row);
+    compare(rt, row.0, out.as_str(), row.2);
     Ok(())
 }
 
@@ -97,7 +94,7 @@ fn check_printed(rt: &impl Abort, alloc: Global, row: &Row) -> Result<(), Fail> 
         out.push_str(line.as_str())?;
         out.push_str("]")?;
     }
-    compare(rt, out.as_str(), row);
+    compare(rt, row.0, out.as_str(), row.2);
     Ok(())
 }
 
@@ -119,7 +116,7 @@ fn codes_of(alloc: Global, text: &str) -> Result<String, Fail> {
 
 /// Whether the text is printed codes.
 fn check_codes(rt: &impl Abort, alloc: Global, row: &Row) -> Result<(), Fail> {
-    compare(rt, codes_of(alloc, row.1)?.as_str(), row);
+    compare(rt, row.0, codes_of(alloc, row.1)?.as_str(), row.2);
     Ok(())
 }
 

@@ -1,5 +1,6 @@
 //! What dictionaries find, by rows.
 
+use crate::comparing::compare;
 use std::alloc::{AllocError, Global};
 use std::process::Abort;
 use std::test::Fail;
@@ -43,10 +44,6 @@ fn printed(alloc: Global, entries: &[Entry]) -> Result<String, Fail> {
     Ok(out)
 }
 
-fn compare(rt: &impl Abort, got: &str, want: &str, name: &str) {
-    assert_eq!(rt; got, want, "{name}");
-}
-
 /// The entries whose forms fit the text, over these pairs of letters.
 fn fitting(
     alloc: Global,
@@ -65,7 +62,7 @@ fn found(alloc: Global, pairs: &str, row: &Fitting) -> Result<String, Fail> {
 }
 
 fn check_fitting(rt: &impl Abort, alloc: Global, pairs: &str, row: &Fitting) -> Result<(), Fail> {
-    compare(rt, found(alloc, pairs, row)?.as_str(), row.3, row.0);
+    compare(rt, row.0, found(alloc, pairs, row)?.as_str(), row.3);
     Ok(())
 }
 
@@ -233,9 +230,9 @@ fn equal_entries_stand_once(rt: HostRuntime) -> Result<(), Fail> {
     let lines = printed(rt.alloc(), &once)?;
     compare(
         &rt,
+        "each at its first place",
         lines.as_str(),
         "[b,.N][a,.N][b,.V]",
-        "each at its first place",
     );
     Ok(())
 }

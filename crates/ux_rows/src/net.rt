@@ -3,6 +3,7 @@
 //! The states of a net are shown as `t` where they are final, else `:`, and then as label and target
 //! of each edge, with a space between graphs. A label is shown as in the notation of `graphs`.
 
+use crate::comparing::compare;
 use crate::graphs::compiled;
 use std::alloc::{AllocError, Global};
 use std::process::Abort;
@@ -85,14 +86,10 @@ fn shown(alloc: Global, graphs: &[&str]) -> Result<String, AllocError> {
 /// A name, the graphs, and what is shown.
 type Row = (&'static str, &'static [&'static str], &'static str);
 
-fn compare(rt: &impl Abort, row: &Row, got: &str) {
-    assert_eq!(rt; got, row.2, "{}", row.0);
-}
-
 fn compare_nets(rt: &impl Abort, alloc: Global, rows: &[Row]) -> Result<(), Fail> {
     for row in rows {
         let got = shown(alloc, row.1)?;
-        compare(rt, row, got.as_str());
+        compare(rt, row.0, got.as_str(), row.2);
     }
     Ok(())
 }

@@ -1,5 +1,6 @@
 //! Small graphs and rules, with answers that were found by hand.
 
+use crate::comparing::compare;
 use std::alloc::{AllocError, Global};
 use std::process::Abort;
 use std::test::Fail;
@@ -72,11 +73,6 @@ fn marks_what_a_node_leads_to_and_numbers_its_cycle(rt: HostRuntime) -> Result<(
     Ok(())
 }
 
-/// Stops the test where a row, which is a name and what is wanted, isn't what was got.
-fn compare(rt: &impl Abort, row: (&str, &str), got: &str) {
-    assert_eq!(rt; got, row.1, "{}", row.0);
-}
-
 /// A name, the number of nodes, the edges, the start, and the nodes that it leads to.
 type Search = (
     &'static str,
@@ -120,7 +116,7 @@ fn marks_the_nodes_that_a_path_leads_to(rt: HostRuntime) -> Result<(), Fail> {
     for row in ROWS {
         let edges = rows(rt.alloc(), row.1, row.2)?;
         let got = shown(rt.alloc(), &marks(rt.alloc(), &edges, row.3)?)?;
-        compare(&rt, (row.0, row.4), got.as_str());
+        compare(&rt, row.0, got.as_str(), row.4);
     }
     Ok(())
 }
@@ -278,7 +274,7 @@ fn marks_the_places_that_follow(rt: HostRuntime) -> Result<(), Fail> {
     ];
     for row in ROWS {
         let got = shown(rt.alloc(), &places(rt.alloc(), 5, row.1, row.2)?)?;
-        compare(&rt, (row.0, row.3), got.as_str());
+        compare(&rt, row.0, got.as_str(), row.3);
     }
     Ok(())
 }

@@ -2,6 +2,7 @@
 //!
 //! The text is `The`, a space, `cat`, a comma, a space, `x`.
 
+use crate::comparing::compare;
 use crate::graphs::compiled;
 use std::alloc::{AllocError, Global};
 use std::process::Abort;
@@ -36,10 +37,6 @@ fn walked(alloc: Global, net: &Net, text: &Text, alphabet: &Alphabet, start: usi
 /// A name, the content of the box, the position, and the ends.
 type Row = (&'static str, &'static str, usize, &'static str);
 
-fn compare(rt: &impl Abort, row: &Row, got: &str) {
-    assert_eq!(rt; got, row.3, "{}", row.0);
-}
-
 /// The graph of one box, compiled.
 fn one_box(alloc: Global, content: &str, alphabet: &Alphabet) -> Result<Net, Fail> {
     let boxes = format!(in alloc; "E|2 | {content}|1")?;
@@ -61,7 +58,12 @@ fn compare_rows(
     rows: &[Row],
 ) -> Result<(), Fail> {
     for row in rows {
-        compare(rt, row, found(alloc, text, alphabet, row)?.as_str());
+        compare(
+            rt,
+            row.0,
+            found(alloc, text, alphabet, row)?.as_str(),
+            row.3,
+        );
     }
     Ok(())
 }

@@ -1,5 +1,6 @@
 //! Rows of texts with their tokens.
 
+use crate::comparing::compare;
 use std::alloc::{AllocError, Global};
 use std::process::Abort;
 use std::test::Fail;
@@ -27,14 +28,10 @@ fn listed(alloc: Global, text: &Text) -> Result<String, AllocError> {
 /// A name, a text, and its tokens.
 type Row = (&'static str, &'static str, &'static str);
 
-fn compare(rt: &impl Abort, got: &str, row: &Row) {
-    assert_eq!(rt; got, row.2, "{}", row.0);
-}
-
 fn check(rt: &impl Abort, alloc: Global, row: &Row) -> Result<(), Fail> {
     let tokens = read(alloc, row.1)??;
     let got = listed(alloc, &tokens)?;
-    compare(rt, got.as_str(), row);
+    compare(rt, row.0, got.as_str(), row.2);
     Ok(())
 }
 
