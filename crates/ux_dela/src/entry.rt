@@ -1,6 +1,6 @@
 //! What dictionary lines say: entries of forms, and lemmas with their classes.
 //!
-//! All are records of texts. `same` decides equality exactly, and a copy is the same value.
+//! All are records of texts.
 
 ghost use Rattle.std.specs.Prelude.{◌≡◌, ◌↔◌, IsTrue, IfOk};
 

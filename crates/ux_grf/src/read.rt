@@ -69,10 +69,26 @@ fn read_boxes<'a>(
     ensures refused { IfErr result (RefusesBoxes count lines.old) }
 {
     let mut stamps: Vec<u32> = vec![in alloc; 0; count as usize]?;
+    stamped_boxes(alloc, lines, count, &mut stamps)
+}
+
+/// The same, where no target was met yet.
+fn stamped_boxes<'a>(
+    alloc: Global,
+    lines: &mut Lines<'a>,
+    count: u32,
+    stamps: &mut Vec<u32>,
+) -> Result<Vec<BoxLine<'a>>, GrfError>
+    requires len { length stamps.now.items ≡ count }
+    requires fresh { (u : ℕ) → slice_index stamps.now.items u ≤ 0 }
+    ensures texts { IfOk result (λ boxes. map said_by boxes.items ≡ texts_of count lines.old) }
+    ensures good { OnOk result (AreGood count lines.old count) }
+    ensures refused { IfErr result (RefusesBoxes count lines.old) }
+{
     let mut boxes = Vec::new(alloc);
     for node in 0..count {
         let line = next_line(lines);
-        boxes.push(good_box(alloc, line, node, count, &mut stamps)?)?;
+        boxes.push(good_box(alloc, line, node, count, stamps)?)?;
     }
     Ok(boxes)
 }

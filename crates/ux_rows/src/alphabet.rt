@@ -1,5 +1,6 @@
 //! What alphabet files say, by rows.
 
+use crate::comparing::compare;
 use std::alloc::Global;
 use std::process::Abort;
 use std::test::Fail;
@@ -17,48 +18,42 @@ type Alone = (&'static str, char, bool);
 /// A name, a file, and its refusal.
 type Refusal = (&'static str, &'static str, Option<AlphabetError>);
 
-/// An answer for a file's characters.
-fn compare(rt: &impl Abort, got: bool, want: bool, about: (&str, char)) {
-    assert_eq!(rt; got, want, "{} in {}", about.1, about.0);
-}
-
-fn compare_refusal(rt: &impl Abort, got: Option<AlphabetError>, row: &Refusal) {
-    assert_eq!(rt; got, row.2, "{}", row.0);
-}
-
 fn check_letter(rt: &impl Abort, alloc: Global, row: &Letter) -> Result<(), AlphabetError> {
     let alphabet = Alphabet::read(alloc, row.0)?;
-    let about = (row.0, row.1);
-    compare(rt, alphabet.is_upper(row.1), row.2, about);
-    compare(rt, alphabet.is_lower(row.1), row.3, about);
-    compare(rt, alphabet.is_letter(row.1), row.2 || row.3, about);
+    let letter = row.1;
+    let cases = (alphabet.is_upper(letter), alphabet.is_lower(letter));
+    compare(rt, row.0, (letter, cases), (letter, (row.2, row.3)));
+    let is_letter = alphabet.is_letter(letter);
+    compare(rt, row.0, (letter, is_letter), (letter, row.2 || row.3));
     Ok(())
 }
 
 fn check_fit(rt: &impl Abort, alloc: Global, row: &Fit) -> Result<(), AlphabetError> {
     let alphabet = Alphabet::read(alloc, row.0)?;
-    compare(rt, alphabet.fits(row.1, row.2), row.3, (row.0, row.2));
+    let fits = alphabet.fits(row.1, row.2);
+    compare(rt, row.0, (row.2, fits), (row.2, row.3));
     Ok(())
 }
 
 fn check_alone(rt: &impl Abort, alloc: Global, row: &Alone) -> Result<(), AlphabetError> {
     let alphabet = Alphabet::read(alloc, row.0)?;
-    compare(rt, alphabet.fits_alone(row.1), row.2, (row.0, row.1));
+    let fits = alphabet.fits_alone(row.1);
+    compare(rt, row.0, (row.1, fits), (row.1, row.2));
     Ok(())
 }
 
 /// The answers of an alphabet of the pairs `Tt` and `Ée`.
 fn check_pairs(rt: &impl Abort, alphabet: &Alphabet) {
-    assert!(rt; alphabet.is_letter('t'));
-    assert!(rt; alphabet.is_upper('É'));
-    assert!(rt; alphabet.is_lower('e'));
-    assert!(rt; alphabet.fits('e', 'É'));
+    compare(rt, "t is a letter", alphabet.is_letter('t'), true);
+    compare(rt, "É is upper case", alphabet.is_upper('É'), true);
+    compare(rt, "e is lower case", alphabet.is_lower('e'), true);
+    compare(rt, "e fits É", alphabet.fits('e', 'É'), true);
 }
 
 /// The answers of an alphabet without letters.
 fn check_none(rt: &impl Abort, none: &Alphabet) {
-    assert!(rt; !none.is_letter('t'));
-    assert!(rt; none.fits('t', 't'));
+    compare(rt, "t is no letter", none.is_letter('t'), false);
+    compare(rt, "t fits itself", none.fits('t', 't'), true);
 }
 
 #[test]
@@ -108,7 +103,8 @@ fn the_first_refused_line_is_named(rt: HostRuntime) {
         ),
     ];
     for row in ROWS {
-        compare_refusal(&rt, Alphabet::read(rt.alloc(), row.1).err(), row);
+        let refused = Alphabet::read(rt.alloc(), row.1).err();
+        compare(&rt, row.0, refused, row.2);
     }
 }
 
@@ -151,7 +147,8 @@ fn a_range_may_span_all_characters(rt: HostRuntime) -> Result<(), Fail> {
         ('\u{10ffff}', true),
     ];
     for row in ROWS {
-        compare(&rt, alphabet.is_letter(row.0), row.1, ("the range", row.0));
+        let is_letter = alphabet.is_letter(row.0);
+        compare(&rt, "the range", (row.0, is_letter), *row);
     }
     Ok(())
 }

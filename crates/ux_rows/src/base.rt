@@ -1,5 +1,6 @@
 //! Rows on lines, folders and sinks.
 
+use crate::comparing::compare;
 use std::alloc::{AllocError, Global};
 use std::io::Write;
 use std::process::Abort;
@@ -17,7 +18,7 @@ fn compare_lines(
 ) -> Result<(), AllocError> {
     for (text, want) in rows {
         let got = lines(text).collect::<Vec<_>>(alloc)?;
-        assert_eq!(rt; got.as_slice(), *want, "the lines of {text:?}");
+        compare(rt, text, got.as_slice(), *want);
     }
     Ok(())
 }
@@ -41,9 +42,9 @@ fn texts_and_lists_are_copied(rt: HostRuntime) -> Result<(), Fail> {
     let text = Txt::from_str(rt.alloc(), "élan")?;
     let texts = Lst::new(vec![in rt.alloc(); text.clone()?, text]?);
     let copy = texts.clone()?;
-    assert!(rt; copy == texts);
+    compare(&rt, "a copy", copy == texts, true);
     for text in copy.into_vec() {
-        assert_eq!(rt; text.into_string().as_str(), "élan");
+        compare(&rt, "its text", text.into_string().as_str(), "élan");
     }
     Ok(())
 }
@@ -76,13 +77,10 @@ type Reading = (&'static str, Option<&'static str>, Option<FolderError>);
 
 /// What a read gave, as the row tells it.
 fn compare_read(rt: &impl Abort, got: &Result<Vec<u8>, FolderError>, row: &Reading) {
-    assert_eq!(rt;
-        got.as_ref().ok().map(|bytes| bytes.as_slice()),
-        row.1.map(str::as_bytes),
-        "{}",
-        row.0
-    );
-    assert_eq!(rt; got.as_ref().err(), row.2.as_ref(), "{}", row.0);
+    match got {
+        Ok(bytes) => compare(rt, row.0, Some(bytes.as_slice()), row.1.map(str::as_bytes)),
+        Err(error) => compare(rt, row.0, Some(*error), row.2),
+    }
 }
 
 /// Reads file after file.
@@ -108,8 +106,8 @@ fn a_folder_in_memory_gives_the_first_file_and_fails_as_told(rt: HostRuntime) ->
 fn compare_writes(rt: &impl Abort, sink: &mut MemSink, rows: &[(&str, bool, &str)]) {
     for (bytes, succeeds, written) in rows {
         let got = sink.write_all(bytes.as_bytes());
-        assert_eq!(rt; got.is_ok(), *succeeds, "writing {bytes}");
-        assert_eq!(rt; sink.bytes(), written.as_bytes());
+        compare(rt, bytes, got.is_ok(), *succeeds);
+        compare(rt, bytes, sink.bytes(), written.as_bytes());
     }
 }
 
@@ -160,7 +158,7 @@ fn compare_writers(rt: &impl Abort, rows: &[(&str, usize, bool, bool)]) {
             flushes: *flushes,
         });
         let got = sink.write_all(b"abcde");
-        assert_eq!(rt; got.is_ok(), *succeeds, "{name}");
+        compare(rt, name, got.is_ok(), *succeeds);
     }
 }
 
@@ -189,8 +187,8 @@ fn fault(alloc: Global, folder: &mut impl Folder, path: &str) -> Option<FolderEr
 
 /// Writes the bytes and one more.
 fn check_writes(rt: &impl Abort, sink: &mut impl Sink, bytes: &[u8]) {
-    assert_eq!(rt; sink.write_all(bytes), Ok(()));
-    assert_eq!(rt; sink.write_all(b"y"), Ok(()));
+    compare(rt, "all but the last", sink.write_all(bytes), Ok(()));
+    compare(rt, "the last byte", sink.write_all(b"y"), Ok(()));
 }
 
 /// Writes a file that is longer than the first room of a read, so that the buffer grows.
@@ -212,7 +210,8 @@ fn check_long(
     path: &str,
 ) -> Result<(), Fail> {
     let got = folder.read(alloc, path)?;
-    assert_eq!(rt; (got.len(), got.last()), (70_001, Some(&b'y')));
+    compare(rt, "the length", got.len(), 70_001);
+    compare(rt, "the last byte", got.last(), Some(&b'y'));
     Ok(())
 }
 
@@ -222,7 +221,8 @@ fn check_file<R: Abort + AllocGlobal + Files>(
     folder: &mut impl Folder,
     path: &str,
 ) -> Result<(), Fail> {
-    assert_eq!(rt; fault(rt.alloc(), folder, path), Some(FolderError::Absent));
+    let absent = fault(rt.alloc(), folder, path);
+    compare(rt, "no file", absent, Some(FolderError::Absent));
     write_long(rt, path)?;
     check_long(rt, rt.alloc(), folder, path)?;
     fs::remove_file(rt, path)?;
@@ -238,7 +238,7 @@ fn check_directory<R: Abort + AllocGlobal + Files>(
     fs::create_dir(rt, path)?;
     let fault = fault(rt.alloc(), folder, path);
     fs::remove_dir(rt, path)?;
-    assert_eq!(rt; fault, Some(FolderError::Fault));
+    compare(rt, "a directory", fault, Some(FolderError::Fault));
     Ok(())
 }
 

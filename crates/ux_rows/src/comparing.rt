@@ -1,8 +1,9 @@
-//! The one comparison of a row's text.
+//! The one comparison of a row's answer.
 
+use std::fmt::Debug;
 use std::process::Abort;
 
-/// Stops the test where the row of this name has another text than the one that is wanted.
-pub fn compare(rt: &impl Abort, name: &str, got: &str, want: &str) {
+/// Stops the test where the row of this name has another answer than the one that is wanted.
+pub fn compare<T: Copy + Debug + PartialEq>(rt: &impl Abort, name: &str, got: T, want: T) {
     assert_eq!(rt; got, want, "{name}");
 }

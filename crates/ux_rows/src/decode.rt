@@ -1,5 +1,6 @@
 //! Files and their texts or refusals, by rows.
 
+use crate::comparing::compare;
 use std::alloc::{AllocError, Global};
 use std::process::Abort;
 use std::test::Fail;
@@ -18,10 +19,10 @@ fn shown(alloc: Global, file: &[u8]) -> Result<String, AllocError> {
     }
 }
 
-fn compare(rt: &impl Abort, alloc: Global, rows: &[Row]) -> Result<(), Fail> {
+fn compare_files(rt: &impl Abort, alloc: Global, rows: &[Row]) -> Result<(), Fail> {
     for (name, file, want) in rows {
         let got = shown(alloc, file)?;
-        assert_eq!(rt; got.as_str(), *want, "{name}");
+        compare(rt, name, got.as_str(), *want);
     }
     Ok(())
 }
@@ -30,7 +31,7 @@ fn compare(rt: &impl Abort, alloc: Global, rows: &[Row]) -> Result<(), Fail> {
 fn decodes_a_file(rt: HostRuntime) -> Result<(), Fail> {
     let file = vec![in rt.alloc(); 0xff, 0xfe, 0xe9, 0x00]?;
     let text = decode(rt.alloc(), file)?;
-    assert_eq!(rt; text.as_str(), "\u{e9}");
+    compare(&rt, "a file", text.as_str(), "\u{e9}");
     Ok(())
 }
 
@@ -74,7 +75,7 @@ fn decodes_utf8(rt: HostRuntime) -> Result<(), Fail> {
             "BadUtf8 place=1",
         ),
     ];
-    compare(&rt, rt.alloc(), ROWS)
+    compare_files(&rt, rt.alloc(), ROWS)
 }
 
 #[test]
@@ -142,5 +143,5 @@ fn decodes_utf16(rt: HostRuntime) -> Result<(), Fail> {
             "LoneSurrogate place=2",
         ),
     ];
-    compare(&rt, rt.alloc(), ROWS)
+    compare_files(&rt, rt.alloc(), ROWS)
 }

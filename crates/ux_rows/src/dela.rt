@@ -4,7 +4,7 @@ use crate::comparing::compare;
 use std::alloc::{AllocError, Global};
 use std::process::Abort;
 use std::test::Fail;
-use ux_base::Txt;
+use ux_base::{Mem, Txt};
 use ux_dela::{
     Codes, DelaError, Entry, Stem, count_delaf, count_delas, print_codes, print_delaf, read_codes,
     read_delaf, read_delaf_line, read_delas, read_tag,
@@ -15,10 +15,6 @@ type Row = (&'static str, &'static str, &'static str);
 
 /// A name, a file, and its refusal.
 type Refusal = (&'static str, &'static str, DelaError);
-
-fn compare_refusal(rt: &impl Abort, got: Option<DelaError>, row: &Refusal) {
-    assert_eq!(rt; got, Some(row.2), "{}", row.0);
-}
 
 /// Each text behind the sign.
 fn put_all(out: &mut String, sign: &str, texts: &[Txt]) -> Result<(), AllocError> {
@@ -54,47 +50,69 @@ fn put_stem(out: &mut String, stem: &Stem) -> Result<(), AllocError> {
     out.push_str("]")
 }
 
-fn check_delaf(rt: &impl Abort, alloc: Global, row: &Row) -> Result<(), Fail> {
-    let entries = read_delaf(alloc, row.1)?;
-    assert_eq!(rt; count_delaf(alloc, row.1)?, entries.len(), "{}", row.0);
+/// Each entry between brackets.
+fn shown(alloc: Global, entries: &[Entry]) -> Result<String, AllocError> {
     let mut out = String::new(alloc);
-    for entry in &entries {
+    for entry in entries {
         put_entry(&mut out, entry)?;
     }
-    compare(rt, row.0, out.as_str(), row.2);
+    Ok(out)
+}
+
+/// Each stem between brackets.
+fn shown_stems(alloc: Global, stems: &[Stem]) -> Result<String, AllocError> {
+    let mut out = String::new(alloc);
+    for stem in stems {
+        put_stem(&mut out, stem)?;
+    }
+    Ok(out)
+}
+
+fn check_delaf(rt: &impl Abort, alloc: Global, row: &Row) -> Result<(), Fail> {
+    let count = count_delaf(alloc, row.1)?;
+    let entries = read_delaf(alloc, row.1)?;
+    compare(rt, row.0, count, entries.len());
+    compare(rt, row.0, shown(alloc, &entries)?.as_str(), row.2);
     Ok(())
 }
 
 fn check_delas(rt: &impl Abort, alloc: Global, row: &Row) -> Result<(), Fail> {
+    let count = count_delas(alloc, row.1)?;
     let stems = read_delas(alloc, row.1)?;
-    assert_eq!(rt; count_delas(alloc, row.1)?, stems.len(), "{}", row.0);
-    let mut out = String::new(alloc);
-    for stem in &stems {
-        put_stem(&mut out, stem)?;
-    }
-    compare(rt, row.0, out.as_str(), row.2);
+    compare(rt, row.0, count, stems.len());
+    compare(rt, row.0, shown_stems(alloc, &stems)?.as_str(), row.2);
     Ok(())
+}
+
+/// The entry of a tag's body between brackets, or nothing where it is none.
+fn tag_of(alloc: Global, body: &str) -> Result<String, Fail> {
+    match read_tag(alloc, body)? {
+        Some(entry) => Ok(shown(alloc, &[entry])?),
+        None => Ok(String::new(alloc)),
+    }
 }
 
 fn check_tag(rt: &impl Abort, alloc: Global, row: &Row) -> Result<(), Fail> {
-    let mut out = String::new(alloc);
-    if let Some(entry) = read_tag(alloc, row.1)? {
-        put_entry(&mut out, &entry)?;
-    }
-    compare(rt, row.0, out.as_str(), row.2);
+    compare(rt, row.0, tag_of(alloc, row.1)?.as_str(), row.2);
     Ok(())
 }
 
-/// The entries of the file, each printed again between brackets.
-fn check_printed(rt: &impl Abort, alloc: Global, row: &Row) -> Result<(), Fail> {
+/// The entries, each printed between brackets.
+fn printed(alloc: Global, entries: &[Entry]) -> Mem<String> {
     let mut out = String::new(alloc);
-    for entry in &read_delaf(alloc, row.1)? {
+    for entry in entries {
         let line = print_delaf(alloc, entry)?;
         out.push_str("[")?;
         out.push_str(line.as_str())?;
         out.push_str("]")?;
     }
-    compare(rt, row.0, out.as_str(), row.2);
+    Ok(out)
+}
+
+/// The entries of the file, each printed again between brackets.
+fn check_printed(rt: &impl Abort, alloc: Global, row: &Row) -> Result<(), Fail> {
+    let entries = read_delaf(alloc, row.1)?;
+    compare(rt, row.0, printed(alloc, &entries)?.as_str(), row.2);
     Ok(())
 }
 
@@ -156,9 +174,16 @@ fn are_same(alloc: Global, text: &str, other: &str) -> Result<bool, Fail> {
 #[test]
 fn reads_prints_and_compares_an_entry(rt: HostRuntime) -> Result<(), Fail> {
     let printed = printed_twice(rt.alloc(), "sits,sit.V+z1:P3s/verb\n")?;
-    assert_eq!(rt; printed.as_str(), "sits,sit.V+z1:P3s V+z1:P3s");
-    assert!(rt; are_same(rt.alloc(), "a,.N+b:c", "a,a.N+b:c/d")?);
-    assert!(rt; !are_same(rt.alloc(), "a,.N+b:c", "a,.N+b:d")?);
+    compare(
+        &rt,
+        "an entry",
+        printed.as_str(),
+        "sits,sit.V+z1:P3s V+z1:P3s",
+    );
+    let same = are_same(rt.alloc(), "a,.N+b:c", "a,a.N+b:c/d")?;
+    compare(&rt, "the same entry", same, true);
+    let same = are_same(rt.alloc(), "a,.N+b:c", "a,.N+b:d")?;
+    compare(&rt, "another entry", same, false);
     Ok(())
 }
 
@@ -396,18 +421,23 @@ fn lines_of_forms_are_refused(rt: HostRuntime) {
         ),
     ];
     for row in ROWS {
-        compare_refusal(&rt, read_delaf(rt.alloc(), row.1).err(), row);
-        compare_refusal(&rt, count_delaf(rt.alloc(), row.1).err(), row);
+        let refused = Some(row.2);
+        compare(&rt, row.0, read_delaf(rt.alloc(), row.1).err(), refused);
+        compare(&rt, row.0, count_delaf(rt.alloc(), row.1).err(), refused);
     }
 }
 
 #[test]
-fn a_line_is_read_by_itself(rt: HostRuntime) -> Result<(), Fail> {
-    assert_eq!(rt; read_delaf_line(rt.alloc(), "a=b,.N", 7)?.len(), 2);
-    assert_eq!(rt; read_delaf_line(rt.alloc(), "/a comment", 7)?.len(), 0);
-    let refused = read_delaf_line(rt.alloc(), "abc", 7).err();
-    assert_eq!(rt; refused, Some(DelaError::NoComma { line: 7, place: 3 }));
-    Ok(())
+fn a_line_is_read_by_itself(rt: HostRuntime) {
+    const ROWS: &[(&str, Result<usize, DelaError>)] = &[
+        ("a=b,.N", Ok(2)),
+        ("/a comment", Ok(0)),
+        ("abc", Err(DelaError::NoComma { line: 7, place: 3 })),
+    ];
+    for row in ROWS {
+        let entries = read_delaf_line(rt.alloc(), row.0, 7);
+        compare(&rt, row.0, entries.map(|entries| entries.len()), row.1);
+    }
 }
 
 #[test]
@@ -513,8 +543,9 @@ fn lines_of_lemmas_are_refused(rt: HostRuntime) {
         ),
     ];
     for row in ROWS {
-        compare_refusal(&rt, read_delas(rt.alloc(), row.1).err(), row);
-        compare_refusal(&rt, count_delas(rt.alloc(), row.1).err(), row);
+        let refused = Some(row.2);
+        compare(&rt, row.0, read_delas(rt.alloc(), row.1).err(), refused);
+        compare(&rt, row.0, count_delas(rt.alloc(), row.1).err(), refused);
     }
 }
 

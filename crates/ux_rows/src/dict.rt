@@ -74,15 +74,15 @@ fn may_begin(alloc: Global, lexicon: &AnyLexicon, text: &str) -> Result<bool, Fa
 
 fn check_begun(rt: &impl Abort, alloc: Global, row: &Begun) -> Result<(), Fail> {
     let may = may_begin(alloc, &lexicon(alloc, row.1)?, row.2)?;
-    assert_eq!(rt; may, row.3, "{}", row.0);
+    compare(rt, row.0, may, row.3);
     Ok(())
 }
 
 fn check_counts(rt: &impl Abort, alloc: Global, row: &Counts) -> Result<(), Fail> {
     let lexicon = lexicon(alloc, row.1)?;
-    assert_eq!(rt; lexicon.exact(row.2), row.3, "{}", row.0);
-    assert_eq!(rt; lexicon.longest(), row.4, "{}", row.0);
-    assert_eq!(rt; lexicon.count(), row.5, "{}", row.0);
+    compare(rt, row.0, lexicon.exact(row.2), row.3);
+    compare(rt, row.0, lexicon.longest(), row.4);
+    compare(rt, row.0, lexicon.count(), row.5);
     Ok(())
 }
 
@@ -196,10 +196,10 @@ fn fitting_long(alloc: Global, lexicon: &AnyLexicon, letter: &str) -> Result<usi
 
 /// The long form is found as it is and in capitals.
 fn check_long(rt: &impl Abort, alloc: Global, lexicon: &AnyLexicon) -> Result<(), Fail> {
-    assert_eq!(rt; lexicon.longest(), 10000);
-    assert_eq!(rt; exact_long(alloc, lexicon, "a")?, Some(1));
-    assert_eq!(rt; fitting_long(alloc, lexicon, "a")?, 1);
-    assert_eq!(rt; fitting_long(alloc, lexicon, "A")?, 1);
+    compare(rt, "the longest", lexicon.longest(), 10000);
+    compare(rt, "itself", exact_long(alloc, lexicon, "a")?, Some(1));
+    compare(rt, "fits itself", fitting_long(alloc, lexicon, "a")?, 1);
+    compare(rt, "fits capitals", fitting_long(alloc, lexicon, "A")?, 1);
     Ok(())
 }
 
@@ -212,15 +212,16 @@ fn a_long_form_is_found(rt: HostRuntime) -> Result<(), Fail> {
 fn a_list_makes_the_dictionary_of_its_file(rt: HostRuntime) -> Result<(), Fail> {
     let entries = read_delaf(rt.alloc(), "b,.N\na,.N\nb,.N")?;
     let lexicon = ListLexicon::new(rt.alloc(), entries)?;
-    assert_eq!(rt; lexicon.count(), 2);
-    assert_eq!(rt; lexicon.exact("b"), Some(1));
+    compare(&rt, "all entries", lexicon.count(), 2);
+    compare(&rt, "of one form", lexicon.exact("b"), Some(1));
     Ok(())
 }
 
 #[test]
 fn the_first_bad_line_of_a_dictionary_is_named(rt: HostRuntime) {
     let refused = ListLexicon::read(rt.alloc(), "a,.N\n\nabc\nabcd").err();
-    assert_eq!(rt; refused, Some(DelaError::NoComma { line: 3, place: 3 }));
+    let line_three = DelaError::NoComma { line: 3, place: 3 };
+    compare(&rt, "a file", refused, Some(line_three));
 }
 
 #[test]

@@ -67,9 +67,14 @@ fn marks_what_a_node_leads_to_and_numbers_its_cycle(rt: HostRuntime) -> Result<(
     // The drawing of the crate's doc.
     let edges = rows(rt.alloc(), 4, &[(0, 1), (1, 2), (2, 1), (2, 3)])?;
     let from_one = marks(rt.alloc(), &edges, 1)?;
-    assert_eq!(rt; from_one.as_slice(), &[false, true, true, true][..]);
+    compare(
+        &rt,
+        "marks",
+        from_one.as_slice(),
+        &[false, true, true, true][..],
+    );
     let found = numbers(rt.alloc(), &edges)?;
-    assert_eq!(rt; found.as_slice(), &[2, 1, 1, 0][..]);
+    compare(&rt, "numbers", found.as_slice(), &[2, 1, 1, 0][..]);
     Ok(())
 }
 
@@ -166,7 +171,7 @@ fn numbers_the_components(rt: HostRuntime) -> Result<(), Fail> {
     for row in ROWS {
         let edges = rows(rt.alloc(), row.1, row.2)?;
         let got = numbers(rt.alloc(), &edges)?;
-        assert_eq!(rt; got.as_slice(), row.3, "{}", row.0);
+        compare(&rt, row.0, got.as_slice(), row.3);
     }
     Ok(())
 }
@@ -189,14 +194,14 @@ fn chain(alloc: Global, size: usize, back: Option<usize>) -> Result<Vec<Lst<usiz
 type Chain = (&'static str, Option<usize>, usize, usize);
 
 fn compare_ends(rt: &impl Abort, row: &Chain, found: &[usize]) {
-    assert_eq!(rt; found.get(0), Some(&row.2), "{}", row.0);
-    assert_eq!(rt; found.get(499), Some(&row.3), "{}", row.0);
+    compare(rt, row.0, found.get(0), Some(&row.2));
+    compare(rt, row.0, found.get(499), Some(&row.3));
 }
 
 /// From node 100 the last node is reached, and node 99 where the chain is one cycle.
 fn compare_marks(rt: &impl Abort, row: &Chain, marks: &[bool]) {
-    assert_eq!(rt; marks.get(499), Some(&true), "{}", row.0);
-    assert_eq!(rt; marks.get(99), Some(&(row.1 == Some(0))), "{}", row.0);
+    compare(rt, row.0, marks.get(499), Some(&true));
+    compare(rt, row.0, marks.get(99), Some(&(row.1 == Some(0))));
 }
 
 #[test]

@@ -13,25 +13,30 @@ use ux_alphabet::Alphabet;
 use ux_grf::{Graph, read_grf};
 use ux_net::{Net, NetError};
 
+/// What a sign stands for, behind a box's content or its targets.
+fn push_sign(content: &mut String, targets: &mut String, sign: char) -> Result<(), AllocError> {
+    match sign {
+        '|' => Ok(()),
+        'E' => content.push_str("<E>"),
+        '_' => content.push_str("\\\" \\\""),
+        'A' | 'B' => {
+            content.push(':')?;
+            content.push(sign)
+        },
+        '0'..='9' => {
+            targets.push(' ')?;
+            targets.push(sign)
+        },
+        _ => content.push(sign),
+    }
+}
+
 /// The line of a box in a graph's file.
 fn box_line(alloc: Global, text: &str) -> Result<String, AllocError> {
     let mut content = String::new(alloc);
     let mut targets = String::new(alloc);
     for sign in text.chars() {
-        match sign {
-            '|' => {},
-            'E' => content.push_str("<E>")?,
-            '_' => content.push_str("\\\" \\\"")?,
-            'A' | 'B' => {
-                content.push(':')?;
-                content.push(sign)?;
-            },
-            '0'..='9' => {
-                targets.push(' ')?;
-                targets.push(sign)?;
-            },
-            _ => content.push(sign)?,
-        }
+        push_sign(&mut content, &mut targets, sign)?;
     }
     let count = targets.len() / 2;
     format!(in alloc; "\"{content}\" 0 0 {count}{targets}\n")

@@ -5,6 +5,7 @@ use std::alloc::{AllocError, Global};
 use std::process::Abort;
 use std::test::Fail;
 use ux_alphabet::Alphabet;
+use ux_base::Mem;
 use ux_dela::print_delaf;
 use ux_tokens::{Text, TextError, print_tokens, token_file_of};
 
@@ -145,23 +146,30 @@ fn cuts_many_protected_braces(rt: HostRuntime) -> Result<(), Fail> {
         braces.push_str("\\{")?;
     }
     let text = read(rt.alloc(), &braces)??;
-    assert_eq!(rt; text.len(), 400);
-    assert_eq!(rt; text.different(), 2);
+    compare(&rt, "the tokens", text.len(), 400);
+    compare(&rt, "the different ones", text.different(), 2);
     Ok(())
+}
+
+/// The line of the entry of a tag.
+fn entry_of(alloc: Global, text: &Text, place: usize) -> Mem<String> {
+    if place >= text.len() {
+        return Ok(String::from_str(alloc, "no token")?);
+    }
+    match text.tag(place) {
+        Some(entry) => print_delaf(alloc, entry),
+        None => Ok(String::from_str(alloc, "no tag")?),
+    }
 }
 
 #[test]
 fn tells_the_entry_of_a_tag(rt: HostRuntime) -> Result<(), Fail> {
     let text = read(rt.alloc(), "I {am,be.V+x:P1s}")??;
-    assert_eq!(rt; text.len(), 3);
-    assert!(rt; text.tag(0).is_none());
-    match text.tag(2) {
-        Some(entry) => {
-            let line = print_delaf(rt.alloc(), entry)?;
-            assert_eq!(rt; line.as_str(), "am,be.V+x:P1s");
-        }
-        None => assert!(rt; false),
-    }
+    compare(&rt, "the tokens", text.len(), 3);
+    let word = entry_of(rt.alloc(), &text, 0)?;
+    compare(&rt, "a word", word.as_str(), "no tag");
+    let tag = entry_of(rt.alloc(), &text, 2)?;
+    compare(&rt, "a tag", tag.as_str(), "am,be.V+x:P1s");
     Ok(())
 }
 
@@ -169,8 +177,8 @@ fn tells_the_entry_of_a_tag(rt: HostRuntime) -> Result<(), Fail> {
 fn joins_neighbours_and_counts_different_tokens(rt: HostRuntime) -> Result<(), Fail> {
     let text = read(rt.alloc(), "the  cat, the dog")??;
     assert_eq!(rt; text.len(), 8);
-    assert_eq!(rt; text.slice(2, 5), "cat, the");
-    assert_eq!(rt; text.different(), 5);
+    compare(&rt, "a slice", text.slice(2, 5), "cat, the");
+    compare(&rt, "the different ones", text.different(), 5);
     Ok(())
 }
 
@@ -190,15 +198,16 @@ fn printed_at_once(alloc: Global, text: &str) -> Result<String, Fail> {
     Ok(token_file(alloc, text, &Alphabet::read(alloc, "#az\n")?)?)
 }
 
-/// The token file that both ways print.
-fn compare_file(rt: &impl Abort, got: &str) {
-    assert_eq!(rt; got, "4\na\n \n{S}\nb\n");
-}
-
 #[test]
 fn prints_the_token_file(rt: HostRuntime) -> Result<(), Fail> {
     const TEXT: &str = "a  {S}b\ta{S}";
-    compare_file(&rt, printed(rt.alloc(), TEXT)?.as_str());
-    compare_file(&rt, printed_at_once(rt.alloc(), TEXT)?.as_str());
+    const FILE: &str = "4\na\n \n{S}\nb\n";
+    compare(&rt, "kept", printed(rt.alloc(), TEXT)?.as_str(), FILE);
+    compare(
+        &rt,
+        "not kept",
+        printed_at_once(rt.alloc(), TEXT)?.as_str(),
+        FILE,
+    );
     Ok(())
 }

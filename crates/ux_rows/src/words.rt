@@ -3,6 +3,7 @@
 //! A request is a large type, and a function that holds one where it may fail or stop is dear to
 //! prove. So requests are compared as they are debugged, which tells them apart.
 
+use crate::comparing::compare;
 use std::alloc::{AllocError, Global};
 use std::process::Abort;
 use std::test::Fail;
@@ -24,7 +25,9 @@ fn debugged(alloc: Global, request: &Request) -> Result<String, AllocError> {
 fn asked(alloc: Global, line: &str) -> Result<String, WordsError> {
     let words = words_of(alloc, line)?;
     let request = Request::of(alloc, &words)?;
-    Ok(debugged(alloc, &request)?)
+    let text = debugged(alloc, &request);
+    drop(request);
+    Ok(text?)
 }
 
 /// Words, and what they ask for as it is debugged.
@@ -32,7 +35,7 @@ type Asked = (&'static str, &'static str);
 
 fn check_asked(rt: &impl Abort, alloc: Global, row: &Asked) -> Result<(), Fail> {
     let got = asked(alloc, row.0)?;
-    assert_eq!(rt; got.as_str(), row.1, "{}", row.0);
+    compare(rt, row.0, got.as_str(), row.1);
     Ok(())
 }
 
@@ -98,7 +101,7 @@ fn check<R: Abort + AllocGlobal>(rt: &R, rows: &[Row]) -> Result<(), Fail> {
         } else {
             Ok(asked(rt.alloc(), same)?)
         };
-        assert_eq!(rt; got, want, "{words}");
+        compare(rt, words, got.as_deref(), want.as_deref());
     }
     Ok(())
 }
@@ -240,5 +243,6 @@ fn takes_no_option_where_a_command_has_none(rt: HostRuntime) -> Result<(), Fail>
 
 #[test]
 fn no_words_are_no_request(rt: HostRuntime) {
-    assert_eq!(rt; Request::of(rt.alloc(), &[]).err(), Some(WordsError::Usage));
+    let refused = Request::of(rt.alloc(), &[]).err();
+    compare(&rt, "no words", refused, Some(WordsError::Usage));
 }

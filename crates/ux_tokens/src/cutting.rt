@@ -45,15 +45,26 @@ pub fn cut_text(alloc: Global, alphabet: &Alphabet, text: &str) -> Result<Cut, T
     let classes = classes(alloc, alphabet)?;
     let mut numbers: IndexSet<&str> = IndexSet::new(alloc);
     let mut known = Known::new(alloc)?;
+    cut_with(alloc, alphabet, &classes, &mut numbers, &mut known, text)
+}
+
+/// The tokens of the text, by tables that have none yet.
+fn cut_with<'a>(
+    alloc: Global,
+    alphabet: &Alphabet,
+    classes: &[Kind],
+    numbers: &mut IndexSet<&'a str>,
+    known: &mut Known,
+    text: &'a str,
+) -> Result<Cut, TextError>
+    requires classes { AreClasses alphabet.now classes.now }
+    requires none { texts_in numbers.now ≡ [] }
+    requires known { AreKnown [] known.now }
+    ensures ok { IfOk result (IsCutting alphabet.now text.now) }
+    ensures err { IfErr result (RefusesCut alphabet.now text.now) }
+{
     let mut pieces = Pieces::new(alloc);
-    push_tokens(
-        alphabet,
-        &classes,
-        &mut numbers,
-        &mut known,
-        &mut pieces,
-        text,
-    )?;
+    push_tokens(alphabet, classes, numbers, known, &mut pieces, text)?;
     Ok(Cut {
         pieces,
         different: numbers.len(),

@@ -20,3 +20,27 @@ loop-stop-preserved c =
 
 pub returns-clause-split : goal.returns-clause-split
 returns-clause-split c = grind (arith, common_steps)
+
+pub loop-stop-init : goal.loop-stop-init
+loop-stop-init c = grind (arith, common_steps)
+
+pub slice_bounds-is_part_end-count : goal.slice_bounds-is_part_end-count
+slice_bounds-is_part_end-count c = grind (arith, common_steps)
+
+pub slice_bounds-is_part_end-start : goal.slice_bounds-is_part_end-start
+slice_bounds-is_part_end-start c = grind (arith, common_steps)
+
+pub slice_bounds-is_part_end-end : goal.slice_bounds-is_part_end-end
+slice_bounds-is_part_end-end c = grind (arith, common_steps)
+
+pub bounds-text-place : goal.bounds-text-place
+bounds-text-place c = grind (arith, common_steps)
+
+pub overflow_add-place : goal.overflow_add-place
+overflow_add-place c = grind (arith, common_steps)
+
+pub loop-stop-smaller : goal.loop-stop-smaller
+loop-stop-smaller c = grind (arith, common_steps)
+
+pub returns-clause-within : goal.returns-clause-within
+returns-clause-within c = grind (arith, common_steps)

@@ -1,4 +1,5 @@
 use Rattle.std.proofs.Common.{arith, ◌<◌, ◌∙◌, ap, subst, sym, length, length-append, map, List}
+use Rattle.std.proofs.lemmas.Grind.{common_steps}
 use Rattle.std.proofs.lemmas.Result.{err_from_is_err_and}
 use Rattle.std.proofs.lemmas.List.{length-map}
 use Rattle.ux_grf.specs.declared.graph.GrfBox.{GrfBox}
@@ -35,3 +36,39 @@ loop-node-preserved c =
           c.index-boxes-node.is) c.in_ok-make_box.ensures.made)
           c.in_ok-push.ensures.items;
     }
+
+pub loop-node-init : goal.loop-node-init
+loop-node-init c = grind (arith, common_steps)
+
+pub offset_bounds-boxes-node : goal.offset_bounds-boxes-node
+offset_bounds-boxes-node c = grind (arith, common_steps)
+
+pub bounds-boxes-node : goal.bounds-boxes-node
+bounds-boxes-node c = grind (arith, common_steps)
+
+pub overflow_cast-node : goal.overflow_cast-node
+overflow_cast-node c = grind (arith, common_steps)
+
+pub bounds-reached-node : goal.bounds-reached-node
+bounds-reached-node c = grind (arith, common_steps)
+
+pub returns-in_err-make_box-clause-len : goal.returns-in_err-make_box-clause-len
+returns-in_err-make_box-clause-len c = grind (arith, common_steps)
+
+pub returns-in_err-make_box-clause-made : goal.returns-in_err-make_box-clause-made
+returns-in_err-make_box-clause-made c = grind (arith, common_steps)
+
+pub returns-in_err-push-clause-len : goal.returns-in_err-push-clause-len
+returns-in_err-push-clause-len c = grind (arith, common_steps)
+
+pub returns-in_err-push-clause-made : goal.returns-in_err-push-clause-made
+returns-in_err-push-clause-made c = grind (arith, common_steps)
+
+pub returns-in_err-push-clause-err : goal.returns-in_err-push-clause-err
+returns-in_err-push-clause-err c = grind (arith, common_steps)
+
+pub returns-clause-len : goal.returns-clause-len
+returns-clause-len c = grind (arith, common_steps)
+
+pub returns-clause-made : goal.returns-clause-made
+returns-clause-made c = grind (arith, common_steps)

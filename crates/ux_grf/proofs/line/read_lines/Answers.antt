@@ -1,4 +1,5 @@
-use Rattle.std.proofs.Common.{rules, ◌∙◌, ap, List, [], ◌∷◌, ◌++◌}
+use Rattle.std.proofs.Common.{rules, ◌∙◌, ap, List, [], ◌∷◌, ◌++◌, arith}
+use Rattle.std.proofs.lemmas.Grind.{common_steps}
 use Rattle.ux_grf.specs.declared.item.Item.{Item}
 use Rattle.std.proofs.lemmas.Result.{err_from_is_err_and}
 use Rattle.ux_grf.proofs.LinesLemmas.{lines_more, lines_all, bad_more, stops_line}
@@ -32,3 +33,39 @@ returns-in-None-clause-lines c =
     c.in_ok-line.ensures.line c.last_output-output.result.now c.push.new.self.items c.last_output-output.ensures
     (c.in_ok-push.ensures.items ∙ ap (λ (l : List Item). c.loop-lines.lines.items ++ l ∷ [])
     c.new.ensures)
+
+pub loop-lines-init : goal.loop-lines-init
+loop-lines-init c = grind (arith, common_steps)
+
+pub read_line-requires-text-text : goal.read_line-requires-text-text
+read_line-requires-text-text c κs = grind (arith, common_steps)
+
+pub returns-in_err-line-clause-lines : goal.returns-in_err-line-clause-lines
+returns-in_err-line-clause-lines c = grind (arith, common_steps)
+
+pub returns-in_err-push-clause-lines : goal.returns-in_err-push-clause-lines
+returns-in_err-push-clause-lines c = grind (arith, common_steps)
+
+pub returns-in_err-push-clause-bad : goal.returns-in_err-push-clause-bad
+returns-in_err-push-clause-bad c = grind (arith, common_steps)
+
+pub strip_sign-requires-text-text : goal.strip_sign-requires-text-text
+strip_sign-requires-text-text c κs = grind (arith, common_steps)
+
+pub strip_sign-requires-clause-some : goal.strip_sign-requires-clause-some
+strip_sign-requires-clause-some c = grind (arith, common_steps)
+
+pub strip_sign-requires-clause-ascii : goal.strip_sign-requires-clause-ascii
+strip_sign-requires-clause-ascii c = grind (arith, common_steps)
+
+pub loop-lines-smaller : goal.loop-lines-smaller
+loop-lines-smaller c = grind (arith, common_steps)
+
+pub last_output-output-requires-text-text : goal.last_output-output-requires-text-text
+last_output-output-requires-text-text c κs = grind (arith, common_steps)
+
+pub last_output-output-requires-clause-ends : goal.last_output-output-requires-clause-ends
+last_output-output-requires-clause-ends c = grind (arith, common_steps)
+
+pub last_output-output-requires-clause-last : goal.last_output-output-requires-clause-last
+last_output-output-requires-clause-last c = grind (arith, common_steps)

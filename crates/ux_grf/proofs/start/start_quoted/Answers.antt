@@ -4,3 +4,33 @@ use Rattle.ux_grf.proofs.start.start_quoted.Goals as goal
 
 pub returns-clause-leaves : goal.returns-clause-leaves
 returns-clause-leaves c = grind (arith, common_steps)
+
+pub behind-inside-requires-clause-inside : goal.behind-inside-requires-clause-inside
+behind-inside-requires-clause-inside c = grind (arith, common_steps)
+
+pub behind-inside-requires-clause-ascii : goal.behind-inside-requires-clause-ascii
+behind-inside-requires-clause-ascii c = grind (arith, common_steps)
+
+pub returns-in_default-clause-begins : goal.returns-in_default-clause-begins
+returns-in_default-clause-begins c = grind (arith, common_steps)
+
+pub before-requires-clause-inside : goal.before-requires-clause-inside
+before-requires-clause-inside c = grind (arith, common_steps)
+
+pub before-requires-clause-ascii : goal.before-requires-clause-ascii
+before-requires-clause-ascii c = grind (arith, common_steps)
+
+pub returns-in_err-resolve-clause-begins : goal.returns-in_err-resolve-clause-begins
+returns-in_err-resolve-clause-begins c = grind (arith, common_steps)
+
+pub returns-in_err-resolve-clause-leaves : goal.returns-in_err-resolve-clause-leaves
+returns-in_err-resolve-clause-leaves c = grind (arith, common_steps)
+
+pub behind-requires-clause-inside : goal.behind-requires-clause-inside
+behind-requires-clause-inside c = grind (arith, common_steps)
+
+pub behind-requires-clause-ascii : goal.behind-requires-clause-ascii
+behind-requires-clause-ascii c = grind (arith, common_steps)
+
+pub returns-clause-begins : goal.returns-clause-begins
+returns-clause-begins c = grind (arith, common_steps)

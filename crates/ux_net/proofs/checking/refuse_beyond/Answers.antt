@@ -1,4 +1,5 @@
-use Rattle.std.proofs.Common.{ℕ, inl, sym, ◌∙◌, subst, List}
+use Rattle.std.proofs.Common.{ℕ, inl, sym, ◌∙◌, subst, List, arith}
+use Rattle.std.proofs.lemmas.Grind.{common_steps}
 use Rattle.ux_grf.specs.declared.graph.GrfBox.{GrfBox}
 use Rattle.ux_net.specs.Refusing.{drawn, HasNoBeyond, IsFirstBeyond, IsBeyondAt, IsFirstNamed}
 use Rattle.ux_net.proofs.RefusingLemmas.{compiled_more, compiled_all, found_first}
@@ -24,3 +25,18 @@ pub returns-clause-ok : goal.returns-clause-ok
 returns-clause-ok c =
     compiled_all c.args.graphs.now c.loop-name.name-index c.loop-name-test.false
     c.loop-name.invariant
+
+pub loop-name-init : goal.loop-name-init
+loop-name-init c = grind (arith, common_steps)
+
+pub offset_bounds-graphs-name-index : goal.offset_bounds-graphs-name-index
+offset_bounds-graphs-name-index c = grind (arith, common_steps)
+
+pub bounds-graphs-name-index : goal.bounds-graphs-name-index
+bounds-graphs-name-index c = grind (arith, common_steps)
+
+pub returns-in_err-from_str-clause-ok : goal.returns-in_err-from_str-clause-ok
+returns-in_err-from_str-clause-ok c = grind (arith, common_steps)
+
+pub returns-in_err-from_str-clause-err : goal.returns-in_err-from_str-clause-err
+returns-in_err-from_str-clause-err c = grind (arith, common_steps)

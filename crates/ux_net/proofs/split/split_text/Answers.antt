@@ -44,3 +44,33 @@ loop-rest-preserved c =
 
 pub returns : goal.returns
 returns c = grind (arith, common_steps)
+
+pub returns-in_err-text : goal.returns-in_err-text
+returns-in_err-text c = grind (arith, common_steps)
+
+pub is_empty-requires-text-self : goal.is_empty-requires-text-self
+is_empty-requires-text-self c κs = grind (arith, common_steps)
+
+pub first_token-kind-requires : goal.first_token-kind-requires
+first_token-kind-requires c = grind (arith, common_steps)
+
+pub range-requires-clause-start_le_end : goal.range-requires-clause-start_le_end
+range-requires-clause-start_le_end c = grind (arith, common_steps)
+
+pub range-requires-clause-start_boundary : goal.range-requires-clause-start_boundary
+range-requires-clause-start_boundary c = grind (arith, common_steps)
+
+pub range-requires-clause-end_boundary : goal.range-requires-clause-end_boundary
+range-requires-clause-end_boundary c = grind (arith, common_steps)
+
+pub returns-in_err-label_by : goal.returns-in_err-label_by
+returns-in_err-label_by c = grind (arith, common_steps)
+
+pub returns-in_err-push : goal.returns-in_err-push
+returns-in_err-push c = grind (arith, common_steps)
+
+pub range_from-rest-requires : goal.range_from-rest-requires
+range_from-rest-requires c = grind (arith, common_steps)
+
+pub loop-rest-smaller : goal.loop-rest-smaller
+loop-rest-smaller c = grind (arith, common_steps)

@@ -1,3 +1,5 @@
+use Rattle.std.proofs.Common.{arith}
+use Rattle.std.proofs.lemmas.Grind.{common_steps}
 use Rattle.ux_run.proofs.telling.say_net_error.Goals as goal
 
 pub returns-in-MissingGraph-clause-line : goal.returns-in-MissingGraph-clause-line
@@ -25,3 +27,39 @@ returns-in-LeftRecursion-clause-line g c =
 pub returns-in-LeftRecursion-clause-front : goal.returns-in-LeftRecursion-clause-front
 returns-in-LeftRecursion-clause-front g c =
     rw c.in-LeftRecursion.is c.say_node-in-LeftRecursion.ensures.front
+
+pub returns-in-MissingGraph-clause-later : goal.returns-in-MissingGraph-clause-later
+returns-in-MissingGraph-clause-later g c = grind (arith, common_steps)
+
+pub returns-in-MissingGraph-clause-cause : goal.returns-in-MissingGraph-clause-cause
+returns-in-MissingGraph-clause-cause g c = grind (arith, common_steps)
+
+pub returns-in-NotYet-clause-later : goal.returns-in-NotYet-clause-later
+returns-in-NotYet-clause-later g c = grind (arith, common_steps)
+
+pub returns-in-NotYet-clause-cause : goal.returns-in-NotYet-clause-cause
+returns-in-NotYet-clause-cause g c = grind (arith, common_steps)
+
+pub returns-in-EmptyLoop-clause-later : goal.returns-in-EmptyLoop-clause-later
+returns-in-EmptyLoop-clause-later g c = grind (arith, common_steps)
+
+pub returns-in-EmptyLoop-clause-cause : goal.returns-in-EmptyLoop-clause-cause
+returns-in-EmptyLoop-clause-cause g c = grind (arith, common_steps)
+
+pub returns-in-LeftRecursion-clause-later : goal.returns-in-LeftRecursion-clause-later
+returns-in-LeftRecursion-clause-later g c = grind (arith, common_steps)
+
+pub returns-in-LeftRecursion-clause-cause : goal.returns-in-LeftRecursion-clause-cause
+returns-in-LeftRecursion-clause-cause g c = grind (arith, common_steps)
+
+pub returns-in-NoMemory-clause-later : goal.returns-in-NoMemory-clause-later
+returns-in-NoMemory-clause-later g c = grind (arith, common_steps)
+
+pub returns-in-NoMemory-clause-cause : goal.returns-in-NoMemory-clause-cause
+returns-in-NoMemory-clause-cause g c = grind (arith, common_steps)
+
+pub returns-in-NoMemory-clause-line : goal.returns-in-NoMemory-clause-line
+returns-in-NoMemory-clause-line g c = grind (arith, common_steps)
+
+pub returns-in-NoMemory-clause-front : goal.returns-in-NoMemory-clause-front
+returns-in-NoMemory-clause-front g c = grind (arith, common_steps)

@@ -1,4 +1,5 @@
 use Rattle.std.proofs.Common.{ℕ, ◌+◌, List, get_or, refl, sym, ◌∙◌, subst, arith}
+use Rattle.std.proofs.lemmas.Grind.{common_steps}
 use Rattle.std.proofs.lemmas.List.{length-set}
 use Rattle.ux_tokens.specs.declared.kind.Kind.TheVariants.{Word}
 use Rattle.ux_tokens.specs.Blocks.{IsClass}
@@ -71,3 +72,42 @@ loop-place-preserved c =
 
 pub returns-clause-fronts : goal.returns-clause-fronts
 returns-clause-fronts c = λ lines are. (c.loop-place.invariant.block lines are).fronts
+
+pub bounds-bytes-start : goal.bounds-bytes-start
+bounds-bytes-start c = grind (arith, common_steps)
+
+pub overflow_add-place-end : goal.overflow_add-place-end
+overflow_add-place-end c = grind (arith, common_steps)
+
+pub overflow_add-next : goal.overflow_add-next
+overflow_add-next c = grind (arith, common_steps)
+
+pub bounds-bytes-place : goal.bounds-bytes-place
+bounds-bytes-place c = grind (arith, common_steps)
+
+pub overflow_cast-ends : goal.overflow_cast-ends
+overflow_cast-ends c = grind (arith, common_steps)
+
+pub overflow_add-ends : goal.overflow_add-ends
+overflow_add-ends c = grind (arith, common_steps)
+
+pub offset_bounds-ends-count : goal.offset_bounds-ends-count
+offset_bounds-ends-count c = grind (arith, common_steps)
+
+pub bounds-ends-count : goal.bounds-ends-count
+bounds-ends-count c = grind (arith, common_steps)
+
+pub bounds-kinds-count : goal.bounds-kinds-count
+bounds-kinds-count c = grind (arith, common_steps)
+
+pub overflow_add-count : goal.overflow_add-count
+overflow_add-count c = grind (arith, common_steps)
+
+pub returns-clause-len : goal.returns-clause-len
+returns-clause-len c = grind (arith, common_steps)
+
+pub returns-clause-kinds_len : goal.returns-clause-kinds_len
+returns-clause-kinds_len c = grind (arith, common_steps)
+
+pub returns-clause-within : goal.returns-clause-within
+returns-clause-within c = grind (arith, common_steps)

@@ -1,4 +1,5 @@
 use Rattle.std.proofs.Common.{◌≡◌, ◌+◌, ◌-◌, List, ◌++◌, get_or, length, take, drop, Some, sym, ◌∙◌, ap, subst, arith}
+use Rattle.std.proofs.lemmas.Grind.{common_steps}
 use Rattle.std.specs.Str.{IsCharBoundary}
 use Rattle.std.proofs.lemmas.Str.{IsCharBoundary-from_rest}
 use Rattle.std.proofs.lemmas.List.{length-set, take_more}
@@ -99,3 +100,60 @@ returns-clause-so_far c = λ lines pieces fronts few so_far.
     (all_taken c.loop-i.i c.args.ends.now c.loop-i.given c.args.kinds.now (omega (arith, all))
     (omega (arith, all, given)) (omega (arith, all, even)))
     (c.loop-i.invariant.so_far lines pieces fronts few so_far)
+
+pub loop-i-init : goal.loop-i-init
+loop-i-init c = grind (arith, common_steps)
+
+pub offset_bounds-ends-i : goal.offset_bounds-ends-i
+offset_bounds-ends-i c = grind (arith, common_steps)
+
+pub bounds-ends-i : goal.bounds-ends-i
+bounds-ends-i c = grind (arith, common_steps)
+
+pub range_from-rest-requires : goal.range_from-rest-requires
+range_from-rest-requires c = grind (arith, common_steps)
+
+pub bounds-kinds-i : goal.bounds-kinds-i
+bounds-kinds-i c = grind (arith, common_steps)
+
+pub range-requires-clause-start_le_end : goal.range-requires-clause-start_le_end
+range-requires-clause-start_le_end c = grind (arith, common_steps)
+
+pub range-requires-clause-start_boundary : goal.range-requires-clause-start_boundary
+range-requires-clause-start_boundary c = grind (arith, common_steps)
+
+pub number_of_kind-requires-clause-room : goal.number_of_kind-requires-clause-room
+number_of_kind-requires-clause-room c = grind (arith, common_steps)
+
+pub number_of_kind-requires-clause-known : goal.number_of_kind-requires-clause-known
+number_of_kind-requires-clause-known c = grind (arith, common_steps)
+
+pub number_of_kind-requires-clause-front : goal.number_of_kind-requires-clause-front
+number_of_kind-requires-clause-front c = grind (arith, common_steps)
+
+pub returns-in_err-given-clause-given : goal.returns-in_err-given-clause-given
+returns-in_err-given-clause-given c = grind (arith, common_steps)
+
+pub returns-in_err-given-clause-so_far : goal.returns-in_err-given-clause-so_far
+returns-in_err-given-clause-so_far c = grind (arith, common_steps)
+
+pub returns-in_err-given-clause-known : goal.returns-in_err-given-clause-known
+returns-in_err-given-clause-known c = grind (arith, common_steps)
+
+pub returns-in_err-given-clause-in_order : goal.returns-in_err-given-clause-in_order
+returns-in_err-given-clause-in_order c = grind (arith, common_steps)
+
+pub offset_bounds-given-i : goal.offset_bounds-given-i
+offset_bounds-given-i c = grind (arith, common_steps)
+
+pub bounds-given-i : goal.bounds-given-i
+bounds-given-i c = grind (arith, common_steps)
+
+pub returns-clause-given : goal.returns-clause-given
+returns-clause-given c = grind (arith, common_steps)
+
+pub returns-clause-known : goal.returns-clause-known
+returns-clause-known c = grind (arith, common_steps)
+
+pub returns-clause-in_order : goal.returns-clause-in_order
+returns-clause-in_order c = grind (arith, common_steps)

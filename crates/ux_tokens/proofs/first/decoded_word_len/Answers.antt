@@ -1,4 +1,5 @@
-use Rattle.std.proofs.Common.{ℕ, ◌+◌, refl, ◌∙◌, ap}
+use Rattle.std.proofs.Common.{ℕ, ◌+◌, refl, ◌∙◌, ap, arith}
+use Rattle.std.proofs.lemmas.Grind.{common_steps}
 use Rattle.std.specs.Str.Iter.{char_indices_offset, char_indices_rest}
 use Rattle.std.proofs.lemmas.Str.{length-encode}
 use Rattle.ux_tokens.proofs.FirstLemmas.{run_start, run_more, run_ends, run_is_all, run_ends_all}
@@ -40,3 +41,21 @@ returns-clause-ends c =
     let none = c.in-None.ensures.steps.0 in
     let all = run_is_all c.args.alphabet.now c.args.text.now _ _ c.loop-place.invariant none in
     rw all (run_ends_all c.args.alphabet.now c.args.text.now _ _ c.loop-place.invariant none)
+
+pub loop-place-init-derived : goal.loop-place-init-derived
+loop-place-init-derived c = grind (arith, common_steps)
+
+pub next-requires : goal.next-requires
+next-requires c = grind (arith, common_steps)
+
+pub returns-then-not-is_letter-clause-cut : goal.returns-then-not-is_letter-clause-cut
+returns-then-not-is_letter-clause-cut c = grind (arith, common_steps)
+
+pub returns-then-not-is_letter-clause-letters : goal.returns-then-not-is_letter-clause-letters
+returns-then-not-is_letter-clause-letters c = grind (arith, common_steps)
+
+pub loop-place-preserved-derived : goal.loop-place-preserved-derived
+loop-place-preserved-derived c = grind (arith, common_steps)
+
+pub returns-clause-cut : goal.returns-clause-cut
+returns-clause-cut c = grind (arith, common_steps)

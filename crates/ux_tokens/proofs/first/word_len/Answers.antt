@@ -42,3 +42,24 @@ returns-clause-ends c = no_letter_behind c.args.alphabet.now c.args.text.now
 
 pub returns-then-byte-ge128-clause-cut : goal.returns-then-byte-ge128-clause-cut
 returns-then-byte-ge128-clause-cut c = grind (arith, common_steps)
+
+pub bounds-bytes-place : goal.bounds-bytes-place
+bounds-bytes-place c = grind (arith, common_steps)
+
+pub range_from-requires : goal.range_from-requires
+range_from-requires c = grind (arith, common_steps)
+
+pub overflow_add-result : goal.overflow_add-result
+overflow_add-result c = grind (arith, common_steps)
+
+pub char-byte : goal.char-byte
+char-byte c = grind (arith, common_steps)
+
+pub returns-then-not-is_letter-clause-cut : goal.returns-then-not-is_letter-clause-cut
+returns-then-not-is_letter-clause-cut c = grind (arith, common_steps)
+
+pub returns-then-not-is_letter-clause-letters : goal.returns-then-not-is_letter-clause-letters
+returns-then-not-is_letter-clause-letters c = grind (arith, common_steps)
+
+pub returns-clause-cut : goal.returns-clause-cut
+returns-clause-cut c = grind (arith, common_steps)

@@ -1,4 +1,5 @@
 use Rattle.std.proofs.Common.{◌≡◌, ℕ, ◌+◌, sym, ◌∙◌, ap, arith, length}
+use Rattle.std.proofs.lemmas.Grind.{common_steps}
 use Rattle.ux_tokens.proofs.RegionLemmas.{region_is, region_stop, region_whole}
 use Rattle.ux_tokens.proofs.tags.region_len.Goals as goal
 
@@ -21,3 +22,18 @@ returns-clause-region c =
     region_is text (length text)
     (region_whole c.loop-place.protected text c.loop-place.place c.loop-place.invariant
     (omega (arith, over, within)))
+
+pub loop-place-init : goal.loop-place-init
+loop-place-init c = grind (arith, common_steps)
+
+pub bounds-text-place : goal.bounds-text-place
+bounds-text-place c = grind (arith, common_steps)
+
+pub returns-then-ends_region-clause-within : goal.returns-then-ends_region-clause-within
+returns-then-ends_region-clause-within c = grind (arith, common_steps)
+
+pub loop-place-preserved : goal.loop-place-preserved
+loop-place-preserved c = grind (arith, common_steps)
+
+pub returns-clause-within : goal.returns-clause-within
+returns-clause-within c = grind (arith, common_steps)

@@ -1,4 +1,5 @@
 use Rattle.std.proofs.Common.{arith, ◌≡◌, ◌+◌, ◌∙◌, ◌∷◌, [], ℕ, ap, sym, subst}
+use Rattle.std.proofs.lemmas.Grind.{common_steps}
 use Rattle.std.specs.Prelude.{Some, slice_get}
 use Rattle.ux_tokens.specs.Numbers.{different_texts}
 use Rattle.ux_outputs.specs.Rendering.{skip}
@@ -95,3 +96,24 @@ pub returns-clause-ends : goal.returns-clause-ends
 returns-clause-ends c = λ yes. walked_ends c.args.alphabet.now c.args.text.now c.args.net.now
     c.args.start c.loop-front.fronts c.loop-front.ends.items c.loop-front.front c.loop-front.at
     c.loop-front-test.false c.loop-front.invariant.walked
+
+pub returns-in_err-reading-clause-kept : goal.returns-in_err-reading-clause-kept
+returns-in_err-reading-clause-kept c = grind (arith, common_steps)
+
+pub returns-in_err-reading-clause-ends : goal.returns-in_err-reading-clause-ends
+returns-in_err-reading-clause-ends c = grind (arith, common_steps)
+
+pub returns-then-is_beyond-clause-ends : goal.returns-then-is_beyond-clause-ends
+returns-then-is_beyond-clause-ends c = grind (arith, common_steps)
+
+pub returns-in_err-note_end-clause-kept : goal.returns-in_err-note_end-clause-kept
+returns-in_err-note_end-clause-kept c = grind (arith, common_steps)
+
+pub returns-in_err-note_end-clause-ends : goal.returns-in_err-note_end-clause-ends
+returns-in_err-note_end-clause-ends c = grind (arith, common_steps)
+
+pub number-requires : goal.number-requires
+number-requires c = grind (arith, common_steps)
+
+pub overflow_add-at : goal.overflow_add-at
+overflow_add-at c = grind (arith, common_steps)

@@ -1,4 +1,5 @@
 use Rattle.std.proofs.Common.{◌≡◌, [], ◌∙◌, ap, arith, refl}
+use Rattle.std.proofs.lemmas.Grind.{common_steps}
 use Rattle.std.specs.List.{AllZip}
 use Rattle.std.specs.Str.{chars}
 use Rattle.std.specs.Str.Iter.{chars_rest}
@@ -33,3 +34,6 @@ returns-in-None-next c =
     (AllZip (Fits c.args.alphabet.now) (chars c.args.entry.now) (chars c.args.text.now))
     entry text (ap chars no_text ∙ chars-nil) c.loop-c.invariant.same in
     (λ _. end.1 (ap chars no_entry ∙ chars-nil), λ _. refl)
+
+pub loop-c-init : goal.loop-c-init
+loop-c-init c = grind (arith, common_steps)

@@ -1,4 +1,5 @@
-use Rattle.std.proofs.Common.{◌≡◌, ◌∙◌, true, false, refl, sym}
+use Rattle.std.proofs.Common.{◌≡◌, ◌∙◌, true, false, refl, sym, arith}
+use Rattle.std.proofs.lemmas.Grind.{common_steps}
 use Rattle.ux_walk.proofs.Stepping.{steps_final, steps_on}
 use Rattle.ux_walk.proofs.reached.Reached.step.Goals as goal
 
@@ -17,3 +18,27 @@ returns-else-state-clause-adds c =
     c.in-Some.state.now.edges refl
     (λ yes. let no : false ≡ true = sym c.if-state.false ∙ yes in cc)
     (c.in_ok-follow_state.ensures.adds c.args.net.now (sym c.in-Some.ensures) c.requires)
+
+pub returns-in_default-clause-sound : goal.returns-in_default-clause-sound
+returns-in_default-clause-sound c = grind (arith, common_steps)
+
+pub returns-in_default-clause-adds : goal.returns-in_default-clause-adds
+returns-in_default-clause-adds c = grind (arith, common_steps)
+
+pub returns-in_err-follow_state-clause-sound : goal.returns-in_err-follow_state-clause-sound
+returns-in_err-follow_state-clause-sound c = grind (arith, common_steps)
+
+pub returns-in_err-follow_state-clause-adds : goal.returns-in_err-follow_state-clause-adds
+returns-in_err-follow_state-clause-adds c = grind (arith, common_steps)
+
+pub returns-in_err-leave-clause-sound : goal.returns-in_err-leave-clause-sound
+returns-in_err-leave-clause-sound c = grind (arith, common_steps)
+
+pub returns-in_err-leave-clause-adds : goal.returns-in_err-leave-clause-adds
+returns-in_err-leave-clause-adds c = grind (arith, common_steps)
+
+pub returns-in_ok-leave-clause-sound : goal.returns-in_ok-leave-clause-sound
+returns-in_ok-leave-clause-sound c = grind (arith, common_steps)
+
+pub returns-else-state-clause-sound : goal.returns-else-state-clause-sound
+returns-else-state-clause-sound c = grind (arith, common_steps)

@@ -1,4 +1,5 @@
-use Rattle.std.proofs.Common.{List, subst, inl, inr}
+use Rattle.std.proofs.Common.{List, subst, inl, inr, arith}
+use Rattle.std.proofs.lemmas.Grind.{common_steps}
 use Rattle.std.specs.Prelude.{Contains}
 use Rattle.ux_net.proofs.JoinedLemmas.{first_or_later, nothing_in}
 use Rattle.ux_walk.specs.declared.turns.Turn.{Turn}
@@ -21,3 +22,6 @@ returns c turn next inside = elim (c.loop-turn.invariant turn next inside) [
   | inr later ↦ absurd (nothing_in
       (subst (λ (l : List Turn). Contains l turn) c.in-None.ensures.steps.0 later))
 ]
+
+pub returns-in_err-marks : goal.returns-in_err-marks
+returns-in_err-marks c = grind (arith, common_steps)

@@ -1,7 +1,7 @@
 use Rattle.std.proofs.Common.{◌≡◌, ℕ, ◌≤◌, length, map, drop, get_or}
 use Rattle.ux_grf.specs.BoxLine.{said_by}
 use Rattle.ux_grf.specs.Boxes.{texts_of, AreGood}
-use Rattle.ux_grf.proofs.read.read_boxes.Given as goal
+use Rattle.ux_grf.proofs.read.stamped_boxes.Given as goal
 
 -- the boxes so far are those of the lines so far, and the stamps so far are at most the node
 abbrev pub invariant-loop-node : goal.invariant-loop-node

@@ -1,11 +1,11 @@
 use Rattle.std.proofs.lemmas.Result.{err_from_is_err_and}
 use Rattle.ux_grf.proofs.ReadLemmas.{line_is, rest_more, refuses_boxes, good_more, texts_more}
-use Rattle.ux_grf.proofs.read.read_boxes.Goals as goal
+use Rattle.ux_grf.proofs.read.stamped_boxes.Goals as goal
 
 pub returns-in_err-good_box-clause-refused : goal.returns-in_err-good_box-clause-refused
 returns-in_err-good_box-clause-refused c =
-    let p = err_from_is_err_and c.from_residual-in_err-good_box.result
-    c.from_residual-in_err-good_box.ensures.1 in
+    let p = err_from_is_err_and c.from_residual.result
+    c.from_residual.ensures.1 in
     let i = c.loop-node.invariant in
     rw (p.1, p.2)
     (refuses_boxes c.args.count c.args.lines.now c.loop-node.node _ _ c.loop-node-test.true i.2

@@ -1,0 +1,42 @@
+use Rattle.std.proofs.Common.{arith}
+use Rattle.std.proofs.lemmas.Grind.{common_steps}
+use Rattle.ux_net.proofs.grammar.admitted.Goals as goal
+
+pub admit-requires : goal.admit-requires
+admit-requires c = grind (arith, common_steps)
+
+pub name_of-requires-clause-from : goal.name_of-requires-clause-from
+name_of-requires-clause-from c = grind (arith, common_steps)
+
+pub returns-in_err-name_of-in-Err-EmptyLoop-clause-ranks : goal.returns-in_err-name_of-in-Err-EmptyLoop-clause-ranks
+returns-in_err-name_of-in-Err-EmptyLoop-clause-ranks c = grind (arith, common_steps)
+
+pub returns-in_err-name_of-in-Err-EmptyLoop-clause-admissible : goal.returns-in_err-name_of-in-Err-EmptyLoop-clause-admissible
+returns-in_err-name_of-in-Err-EmptyLoop-clause-admissible c = grind (arith, common_steps)
+
+pub returns-in_err-name_of-in-Err-EmptyLoop-clause-err : goal.returns-in_err-name_of-in-Err-EmptyLoop-clause-err
+returns-in_err-name_of-in-Err-EmptyLoop-clause-err c = grind (arith, common_steps)
+
+pub name_of-requires-in-Err-LeftRecursion-clause-from : goal.name_of-requires-in-Err-LeftRecursion-clause-from
+name_of-requires-in-Err-LeftRecursion-clause-from c = grind (arith, common_steps)
+
+pub returns-in_err-name_of-in-Err-LeftRecursion-clause-ranks : goal.returns-in_err-name_of-in-Err-LeftRecursion-clause-ranks
+returns-in_err-name_of-in-Err-LeftRecursion-clause-ranks c = grind (arith, common_steps)
+
+pub returns-in_err-name_of-in-Err-LeftRecursion-clause-admissible : goal.returns-in_err-name_of-in-Err-LeftRecursion-clause-admissible
+returns-in_err-name_of-in-Err-LeftRecursion-clause-admissible c = grind (arith, common_steps)
+
+pub returns-in_err-name_of-in-Err-LeftRecursion-clause-err : goal.returns-in_err-name_of-in-Err-LeftRecursion-clause-err
+returns-in_err-name_of-in-Err-LeftRecursion-clause-err c = grind (arith, common_steps)
+
+pub returns-in-Ok-clause-ranks : goal.returns-in-Ok-clause-ranks
+returns-in-Ok-clause-ranks c = grind (arith, common_steps)
+
+pub returns-in-Ok-clause-admissible : goal.returns-in-Ok-clause-admissible
+returns-in-Ok-clause-admissible c = grind (arith, common_steps)
+
+pub returns-in_ok-name_of-in-Err-EmptyLoop-clause-err : goal.returns-in_ok-name_of-in-Err-EmptyLoop-clause-err
+returns-in_ok-name_of-in-Err-EmptyLoop-clause-err c = grind (arith, common_steps)
+
+pub returns-in_ok-name_of-in-Err-LeftRecursion-clause-err : goal.returns-in_ok-name_of-in-Err-LeftRecursion-clause-err
+returns-in_ok-name_of-in-Err-LeftRecursion-clause-err c = grind (arith, common_steps)

@@ -1,0 +1,36 @@
+use Rattle.std.proofs.Common.{arith}
+use Rattle.std.proofs.lemmas.Grind.{common_steps}
+use Rattle.ux_net.proofs.split.split_item.Goals as goal
+
+pub returns-in-Literal : goal.returns-in-Literal
+returns-in-Literal c = grind (arith, common_steps)
+
+pub returns-in-Quoted : goal.returns-in-Quoted
+returns-in-Quoted c = grind (arith, common_steps)
+
+pub returns-in_err-push-in-Glue : goal.returns-in_err-push-in-Glue
+returns-in_err-push-in-Glue c = grind (arith, common_steps)
+
+pub returns-in-Glue : goal.returns-in-Glue
+returns-in-Glue c = grind (arith, common_steps)
+
+pub returns-in_err-push-in-Empty : goal.returns-in_err-push-in-Empty
+returns-in_err-push-in-Empty c = grind (arith, common_steps)
+
+pub returns-in-Empty : goal.returns-in-Empty
+returns-in-Empty c = grind (arith, common_steps)
+
+pub push_call-requires-clause-few : goal.push_call-requires-clause-few
+push_call-requires-clause-few c = grind (arith, common_steps)
+
+pub push_call-requires-clause-there : goal.push_call-requires-clause-there
+push_call-requires-clause-there c = grind (arith, common_steps)
+
+pub returns-in-Call : goal.returns-in-Call
+returns-in-Call c = grind (arith, common_steps)
+
+pub unreachable-requires : goal.unreachable-requires
+unreachable-requires c = grind (arith, common_steps)
+
+pub unreachable-unreachable : goal.unreachable-unreachable
+unreachable-unreachable c = grind (arith, common_steps)
