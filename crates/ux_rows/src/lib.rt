@@ -2,7 +2,8 @@
 //!
 //! A crate is proved once more with its tests, so those of the libraries stand here, a file a crate:
 //! printed refusals, faults of folders and sinks, and each public call once. `comparing` compares a
-//! row's text, and `graphs` makes small grammars for the rows on nets and walks. The rows of the top call stand in the program's crate.
+//! row's answer, and `graphs` makes small grammars for the rows on nets and walks. The rows of the top
+//! call stand in the program's crate.
 #![tactic(auto)]
 
 #[cfg(test)]

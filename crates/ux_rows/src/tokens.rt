@@ -151,7 +151,7 @@ fn cuts_many_protected_braces(rt: HostRuntime) -> Result<(), Fail> {
     Ok(())
 }
 
-/// The line of the entry of a tag.
+/// The line of a tag's entry, or that the token is no tag.
 fn entry_of(alloc: Global, text: &Text, place: usize) -> Mem<String> {
     if place >= text.len() {
         return Ok(String::from_str(alloc, "no token")?);
