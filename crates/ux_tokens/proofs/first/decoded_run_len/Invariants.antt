@@ -1,6 +1,6 @@
 use Rattle.std.specs.Str.Iter.{char_indices_offset, char_indices_rest}
 use Rattle.ux_tokens.proofs.FirstLemmas.{IsRun}
-use Rattle.ux_tokens.proofs.first.decoded_word_len.Given as goal
+use Rattle.ux_tokens.proofs.first.decoded_run_len.Given as goal
 
 -- the characters so far are letters
 abbrev pub invariant-loop-place : goal.invariant-loop-place

@@ -3,7 +3,7 @@ use Rattle.std.proofs.lemmas.Grind.{common_steps}
 use Rattle.std.specs.Str.Iter.{char_indices_offset, char_indices_rest}
 use Rattle.std.proofs.lemmas.Str.{length-encode}
 use Rattle.ux_tokens.proofs.FirstLemmas.{run_start, run_more, run_ends, run_is_all, run_ends_all}
-use Rattle.ux_tokens.proofs.first.decoded_word_len.Goals as goal
+use Rattle.ux_tokens.proofs.first.decoded_run_len.Goals as goal
 
 pub loop-place-init : goal.loop-place-init
 loop-place-init c =

@@ -1,6 +1,6 @@
 use Rattle.std.proofs.Common.{drop}
 use Rattle.ux_tokens.proofs.FirstLemmas.{IsRun}
-use Rattle.ux_tokens.proofs.first.word_len.Given as goal
+use Rattle.ux_tokens.proofs.first.run_len.Given as goal
 
 -- the bytes so far are letters
 abbrev pub invariant-loop-place : goal.invariant-loop-place
