@@ -1,19 +1,42 @@
-# `make example` proves and builds the program, searches the text of examples/ by its graphs, checks its dictionary, and
-# applies it to another text.
+# `make example` searches the text of examples/ by its graphs, in a minute or two: the program is compiled and run, and
+# nothing is proved.
+# `make build` proves all crates that the program stands on, lowest first, and builds it: crates/unitex/out/unitex.
+# `make tour` runs every example of the documents by the built program, and compares with what they show.
 # `make install PREFIX=DIR` puts the built program and its manual page under DIR.
-# `make bench` times searches beside GNU grep, the tokens of a text beside a C program, and dictionaries beside wc and grep.
+# `make bench` times searches beside GNU grep, the tokens of a text beside a C program, and dictionaries beside wc and
+# grep.
+# `make gate` is the merge gate and the test command.
 
 PREFIX ?= /usr/local
 
-.PHONY: example install bench gate
+.PHONY: example build tour install bench gate
+
+# A run by `rt try` is given copies of these, since it sees no files but those that it is handed.
+FILES := time.grf part.grf text.txt alphabet.txt
+
+# In the order of crates.txt, which begins with the lowest layer. `ux_rows` has tests alone, so no program needs it.
+CRATES := $(filter-out ux_rows,$(shell sed -n 's/^\([a-z0-9_]*\).*:.*/\1/p' crates.txt))
 
 example:
-	@cd crates/unitex && rt run -- locate ../../examples/time.grf ../../examples/text.txt ../../examples/alphabet.txt
-	@crates/unitex/out/unitex check examples/animals.dic
-	@crates/unitex/out/unitex dico examples/animals.txt examples/alphabet.txt examples/animals.dic
+	@echo 'unitex locate time.grf text.txt alphabet.txt, unproved: compiling, about a minute'
+	@cd crates/unitex && rt try $(foreach file,$(FILES),--data $(file)=../../examples/$(file)) \
+		-- locate time.grf text.txt alphabet.txt
+	@echo 'This run was unproved. "make build" proves the program before it builds it.'
+
+build:
+	@log=$$(mktemp); number=0; for crate in $(CRATES); do \
+		number=$$((number + 1)); echo "crate $$number of $(words $(CRATES)): $$crate"; \
+		case $$crate in unitex) task='run -- --version';; *) task=lib;; esac; \
+		(cd crates/$$crate && rt $$task) >"$$log" 2>&1 || { cat "$$log" >&2; rm "$$log"; exit 1; }; \
+	done; rm "$$log"
+	@echo 'proved and built: crates/unitex/out/unitex'
+
+tour:
+	@docs/names.py
+	@docs/tour.py
 
 install:
-	@test -x crates/unitex/out/unitex || { echo 'build the program first: make example' >&2; exit 1; }
+	@test -x crates/unitex/out/unitex || { echo 'build the program first: make build' >&2; exit 1; }
 	install -D -m 755 crates/unitex/out/unitex $(DESTDIR)$(PREFIX)/bin/unitex
 	install -D -m 644 docs/unitex.1 $(DESTDIR)$(PREFIX)/share/man/man1/unitex.1
 

@@ -2,7 +2,7 @@
 """Times `unitex check` on generated dictionaries of forms of 150,000, 300,000 and 1,000,000 lines, a third of them
 compounds, beside `wc -l`. Prints the best of three runs, and peak memory by the file's size.
 
-Needs the built program (make example) and a folder to write to (bench/data).
+Needs the built program (make build) and a folder to write to (bench/data).
 """
 import os
 import random

@@ -3,7 +3,7 @@
 2 and 4 MB, beside `grep -o -w -F -f` with the forms alone over the same text. Prints the best of three runs in turn, and
 peak memory by the size of the two files.
 
-Needs the built program (make example) and a folder to write to (bench/data).
+Needs the built program (make build) and a folder to write to (bench/data).
 """
 import os
 import random

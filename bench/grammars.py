@@ -2,7 +2,7 @@
 """Searches by grammars, timed: an alternation of phrases beside GNU grep, calls of some depth, and the
 compilation of many graphs. Prints the best of three runs, what each found, and peak memory.
 
-Needs the built program (make example), GNU grep and a folder to write to (bench/data).
+Needs the built program (make build), GNU grep and a folder to write to (bench/data).
 """
 import os
 import random

@@ -1,12 +1,12 @@
 #!/usr/bin/env bash
 # Searches a text of 16 MB for one word, by `unitex locate` and by GNU grep in turn, and prints the best
 # of five runs of each, the hits that each found, and the peak memory of each.
-# Needs the built program (make example), GNU grep, awk and python3.
+# Needs the built program (make build), GNU grep, awk and python3.
 set -euo pipefail
 here=$(cd "$(dirname "$0")" && pwd)
 program=$here/../crates/unitex/out/unitex
 data=$here/data
-[ -x "$program" ] || { echo "build the program first: make example" >&2; exit 1; }
+[ -x "$program" ] || { echo "build the program first: make build" >&2; exit 1; }
 
 mkdir -p "$data"
 text=$data/text.txt

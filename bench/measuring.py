@@ -13,7 +13,7 @@ RUNS = 3
 def prepare():
     """Makes the folder of the data, and ends where the program isn't built."""
     if not os.access(PROGRAM, os.X_OK):
-        sys.exit("build the program first: make example")
+        sys.exit("build the program first: make build")
     os.makedirs(DATA, exist_ok=True)
 
 
@@ -45,7 +45,7 @@ def run(arguments, output=OUT, environment=None):
 
 
 def best(arguments, output=OUT, environment=None):
-    """The least time and the greatest memory of three runs, one behind the other."""
+    """The least time and the greatest memory of three runs, one after the other."""
     return least([run(arguments, output, environment) for _ in range(RUNS)])
 
 

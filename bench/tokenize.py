@@ -2,7 +2,7 @@
 """Times `unitex tokenize` on 16 MB in UTF-8 and on the same text in UTF-16LE beside a C program that does
 the same work and writes the same bytes (tokenize.c). Prints the best of five runs and peak memory.
 
-Needs the built program (make example), cc and a folder to write to (bench/data).
+Needs the built program (make build), cc and a folder to write to (bench/data).
 """
 import os
 import random

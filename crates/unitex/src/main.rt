@@ -14,7 +14,7 @@ use std::{env, io};
 use ux_base::{RealFolder, StdSink};
 use ux_run::{Status, run};
 
-/// The exit status where the system's words can't be had for another cause than want of memory.
+/// The exit status where the system's words can't be had though memory did not run out.
 const NO_WORDS: u8 = 8;
 
 fn main(rt: HostRuntime) -> ExitCode {
@@ -39,7 +39,7 @@ fn main(rt: HostRuntime) -> ExitCode {
     }
 }
 
-/// The words behind the program's name.
+/// The words after the program's name.
 fn words<R: env::Env + AllocGlobal>(rt: &R) -> io::Result<Vec<String>> {
     let mut words = Vec::new(rt.alloc());
     for word in env::args(rt)?.skip(1) {

@@ -1,9 +1,10 @@
 -- Small alphabet files, read by hand.
-use Rattle.std.proofs.Common.{◌≡◌, [], ◌∷◌, ◌++◌, Ok, Err, refl}
+use Rattle.std.proofs.Common.{◌≡◌, ℕ, List, [], ◌∷◌, ◌++◌, ap, get_or, arith, refl}
 use Rattle.std.specs.Prelude.{codes}
 use Rattle.std.specs.Str.{chars}
-use Rattle.ux_alphabet.specs.File.{without_blanks, alphabet_of}
-use Rattle.ux_alphabet.specs.declared.line.Line.TheVariants.{Pair, Range}
+use Rattle.ux_base.specs.EachLine.{no_line, line_then, this_line, later_line}
+use Rattle.ux_alphabet.specs.File.{without_blanks, nothing, single, pair, range, AreLines, Refuses}
+use Rattle.ux_alphabet.specs.declared.line.Line.TheVariants.{Single, Pair, Range}
 use Rattle.ux_alphabet.specs.declared.error.AlphabetError.TheVariants.{BadLine, EmptyRange}
 
 -- blanks are taken off the end alone
@@ -11,17 +12,30 @@ without_blanks-example : without_blanks (codes " a  ") ≡ codes " a"
 without_blanks-example = refl
 
 -- `Aa`, an empty line, and the digits
-alphabet_of-example : alphabet_of (65 ∷ 97 ∷ 10 ∷ 32 ∷ 13 ∷ 10 ∷ codes "#09") ≡
-    Ok (Pair 65 97 ∷ (Range 48 57 ∷ []))
+three_lines : AreLines (65 ∷ 97 ∷ 10 ∷ 32 ∷ 13 ∷ 10 ∷ codes "#09")
+    (Pair 65 97 ∷ (Range 48 57 ∷ []))
 unfolding chars
-alphabet_of-example = refl
+three_lines =
+    line_then _ _ (Pair 65 97 ∷ []) _ (pair _ 65 97 refl)
+    (line_then _ _ [] _ (nothing _ refl)
+    (line_then _ _ (Range 48 57 ∷ []) [] (range _ 48 57 refl (omega arith)) no_line))
 
 -- the second line is a range from `Z` back to `A`, and the third is no line at all
-alphabet_of-refused :
-    alphabet_of (codes "#" ++ 10 ∷ codes "#ZA" ++ 10 ∷ codes "abc") ≡ Err (EmptyRange 2)
+range_refused : Refuses (codes "#" ++ 10 ∷ codes "#ZA" ++ 10 ∷ codes "abc") (EmptyRange 2)
 unfolding chars
-alphabet_of-refused = refl
+range_refused =
+    later_line _ _ _ (Single 35 ∷ []) _ (single _ 35 refl)
+    (this_line _ _ _ _ (refl, (90, 65, refl, omega arith)))
 
-alphabet_of-bad : alphabet_of (codes "##" ++ 10 ∷ codes " #A") ≡ Err (BadLine 2)
+-- a blank at the start is a character
+bad_refused : Refuses (codes "##" ++ 10 ∷ codes " #A") (BadLine 2)
 unfolding chars
-alphabet_of-bad = refl
+bad_refused =
+    later_line _ _ _ (Pair 35 35 ∷ []) _ (pair _ 35 35 refl)
+    (this_line _ _ _ _ (
+      refl,
+      record {
+        many = omega arith;
+        no_range = λ first last is. (let sign = ap (λ (cs : List ℕ). get_or cs 0 0) is in omega (arith, sign));
+      },
+    ))

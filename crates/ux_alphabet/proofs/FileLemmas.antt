@@ -1,83 +1,111 @@
--- Lines without the blanks at their end, and how many lines a file has.
-use Rattle.std.proofs.Common.{arith, length-append, ◌≡◌, ℕ, ◌<◌, ◌≤◌, ◌+◌, ◌-◌, List, [], ◌∷◌, ◌++◌, refl, sym, ◌∙◌, ap, cond, eqb, Bool, true, false, length, take, get_or}
-use Rattle.std.specs.List.{slice_range}
-use Rattle.std.proofs.lemmas.List.{take_more}
-use Rattle.std.proofs.lemmas.Grind.{common_steps}
-use Rattle.std.proofs.lemmas.Bool.Decides.{nat_tests}
-use Rattle.ux_alphabet.specs.File.{is_blank, EndsInBlank, IsLessOneBlank, put_front, without_blanks}
-use Rattle.ux_base.specs.Lines.{lines_of, lines_behind, LINE_FEED, without_return}
+-- An alphabet file has one list of lines, or one refusal, and never both.
+use Rattle.std.proofs.Common.{arith, ◌≡◌, ℕ, List, [], ◌∷◌, refl, sym, ◌∙◌, ap, get_or, length}
+use Rattle.ux_base.specs.Lines.{lines_of}
+use Rattle.ux_base.proofs.EachLineLemmas.{not_refused, said_once, refused_in_one_way}
+use Rattle.ux_alphabet.specs.File.{characters_of, LineSays, nothing, single, pair, range, IsBadLine, IsEmptyRange, RefusesLine, AreLines, Refuses}
+use Rattle.ux_alphabet.specs.declared.line.Line.{Line}
+use Rattle.ux_alphabet.specs.declared.line.Line.TheVariants.{Single, Pair, Range}
+use Rattle.ux_alphabet.specs.declared.error.AlphabetError.{AlphabetError}
+use Rattle.ux_alphabet.specs.declared.error.AlphabetError.TheVariants.{BadLine, EmptyRange, NoMemory}
 
--- a blank is ASCII
-is_blank-ascii : (b : ℕ) → is_blank b ≡ true → b < 128
-is_blank-ascii b h = grind (arith, nat_tests)
+module _ (text : List ℕ) where
+  -- the characters of a line are as many in one telling as in another
+  as_many : (some other : List ℕ) → characters_of text ≡ some → characters_of text ≡ other →
+      length some ≡ length other
+  as_many some other is also = ap length (sym is ∙ also)
 
-pub end-ascii : (line : List ℕ) → EndsInBlank line → get_or line (length line - 1) 0 < 128
-end-ascii line h = is_blank-ascii (get_or line (length line - 1) 0) h.1
+  -- and each stands at its place
+  same_at : (place : ℕ) (some other : List ℕ) → characters_of text ≡ some →
+      characters_of text ≡ other → get_or some place 0 ≡ get_or other place 0
+  same_at place some other is also = ap (λ (cs : List ℕ). get_or cs place 0) (sym is ∙ also)
 
-is_false : (b : Bool) → (b ≡ true → ⊥) → b ≡ false
-is_false true h = absurd (h refl)
-is_false false h = refl
+-- a line says one thing only
+pub says_once : (text : List ℕ) (said other : List Line) → LineSays text said →
+    LineSays text other → said ≡ other
+says_once text said other (nothing t is) (nothing u also) = refl
+says_once text said other (nothing t is) (single u letter also) =
+    absurd (omega (arith, as_many text _ _ is also))
+says_once text said other (nothing t is) (pair u upper lower also) =
+    absurd (omega (arith, as_many text _ _ is also))
+says_once text said other (nothing t is) (range u first last also le) =
+    absurd (omega (arith, as_many text _ _ is also))
+says_once text said other (single t letter is) (nothing u also) =
+    absurd (omega (arith, as_many text _ _ is also))
+says_once text said other (single t letter is) (single u same also) =
+    ap (λ c. Single c ∷ []) (same_at text 0 _ _ is also)
+says_once text said other (single t letter is) (pair u upper lower also) =
+    absurd (omega (arith, as_many text _ _ is also))
+says_once text said other (single t letter is) (range u first last also le) =
+    absurd (omega (arith, as_many text _ _ is also))
+says_once text said other (pair t upper lower is) (nothing u also) =
+    absurd (omega (arith, as_many text _ _ is also))
+says_once text said other (pair t upper lower is) (single u letter also) =
+    absurd (omega (arith, as_many text _ _ is also))
+says_once text said other (pair t upper lower is) (pair u high low also) =
+    ap (λ c. Pair c lower ∷ []) (same_at text 0 _ _ is also)
+    ∙ ap (λ c. Pair high c ∷ []) (same_at text 1 _ _ is also)
+says_once text said other (pair t upper lower is) (range u first last also le) =
+    absurd (omega (arith, as_many text _ _ is also))
+says_once text said other (range t first last is le) (nothing u also) =
+    absurd (omega (arith, as_many text _ _ is also))
+says_once text said other (range t first last is le) (single u letter also) =
+    absurd (omega (arith, as_many text _ _ is also))
+says_once text said other (range t first last is le) (pair u upper lower also) =
+    absurd (omega (arith, as_many text _ _ is also))
+says_once text said other (range t first last is le) (range u from to also less) =
+    ap (λ c. Range c last ∷ []) (same_at text 1 _ _ is also)
+    ∙ ap (λ c. Range from c ∷ []) (same_at text 2 _ _ is also)
 
-push_blank : (line : List ℕ) (b : ℕ) → is_blank b ≡ true →
-    without_blanks (line ++ b ∷ []) ≡ without_blanks line
-push_blank [] b h = ap (λ t. cond t [] (b ∷ [])) h
-push_blank (c ∷ line) b h = ap (put_front c) (push_blank line b h)
+-- a line that says something is not refused
+bad_excluded : (text : List ℕ) (said : List Line) → LineSays text said → IsBadLine text → ⊥
+bad_excluded text said (nothing t is) bad = omega (arith, ap length is, bad.many)
+bad_excluded text said (single t letter is) bad = omega (arith, ap length is, bad.many)
+bad_excluded text said (pair t upper lower is) bad = omega (arith, ap length is, bad.many)
+bad_excluded text said (range t first last is le) bad = bad.no_range first last is
 
-put_front-longer : (c b : ℕ) (line : List ℕ) → put_front c (line ++ b ∷ []) ≡ c ∷ (line ++ b ∷ [])
-put_front-longer c b [] = refl
-put_front-longer c b (d ∷ line) = refl
+empty_excluded : (text : List ℕ) (said : List Line) → LineSays text said → IsEmptyRange text → ⊥
+empty_excluded text said (nothing t is) empty = omega (arith, as_many text _ _ is empty.2)
+empty_excluded text said (single t letter is) empty = omega (arith, as_many text _ _ is empty.2)
+empty_excluded text said (pair t upper lower is) empty = omega (arith, as_many text _ _ is empty.2)
+empty_excluded text said (range t first last is le) empty =
+    omega (arith, le, empty.3, same_at text 1 _ _ is empty.2, same_at text 2 _ _ is empty.2)
 
-push_other : (line : List ℕ) (b : ℕ) → is_blank b ≡ false →
-    without_blanks (line ++ b ∷ []) ≡ line ++ b ∷ []
-push_other [] b h = ap (λ t. cond t [] (b ∷ [])) h
-push_other (c ∷ line) b h = ap (put_front c) (push_other line b h) ∙ put_front-longer c b line
+pub says_excluded : (text : List ℕ) (number : ℕ) (said : List Line) (error : AlphabetError) →
+    LineSays text said → RefusesLine text number error → ⊥
+says_excluded text number said (BadLine line) says refuses =
+    bad_excluded text said says refuses.1
+says_excluded text number said (EmptyRange line) says refuses =
+    empty_excluded text said says refuses.1
+says_excluded text number said NoMemory says refuses = refuses
 
-front_and_last : (line : List ℕ) → 0 < length line →
-    line ≡ take (length line - 1) line ++ get_or line (length line - 1) 0 ∷ []
-front_and_last line h = grind (arith, common_steps, take_more line (length line - 1) 0)
+-- a line is refused in one way only
+pub line_refused_once : (text : List ℕ) (number : ℕ) (one other : AlphabetError) →
+    RefusesLine text number one → RefusesLine text number other → one ≡ other
+line_refused_once text number (BadLine n) (BadLine m) r s = ap BadLine (r.0 ∙ sym s.0)
+line_refused_once text number (BadLine n) (EmptyRange m) r s =
+    absurd (r.1.no_range s.1.0 s.1.1 s.1.2)
+line_refused_once text number (BadLine n) NoMemory r s = absurd s
+line_refused_once text number (EmptyRange n) (BadLine m) r s =
+    absurd (s.1.no_range r.1.0 r.1.1 r.1.2)
+line_refused_once text number (EmptyRange n) (EmptyRange m) r s = ap EmptyRange (r.0 ∙ sym s.0)
+line_refused_once text number (EmptyRange n) NoMemory r s = absurd s
+line_refused_once text number NoMemory other r s = absurd r
 
--- the line without its last character, a blank
-pub strip_blank-blank : (line front : List ℕ) → EndsInBlank line →
-    front ≡ slice_range line 0 (length line - 1) →
-    IsLessOneBlank line front
-strip_blank-blank line front h is =
-    let end = length line - 1 in
-    let last = get_or line end 0 in
-    let whole = front_and_last line h.0 in
-    let from_start : end - 0 ≡ end = omega arith in
-    let cut : front ≡ take end line = is ∙ ap (λ n. take n line) from_start in
-    let taken = push_blank (take end line) last h.1 in
-    let longer = length-append (take end line) (last ∷ []) in (
-      ap without_blanks cut ∙ sym taken ∙ sym (ap without_blanks whole),
-      omega (arith, ap length cut, ap length whole, longer),
-    )
+-- a file has one list of lines
+pub lines_are_unique : (text : List ℕ) (lines other : List Line) → AreLines text lines →
+    AreLines text other → lines ≡ other
+lines_are_unique text lines other are also =
+    said_once LineSays RefusesLine says_once (lines_of text) lines other are also
 
--- nothing is taken off where no blank ends the line
-pub strip_blank-other : (line : List ℕ) → (EndsInBlank line → ⊥) → without_blanks line ≡ line
-strip_blank-other [] h = refl
-strip_blank-other (c ∷ line) h =
-    let some : 0 < length (c ∷ line) = omega arith in
-    let whole = front_and_last (c ∷ line) some in
-    let last = get_or (c ∷ line) (length (c ∷ line) - 1) 0 in
-    let other = is_false (is_blank last) (λ blank. h (some, blank)) in
-    let kept = push_other (take (length (c ∷ line) - 1) (c ∷ line)) last other in
-    ap without_blanks whole ∙ kept ∙ sym whole
+-- a file that has lines is not refused
+pub lines_not_refused : (text : List ℕ) (lines : List Line) (error : AlphabetError) →
+    AreLines text lines → Refuses text error → ⊥
+lines_not_refused text lines error are refuses =
+    not_refused LineSays RefusesLine says_excluded (lines_of text) 1 lines error are refuses
 
--- a text has at most as many lines as bytes
-lines_behind-count : (text front : List ℕ) →
-    length (lines_behind text front) ≤ length text + length front
-lines_behind-count [] [] = omega arith
-lines_behind-count [] (c ∷ front) = omega arith
-lines_behind-count (b ∷ text) front =
-    let ended = without_return front ∷ lines_behind text [] in
-    let longer = lines_behind text (front ++ b ∷ []) in
-    let bytes = length (b ∷ text) + length front in
-    elim (eqb b LINE_FEED) as (λ t. length (cond t ended longer) ≤ bytes) [
-      | true ↦ omega (arith, lines_behind-count text [])
-      | false ↦ (
-          let later = lines_behind-count text (front ++ b ∷ []) in
-          omega (arith, later, length-append front (b ∷ [])))
-    ]
-
-pub lines_of-count : (text : List ℕ) → length (lines_of text) ≤ length text
-lines_of-count text = omega (arith, lines_behind-count text [])
+-- no file is refused in two ways
+pub refused_once : (text : List ℕ) (one other : AlphabetError) → Refuses text one →
+    Refuses text other → one ≡ other
+refused_once text one other r s =
+    refused_in_one_way LineSays RefusesLine says_excluded line_refused_once (lines_of text) 1
+    one other r s

@@ -1,6 +1,8 @@
 pub mod AnyLemmas
+pub mod BlankLemmas
 mod Examples
 pub mod FileLemmas
+pub mod LineLemmas
 pub mod PairLemmas
 pub mod SpanLemmas
 pub mod TableLemmas

@@ -1,7 +1,7 @@
 -- A table of the spans of the lines is one of the letters.
 use Rattle.std.proofs.Common.{arith, ◌≡◌, ◌↔◌, ℕ, ◌≤◌, List, map, Bool, false, get_or, subst, inl, inr}
 use Rattle.std.specs.Prelude.{IsTrue}
-use Rattle.ux_alphabet.specs.Letters.{IsUpper, IsLower, IsLetter, NamesUpper, NamesLower}
+use Rattle.ux_alphabet.specs.Letters.{letters_of, IsUpper, IsLower, IsLetter, NamesUpper, NamesLower}
 use Rattle.ux_alphabet.specs.Spans.{upper_span, lower_span, Holds, IsTableOf}
 use Rattle.ux_alphabet.specs.Tables.{IsEither}
 use Rattle.ux_alphabet.specs.declared.line.Line.{Line}
@@ -24,7 +24,7 @@ lower_span-names c (Range first last) = (λ h. h, λ h. h)
 
 pub IsUpper-table : (lines : List Line) (spans : List Span) (table : List Bool) →
     spans ≡ map upper_span lines →
-    IsTableOf spans table → (c : ℕ) → IsTrue (get_or table c false) ↔ IsUpper lines c
+    IsTableOf spans table → (c : ℕ) → IsTrue (get_or table c false) ↔ IsUpper (letters_of lines) c
 IsUpper-table lines spans table are is c =
     let mark = subst (λ (s : List Span). IsTableOf s table) are is c in
     let names = Any-map upper_span (Holds c) (λ line. NamesUpper line c)
@@ -33,7 +33,7 @@ IsUpper-table lines spans table are is c =
 
 pub IsLower-table : (lines : List Line) (spans : List Span) (table : List Bool) →
     spans ≡ map lower_span lines →
-    IsTableOf spans table → (c : ℕ) → IsTrue (get_or table c false) ↔ IsLower lines c
+    IsTableOf spans table → (c : ℕ) → IsTrue (get_or table c false) ↔ IsLower (letters_of lines) c
 IsLower-table lines spans table are is c =
     let mark = subst (λ (s : List Span). IsTableOf s table) are is c in
     let names = Any-map lower_span (Holds c) (λ line. NamesLower line c)
@@ -41,9 +41,9 @@ IsLower-table lines spans table are is c =
     (λ t. let m = mark.0 t in (m.0, names.0 m.1), λ l. mark.1 (l.0, names.1 l.1))
 
 pub IsLetter-table : (lines : List Line) (upper lower letter : List Bool) →
-    ((c : ℕ) → IsTrue (get_or upper c false) ↔ IsUpper lines c) →
-    ((c : ℕ) → IsTrue (get_or lower c false) ↔ IsLower lines c) →
-    IsEither upper lower letter → (c : ℕ) → IsTrue (get_or letter c false) ↔ IsLetter lines c
+    ((c : ℕ) → IsTrue (get_or upper c false) ↔ IsUpper (letters_of lines) c) →
+    ((c : ℕ) → IsTrue (get_or lower c false) ↔ IsLower (letters_of lines) c) →
+    IsEither upper lower letter → (c : ℕ) → IsTrue (get_or letter c false) ↔ IsLetter (letters_of lines) c
 IsLetter-table lines upper lower letter uppers lowers either c = (
   λ t. elim ((either c).0 t) [
     | inl u ↦ inl ((uppers c).0 u)

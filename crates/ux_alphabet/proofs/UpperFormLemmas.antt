@@ -4,7 +4,7 @@ use Rattle.std.specs.Prelude.{IsTrue}
 use Rattle.std.specs.List.{All, Any, Contains}
 use Rattle.std.proofs.lemmas.Bool.{cases_eq}
 use Rattle.std.proofs.lemmas.List.{get_or-set_same, get_or-set_other, length-set, take_more}
-use Rattle.ux_alphabet.specs.Letters.{FitsAlone}
+use Rattle.ux_alphabet.specs.Letters.{letters_of, FitsAlone}
 use Rattle.ux_alphabet.specs.Tables.{NamesUpperForm, AreUpperForms}
 use Rattle.ux_alphabet.specs.declared.line.Line.{Line}
 use Rattle.ux_alphabet.specs.declared.line.Line.TheVariants.{Single, Pair, Range}
@@ -79,7 +79,7 @@ IsMarkedUpTo-same lines i table lt none before =
 
 -- a character that is no upper-case form of another one is fitted by itself alone, and no other is
 fitted_alone : (lines : List Line) (c : ℕ) → (Any (λ line. NamesUpperForm line c) lines → ⊥) →
-    FitsAlone lines c
+    FitsAlone (letters_of lines) c
 fitted_alone lines c none entry (inl same) = same
 fitted_alone lines c none entry (inr (k, lt, is)) =
     elim (cases_eq entry c) [
@@ -89,7 +89,7 @@ fitted_alone lines c none entry (inr (k, lt, is)) =
 
 -- the line as one of the list
 other_of : (lines : List Line) (c : ℕ) (line : Line) → Contains lines line →
-    NamesUpperForm line c → FitsAlone lines c → ⊥
+    NamesUpperForm line c → FitsAlone (letters_of lines) c → ⊥
 other_of lines c (Single letter) within names alone = names
 other_of lines c (Range first last) within names alone = names
 other_of lines c (Pair upper lower) within names alone =
@@ -97,7 +97,7 @@ other_of lines c (Pair upper lower) within names alone =
     names.1 (alone lower (inr pair))
 
 fitted_by_other : (lines : List Line) (c : ℕ) → Any (λ line. NamesUpperForm line c) lines →
-    FitsAlone lines c → ⊥
+    FitsAlone (letters_of lines) c → ⊥
 fitted_by_other lines c (k, line, lt, is, names) = other_of lines c line (k, lt, is) names
 
 unmarked : (marked : Bool) (some alone : Type 0) → IsTrue marked ↔ some → (some → alone → ⊥) →
@@ -108,8 +108,8 @@ unmarked false some alone mark other none = (λ _. none (λ s. cc (mark.1 s)), �
 
 pub FitsAlone-unmarked : (lines : List Line) (table : List Bool) (c : ℕ) (marked : Bool) →
     marked ≡ get_or table c false → AreUpperForms lines table →
-    IsTrue (not marked) ↔ FitsAlone lines c
+    IsTrue (not marked) ↔ FitsAlone (letters_of lines) c
 FitsAlone-unmarked lines table c marked read are =
     let some = Any (λ line. NamesUpperForm line c) lines in
     let mark = subst (λ (b : Bool). IsTrue b ↔ some) (sym read) (are c) in
-    unmarked marked some (FitsAlone lines c) mark (fitted_by_other lines c) (fitted_alone lines c)
+    unmarked marked some (FitsAlone (letters_of lines) c) mark (fitted_by_other lines c) (fitted_alone lines c)

@@ -1,12 +1,13 @@
--- How an alphabet file is read: each line by itself, and the file as the lines that say something
--- or the first refusal. The manual, on alphabet files.
-use Rattle.std.specs.Prelude.{ℕ, ◌<◌, ◌-◌, ◌≡◌, true, length, slice_index, ◌==◌, ◌+◌, ◌||◌, nat_lt, Bool, List, [], ◌∷◌, ◌++◌, if◌then◌else◌, Option, None, Some, Result, Ok, Err}
+-- How an alphabet file is read: each line by itself, up to the first one that is refused. The manual,
+-- on alphabet files. Public: what `Alphabet::read` answers is told by it.
+use Rattle.std.specs.Prelude.{ℕ, ◌<◌, ◌≤◌, ◌-◌, ◌≡◌, true, length, slice_index, ◌==◌, ◌||◌, Bool, List, [], ◌∷◌, if◌then◌else◌}
 use Rattle.std.specs.Str.{chars}
+use Rattle.ux_base.specs.EachLine.{AreSaid, IsRefused}
 use Rattle.ux_base.specs.Lines.{lines_of}
 use Rattle.ux_alphabet.specs.declared.line.Line.{Line}
 use Rattle.ux_alphabet.specs.declared.line.Line.TheVariants.{Single, Pair, Range}
 use Rattle.ux_alphabet.specs.declared.error.AlphabetError.{AlphabetError}
-use Rattle.ux_alphabet.specs.declared.error.AlphabetError.TheVariants.{BadLine, EmptyRange}
+use Rattle.ux_alphabet.specs.declared.error.AlphabetError.TheVariants.{BadLine, EmptyRange, NoMemory}
 
 -- a space or a tab
 abbrev pub is_blank : ℕ → Bool
@@ -16,61 +17,61 @@ is_blank c = c == 32 || c == 9
 abbrev pub EndsInBlank : List ℕ → Type 0
 EndsInBlank line = (0 < length line) × (is_blank (slice_index line (length line - 1)) ≡ true)
 
--- a character in front of a line without blanks at its end; in front of nothing, a blank is one
-abbrev pub put_front : ℕ → List ℕ → List ℕ
-put_front c [] = if is_blank c then [] else c ∷ []
-put_front c (d ∷ line) = c ∷ (d ∷ line)
+-- a character before a line without blanks at its end; before nothing, a blank is at the end
+abbrev pub put_first : ℕ → List ℕ → List ℕ
+put_first c [] = if is_blank c then [] else c ∷ []
+put_first c (d ∷ line) = c ∷ (d ∷ line)
 
 -- the line without the spaces and tabs at its end
 abbrev pub without_blanks : List ℕ → List ℕ
 without_blanks [] = []
-without_blanks (c ∷ line) = put_front c (without_blanks line)
+without_blanks (c ∷ line) = put_first c (without_blanks line)
 
--- the front has fewer blanks at its end, and all else of the line
-abbrev pub IsLessOneBlank : (line front : List ℕ) → Type 0
-IsLessOneBlank line front =
-    (without_blanks front ≡ without_blanks line) × (length front < length line)
+-- the prefix has fewer blanks at its end, and all else of the line
+abbrev pub IsLessOneBlank : (line prefix : List ℕ) → Type 0
+IsLessOneBlank line prefix =
+    (without_blanks prefix ≡ without_blanks line) × (length prefix < length line)
 
 -- the sign that begins a range
 abbrev pub RANGE_SIGN : ℕ
 RANGE_SIGN = 35
 
--- all characters from the first to the last, of which there has to be one
-abbrev pub range_of : (number first last : ℕ) → Result (Option Line) AlphabetError
-range_of number first last =
-    if nat_lt last first then Err (EmptyRange number) else Ok (Some (Range first last))
+-- the characters of the line, but for the blanks at its end
+abbrev pub characters_of : List ℕ → List ℕ
+characters_of text = chars (without_blanks text)
 
--- what the characters of the line with this number say: nothing, where it has none
-abbrev pub meaning_of : ℕ → List ℕ → Result (Option Line) AlphabetError
-meaning_of number [] = Ok None
-meaning_of number (x ∷ []) = Ok (Some (Single x))
-meaning_of number (x ∷ (y ∷ [])) = Ok (Some (Pair x y))
-meaning_of number (x ∷ (y ∷ (z ∷ []))) =
-    if x == RANGE_SIGN then range_of number y z else Err (BadLine number)
-meaning_of number (x ∷ (y ∷ (z ∷ (more ∷ line)))) = Err (BadLine number)
+-- what a line says: nothing, one letter, two letters, or all characters from the first to the last
+pub data LineSays : List ℕ → List Line → Type 0 where
+  nothing : (text : List ℕ) → characters_of text ≡ [] → LineSays text []
+  single : (text : List ℕ) (letter : ℕ) → characters_of text ≡ letter ∷ [] →
+      LineSays text (Single letter ∷ [])
+  pair : (text : List ℕ) (upper lower : ℕ) → characters_of text ≡ upper ∷ (lower ∷ []) →
+      LineSays text (Pair upper lower ∷ [])
+  range : (text : List ℕ) (first last : ℕ) →
+      characters_of text ≡ RANGE_SIGN ∷ (first ∷ (last ∷ [])) → first ≤ last →
+      LineSays text (Range first last ∷ [])
 
-abbrev pub line_of : ℕ → List ℕ → Result (Option Line) AlphabetError
-line_of number text = meaning_of number (chars (without_blanks text))
+-- the line has more characters than two, and is no range
+pub record IsBadLine (text : List ℕ) : Type 0 where
+  pub many : 2 < length (characters_of text)
+  pub no_range : (first last : ℕ) →
+      characters_of text ≡ RANGE_SIGN ∷ (first ∷ (last ∷ [])) → ⊥
 
--- the lines so far and the later ones, where no later one is refused
-abbrev pub followed_by : List Line → Result (List Line) AlphabetError →
-    Result (List Line) AlphabetError
-followed_by lines (Ok later) = Ok (lines ++ later)
-followed_by lines (Err error) = Err error
+-- the first character of the range comes after its last one
+abbrev pub IsEmptyRange : List ℕ → Type 0
+IsEmptyRange text = (first last : ℕ) × (characters_of text ≡ RANGE_SIGN ∷ (first ∷ (last ∷ [])))
+    × (last < first)
 
--- a line's meaning and that of the later lines, or the first refusal
-abbrev pub joined : Result (Option Line) AlphabetError → Result (List Line) AlphabetError →
-    Result (List Line) AlphabetError
-joined (Ok None) later = later
-joined (Ok (Some line)) later = followed_by (line ∷ []) later
-joined (Err error) later = Err error
+-- why the line with this number is refused
+abbrev pub RefusesLine : List ℕ → ℕ → AlphabetError → Type 0
+RefusesLine text number (BadLine line) = (line ≡ number) × IsBadLine text
+RefusesLine text number (EmptyRange line) = (line ≡ number) × IsEmptyRange text
+RefusesLine text number NoMemory = ⊥
 
--- what lines say, of which the first has this number, or their first refusal
-abbrev pub alphabet_from : ℕ → List (List ℕ) → Result (List Line) AlphabetError
-alphabet_from number [] = Ok []
-alphabet_from number (text ∷ texts) =
-    joined (line_of number text) (alphabet_from (number + 1) texts)
+-- the lines of an alphabet file that say something
+abbrev pub AreLines : List ℕ → List Line → Type 0
+AreLines text lines = AreSaid LineSays (lines_of text) lines
 
--- what the lines of a file say, or the first refusal; lines count from 1
-abbrev pub alphabet_of : List ℕ → Result (List Line) AlphabetError
-alphabet_of text = alphabet_from 1 (lines_of text)
+-- why an alphabet file is refused; lines count from 1
+abbrev pub Refuses : List ℕ → AlphabetError → Type 0
+Refuses text error = IsRefused LineSays RefusesLine 1 (lines_of text) error

@@ -1,5 +1,5 @@
 -- Spans of characters, which a table is made of. A span whose first character comes after its last
--- one holds none.
+-- one holds none. Inner: the crate's own functions alone speak of it.
 use Rattle.std.specs.Prelude.{◌≡◌, ℕ, ◌+◌, ◌<◌, ◌≤◌, List, Any, Bool, false, IsTrue, slice_index, slice_index_or, length, ◌↔◌}
 use Rattle.ux_alphabet.specs.Letters.{never_letter}
 use Rattle.ux_alphabet.specs.declared.line.Line.{Line}

@@ -1,6 +1,7 @@
--- What the tables of an alphabet say of its lines.
+-- What the tables of an alphabet say of its lines. Inner: the crate's own functions alone speak of
+-- it.
 use Rattle.std.specs.Prelude.{◌≡◌, ℕ, List, Bool, false, IsTrue, slice_index_or, ◌↔◌, ◌⊎◌, Any, Contains}
-use Rattle.ux_alphabet.specs.Letters.{IsUpper, IsLower, IsLetter}
+use Rattle.ux_alphabet.specs.Letters.{letters_of, IsUpper, IsLower, IsLetter}
 use Rattle.ux_alphabet.specs.declared.line.Line.{Line}
 use Rattle.ux_alphabet.specs.declared.line.Line.TheVariants.{Single, Pair, Range}
 
@@ -29,8 +30,8 @@ AreUpperForms lines table = (c : ℕ) →
 -- upper-case forms of others; the pairs are those of the lines
 pub record AreTablesOf (lines : List Line) (upper lower letter forms : List Bool)
     (pairs : List (ℕ × ℕ)) : Type 0 where
-  pub uppers : (c : ℕ) → IsTrue (slice_index_or upper c false) ↔ IsUpper lines c
-  pub lowers : (c : ℕ) → IsTrue (slice_index_or lower c false) ↔ IsLower lines c
-  pub letters : (c : ℕ) → IsTrue (slice_index_or letter c false) ↔ IsLetter lines c
+  pub uppers : (c : ℕ) → IsTrue (slice_index_or upper c false) ↔ IsUpper (letters_of lines) c
+  pub lowers : (c : ℕ) → IsTrue (slice_index_or lower c false) ↔ IsLower (letters_of lines) c
+  pub letters : (c : ℕ) → IsTrue (slice_index_or letter c false) ↔ IsLetter (letters_of lines) c
   pub forms_are : AreUpperForms lines forms
   pub pairs_are : ArePairsOf lines pairs

@@ -1,8 +1,9 @@
 //! An alphabet, which tells letters and fitting characters.
 
-ghost use Rattle.std.specs.Prelude.{◌≡◌, ◌↔◌, ◌⊎◌, IsTrue, IfOk, IfErr, Ok, Err, []};
-ghost use Rattle.ux_alphabet.specs.File.{alphabet_of};
-ghost use Rattle.ux_alphabet.specs.Letters.{IsLetter, IsUpper, IsLower, Fits, FitsAlone};
+ghost use Rattle.std.specs.Prelude.{◌≡◌, ◌↔◌, ◌⊎◌, true, false, IsTrue, IfOk, IfErr, []};
+ghost use Rattle.ux_alphabet.specs.File.{AreLines, Refuses};
+ghost use Rattle.ux_alphabet.specs.Letters.{letters_of, IsLetter, IsUpper, IsLower, Fits, FitsAlone};
+ghost use Rattle.ux_alphabet.specs.declared.error.AlphabetError.{AlphabetError};
 ghost use Rattle.ux_alphabet.specs.declared.error.AlphabetError.TheVariants.{NoMemory};
 
 use crate::error::AlphabetError;
@@ -11,40 +12,67 @@ use crate::tables::Tables;
 use std::alloc::Global;
 use std::marker::Model;
 
-/// The letters of a language. Contracts see an alphabet as the list of its file's lines.
+/// The letters of a language. Contracts see an alphabet as the lines of its file, and whether each
+/// letter is a word of its own.
 #[derive(Drop)]
 pub struct Alphabet {
     tables: Option<Tables>,
+    single: bool,
 }
 
 impl Model for Alphabet {
-    ghost use Rattle.std.specs.Prelude.{List, unwrap_or, []};
-    ghost use Rattle.ux_alphabet.specs.declared.line.Line.{Line};
+    ghost use Rattle.std.specs.Prelude.{unwrap_or, []};
+    ghost use Rattle.ux_alphabet.specs.Letters.{Letters};
 
-    ghost Value = { List Line };
+    ghost Value = { Letters };
 
-    ghost view = { λ alphabet. unwrap_or alphabet.tables [] };
+    ghost view = { λ alphabet. record {
+      lines = unwrap_or alphabet.tables [];
+      single = alphabet.single;
+    } };
 }
 
 impl Alphabet {
     /// Reads an alphabet file. Of several refused lines the first is named.
     pub fn read(alloc: Global, text: &str) -> Result<Alphabet, AlphabetError>
-        ensures ok { IfOk result (λ alphabet. alphabet_of text.now ≡ Ok alphabet) }
-        ensures err { IfErr result (λ error.
-            (error ≡ NoMemory) ⊎ (alphabet_of text.now ≡ Err error)) }
+        ensures ok { IfOk result (λ alphabet. AreLines text.now alphabet.lines) }
+        ensures words { IfOk result (λ alphabet. alphabet.single ≡ false) }
+        ensures refused { IfErr result (λ error. (error ≡ NoMemory) ⊎ Refuses text.now error) }
+        ensures exact { IfOk result (λ _. (error : AlphabetError) → Refuses text.now error → ⊥) }
     {
         let lines = read_lines(alloc, text)?;
         let tables = Tables::of(alloc, lines)?;
         Ok(Alphabet {
             tables: Some(tables),
+            single: false,
         })
     }
 
     /// The alphabet without a letter. Takes no memory.
     pub fn empty() -> Alphabet
-        ensures { result ≡ [] }
+        ensures { result ≡ letters_of [] }
     {
-        Alphabet { tables: None }
+        Alphabet {
+            tables: None,
+            single: false,
+        }
+    }
+
+    /// The same letters, each of them a word of its own. Takes no memory.
+    pub fn by_character(self) -> Alphabet
+        ensures { result ≡ record { lines = self.lines; single = true } }
+    {
+        Alphabet {
+            tables: self.tables,
+            single: true,
+        }
+    }
+
+    /// Whether each letter is a word of its own.
+    pub fn single(&self) -> bool
+        ensures { result ≡ self.now.single }
+    {
+        self.single
     }
 
     /// Whether the character is a letter.

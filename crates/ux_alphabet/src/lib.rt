@@ -10,6 +10,7 @@
 //! let alphabet = Alphabet::read(rt.alloc(), "Tt\nÉe\n")?;
 //! alphabet.is_upper('T')          // true
 //! alphabet.fits('e', 'É')         // true: É is an upper-case form of e
+//! alphabet.by_character()         // the same letters, each of them a word of its own
 //! ```
 #![tactic(auto)]
 

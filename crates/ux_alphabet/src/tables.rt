@@ -1,7 +1,7 @@
 //! The tables of an alphabet, by which a question about a character is a look-up.
 
 ghost use Rattle.std.specs.Prelude.{◌≡◌, ◌↔◌, ◌⊎◌, ℕ, false, Any, IsTrue, IfOk, Contains, slice_index_or};
-ghost use Rattle.ux_alphabet.specs.Letters.{NamesUpper, NamesLower, IsUpper, IsLower, IsLetter, FitsAlone};
+ghost use Rattle.ux_alphabet.specs.Letters.{NamesUpper, NamesLower, letters_of, IsUpper, IsLower, IsLetter, FitsAlone};
 ghost use Rattle.ux_alphabet.specs.Tables.{IsEither};
 ghost use Rattle.ux_alphabet.specs.declared.line.Line.TheVariants.{Pair};
 
@@ -64,21 +64,21 @@ impl Tables {
 
     /// Whether the character is a letter.
     pub(crate) fn is_letter(&self, c: char) -> bool
-        ensures { IsTrue result ↔ IsLetter self.now c }
+        ensures { IsTrue result ↔ IsLetter (letters_of self.now) c }
     {
         is_marked(&self.letter, c as usize)
     }
 
     /// Whether the character is an upper-case letter.
     pub(crate) fn is_upper(&self, c: char) -> bool
-        ensures { IsTrue result ↔ IsUpper self.now c }
+        ensures { IsTrue result ↔ IsUpper (letters_of self.now) c }
     {
         is_marked(&self.upper, c as usize)
     }
 
     /// Whether the character is a lower-case letter.
     pub(crate) fn is_lower(&self, c: char) -> bool
-        ensures { IsTrue result ↔ IsLower self.now c }
+        ensures { IsTrue result ↔ IsLower (letters_of self.now) c }
     {
         is_marked(&self.lower, c as usize)
     }
@@ -92,7 +92,7 @@ impl Tables {
 
     /// Whether no other character fits this one of a text.
     pub(crate) fn fits_alone(&self, c: char) -> bool
-        ensures { IsTrue result ↔ FitsAlone self.now c }
+        ensures { IsTrue result ↔ FitsAlone (letters_of self.now) c }
     {
         !is_marked(&self.upper_forms, c as usize)
     }
@@ -123,7 +123,7 @@ impl Tables {
 /// By code point, whether the lines make the character an upper-case letter.
 fn upper_table(alloc: Global, lines: &[Line]) -> Result<Vec<bool>, AllocError>
     ensures { IfOk result (λ table. (c : ℕ) →
-        IsTrue (slice_index_or table.items c false) ↔ IsUpper lines.now c) }
+        IsTrue (slice_index_or table.items c false) ↔ IsUpper (letters_of lines.now) c) }
 {
     let spans = upper_spans(alloc, lines)?;
     table_of(alloc, &spans)
@@ -132,7 +132,7 @@ fn upper_table(alloc: Global, lines: &[Line]) -> Result<Vec<bool>, AllocError>
 /// By code point, whether the lines make the character a lower-case letter.
 fn lower_table(alloc: Global, lines: &[Line]) -> Result<Vec<bool>, AllocError>
     ensures { IfOk result (λ table. (c : ℕ) →
-        IsTrue (slice_index_or table.items c false) ↔ IsLower lines.now c) }
+        IsTrue (slice_index_or table.items c false) ↔ IsLower (letters_of lines.now) c) }
 {
     let spans = lower_spans(alloc, lines)?;
     table_of(alloc, &spans)

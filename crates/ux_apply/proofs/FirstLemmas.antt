@@ -1,5 +1,5 @@
 -- The places where the different tokens of a text first appear.
-use Rattle.std.proofs.Common.{arith, ◌≡◌, ℕ, ◌+◌, ◌<◌, ◌≤◌, false, List, [], ◌∷◌, ◌++◌, map, length, get_or, take, drop, refl, sym, ◌∙◌, ap, subst, append_assoc, append-nil}
+use Rattle.std.proofs.Common.{arith, ◌≡◌, ℕ, ◌+◌, ◌<◌, ◌≤◌, false, List, [], ◌∷◌, ◌++◌, map, length, get_or, take, drop, refl, sym, ◌∙◌, ap, subst}
 use Rattle.std.specs.Prelude.{Option, Some, None, IsSomeAnd, slice_get}
 use Rattle.std.specs.List.{AllZip, list_any}
 use Rattle.std.specs.Str.{bytes_eq}
@@ -9,24 +9,12 @@ use Rattle.std.proofs.lemmas.List.{map-append, map_more, take-append-drop, take_
 use Rattle.std.proofs.lemmas.List.Folds.{Any-from_list_any}
 use Rattle.std.proofs.lemmas.Option.{same_Some, slice_get_within, slice_get-get_or, get_or_from_slice_get}
 use Rattle.ux_tokens.specs.Tokens.{Token}
-use Rattle.ux_tokens.specs.Numbers.{different_texts, each_once, with_text}
+use Rattle.ux_base.specs.Distinct.{each_once, with_text}
+use Rattle.ux_tokens.specs.Numbers.{different_texts}
 use Rattle.ux_tokens.proofs.DistinctLemmas.{different_texts-once}
-use Rattle.ux_tokens.proofs.NumbersLemmas.{each_once-push, with_text-keeps, with_text-there, with_text-new}
+use Rattle.ux_base.proofs.DistinctLemmas.{each_once-keeps, each_once-push, with_text-there, with_text-new}
 use Rattle.ux_apply.specs.Kept.{HasText}
 use Rattle.ux_apply.proofs.ZipLemmas.{zip-push, zip-more, zip-length, zip-back}
-
--- what stands at a place stays there as more texts follow
-each_once-keeps : (texts more : List (List ℕ)) (n : ℕ) (text : List ℕ) →
-    slice_get (each_once texts) n ≡ Some text → slice_get (each_once (texts ++ more)) n ≡ Some text
-each_once-keeps texts [] n text at =
-    subst (λ (l : List (List ℕ)). slice_get (each_once l) n ≡ Some text)
-    (sym (append-nil texts)) at
-each_once-keeps texts (next ∷ more) n text at =
-    subst (λ (l : List (List ℕ)). slice_get (each_once l) n ≡ Some text)
-    (append_assoc texts (next ∷ []) more)
-    (each_once-keeps (texts ++ next ∷ []) more n text
-    (subst (λ (l : List (List ℕ)). slice_get l n ≡ Some text) (sym (each_once-push texts next))
-    (with_text-keeps (each_once texts) next n text at)))
 
 module _ (tokens : List Token) (i : ℕ) where
   -- the different texts of one token more

@@ -5,7 +5,7 @@ use Rattle.std.proofs.lemmas.Bool.{false≢true}
 use Rattle.std.proofs.lemmas.Bool.Decides.{Decides-eqb}
 use Rattle.std.proofs.lemmas.List.{map_more, nil_from_length, take_all}
 use Rattle.std.proofs.lemmas.List.Elements.{All-push}
-use Rattle.ux_alphabet.specs.declared.line.Line.{Line}
+use Rattle.ux_alphabet.specs.Letters.{Letters}
 use Rattle.ux_dela.specs.declared.entry.Entry.{Entry}
 use Rattle.ux_dict.specs.Forms.{IsFitting, FitsForm, MayBegin}
 use Rattle.ux_apply.specs.declared.priority.Priority.{Priority}
@@ -25,31 +25,31 @@ module _ (priority : Priority) (dic : Priority × List Entry) where
       ∙ sym (append_assoc own (content_at priority dics)
       (cond (is_same dic.0 priority) dic.1 []))
 
-  module _ (lines : List Line) (dics : List (Priority × List Entry)) (text : List ℕ)
-      (old : List Entry) (before : IsFitting lines text (content_at priority dics) old) where
+  module _ (alphabet : Letters) (dics : List (Priority × List Entry)) (text : List ℕ)
+      (old : List Entry) (before : IsFitting alphabet text (content_at priority dics) old) where
     -- a dictionary of the priority has its entries added
     pub fitting-more : (all_new : List Entry) → is_same dic.0 priority ≡ true →
-        AreAdded lines text dic.1 old all_new →
-        IsFitting lines text (content_at priority (dics ++ dic ∷ [])) all_new
+        AreAdded alphabet text dic.1 old all_new →
+        IsFitting alphabet text (content_at priority (dics ++ dic ∷ [])) all_new
     fitting-more all_new same added =
         let content : content_at priority (dics ++ dic ∷ []) ≡ content_at priority dics ++ dic.1 =
         content_at-push dics
         ∙ ap (λ (b : Bool). content_at priority dics ++ cond b dic.1 []) same in
         subst
-        (λ (l : List Entry). IsFitting lines text (content_at priority (dics ++ dic ∷ [])) l)
+        (λ (l : List Entry). IsFitting alphabet text (content_at priority (dics ++ dic ∷ [])) l)
         (sym added.added)
-        (subst (λ (l : List Entry). IsFitting lines text l (old ++ added.more)) (sym content)
-        (chosen-append (λ (e : Entry). FitsForm lines e.form text) before added.fit))
+        (subst (λ (l : List Entry). IsFitting alphabet text l (old ++ added.more)) (sym content)
+        (chosen-append (λ (e : Entry). FitsForm alphabet e.form text) before added.fit))
 
     -- and another one is passed over
     pub fitting-skip : is_same dic.0 priority ≡ false →
-        IsFitting lines text (content_at priority (dics ++ dic ∷ [])) old
+        IsFitting alphabet text (content_at priority (dics ++ dic ∷ [])) old
     fitting-skip other =
         let content : content_at priority (dics ++ dic ∷ []) ≡ content_at priority dics =
         content_at-push dics
         ∙ (ap (λ (b : Bool). content_at priority dics ++ cond b dic.1 []) other
         ∙ append-nil (content_at priority dics)) in
-        subst (λ (l : List Entry). IsFitting lines text l old) (sym content) before
+        subst (λ (l : List Entry). IsFitting alphabet text l old) (sym content) before
 
 -- the contents of one dictionary more
 module _ {L : Type 0} (content : L → List Entry) (dics : List (Priority × L)) (i : ℕ)
@@ -62,13 +62,13 @@ module _ {L : Type 0} (content : L → List Entry) (dics : List (Priority × L))
       ∙ ap (λ (d : Priority × L). map pair (take i dics) ++ pair d ∷ []) (sym at)
 
   -- none of its forms begins so either
-  pub none-more : (lines : List Line) (text : List ℕ) →
-      NoneBegins lines (contents content (take i dics)) text →
-      (MayBegin lines text (content dic.1) → ⊥) →
-      NoneBegins lines (contents content (take (i + 1) dics)) text
-  none-more lines text before here =
-      subst (λ (l : List (Priority × List Entry)). NoneBegins lines l text) (sym contents-more)
-      (All-push (λ (d : Priority × List Entry). MayBegin lines text d.1 → ⊥)
+  pub none-more : (alphabet : Letters) (text : List ℕ) →
+      NoneBegins alphabet (contents content (take i dics)) text →
+      (MayBegin alphabet text (content dic.1) → ⊥) →
+      NoneBegins alphabet (contents content (take (i + 1) dics)) text
+  none-more alphabet text before here =
+      subst (λ (l : List (Priority × List Entry)). NoneBegins alphabet l text) (sym contents-more)
+      (All-push (λ (d : Priority × List Entry). MayBegin alphabet text d.1 → ⊥)
       (contents content (take i dics)) (dic.0, content dic.1) before here)
 
 -- the contents of all of them

@@ -6,8 +6,7 @@ use Rattle.std.specs.Str.{chars}
 use Rattle.std.proofs.lemmas.Str.{chars-append}
 use Rattle.std.proofs.lemmas.List.{get_or_default}
 use Rattle.std.proofs.lemmas.List.Elements.{All-head, All-tail}
-use Rattle.ux_alphabet.specs.declared.line.Line.{Line}
-use Rattle.ux_alphabet.specs.Letters.{Fits}
+use Rattle.ux_alphabet.specs.Letters.{Letters, Fits}
 use Rattle.ux_dela.specs.declared.entry.Entry.{Entry}
 use Rattle.ux_dict.specs.Forms.{FitsForm, BeginsFitting, MayBegin, IsChosen, none, kept, left, IsFitting, longest_of}
 use Rattle.ux_apply.specs.declared.priority.Priority.{Priority}
@@ -41,32 +40,32 @@ longest-at (first ∷ content) zero entry lt at =
 longest-at (first ∷ content) (suc k) entry lt at =
     omega (arith, longest-at content k entry (omega arith) at)
 
-module _ (lines : List Line) (text : List ℕ) where
+module _ (alphabet : Letters) (text : List ℕ) where
   -- no form begins with characters that fit a text which is longer than all forms
   pub longer-begins_none : (content : List Entry) → longest_of content < length (chars text) →
-      MayBegin lines text content → ⊥
+      MayBegin alphabet text content → ⊥
   longer-begins_none content longer may =
       let form = may.1.form in
       let begins = may.4 in
       let short = longest-at content may.0 may.1 may.2 may.3 in
       let whole : length (chars form) ≡ length begins.0 + length begins.1 =
       ap length begins.2 ∙ length-append begins.0 begins.1 in
-      let same = zip-length (Fits lines) begins.0 (chars text) begins.3 in
+      let same = zip-length (Fits alphabet) begins.0 (chars text) begins.3 in
       absurd (omega (arith, short, whole, same, longer))
 
   module _ (utf8 : IsUtf8 text) (rest : List ℕ) where
     -- a form that fits a text begins with characters that fit its front
-    begins-fitting : (form : List ℕ) → FitsForm lines form (text ++ rest) →
-        BeginsFitting lines form text
+    begins-fitting : (form : List ℕ) → FitsForm alphabet form (text ++ rest) →
+        BeginsFitting alphabet form text
     begins-fitting form fits =
-        zip-split (Fits lines) (chars form) (chars text) (chars rest)
-        (subst (λ (l : List ℕ). AllZip (Fits lines) (chars form) l) (chars-append text rest utf8)
+        zip-split (Fits alphabet) (chars form) (chars text) (chars rest)
+        (subst (λ (l : List ℕ). AllZip (Fits alphabet) (chars form) l) (chars-append text rest utf8)
         fits)
 
-    none-fits : (content : List Entry) → (MayBegin lines text content → ⊥) →
-        IsFitting lines (text ++ rest) content []
+    none-fits : (content : List Entry) → (MayBegin alphabet text content → ⊥) →
+        IsFitting alphabet (text ++ rest) content []
     none-fits content none_begins =
-        chosen-none (λ (e : Entry). FitsForm lines e.form (text ++ rest)) content
+        chosen-none (λ (e : Entry). FitsForm alphabet e.form (text ++ rest)) content
         (λ k d lt fits. none_begins (
           k,
           get_or content k d,
@@ -76,26 +75,26 @@ module _ (lines : List Line) (text : List ℕ) where
         ))
 
     none-at : (priority : Priority) (dics : List (Priority × List Entry)) →
-        NoneBegins lines dics text →
-        IsFitting lines (text ++ rest) (content_at priority dics) []
+        NoneBegins alphabet dics text →
+        IsFitting alphabet (text ++ rest) (content_at priority dics) []
     none-at priority [] begin = none
     none-at priority (dic ∷ dics) begin =
-        let No : Priority × List Entry → Type 0 = λ d. MayBegin lines text d.1 → ⊥ in
-        chosen-append (λ (e : Entry). FitsForm lines e.form (text ++ rest))
+        let No : Priority × List Entry → Type 0 = λ d. MayBegin alphabet text d.1 → ⊥ in
+        chosen-append (λ (e : Entry). FitsForm alphabet e.form (text ++ rest))
         (own (is_same dic.0 priority) (All-head No dic dics begin))
         (none-at priority dics (All-tail No dic dics begin))
       where
-        own : (same : Bool) → (MayBegin lines text dic.1 → ⊥) →
-            IsFitting lines (text ++ rest) (cond same dic.1 []) []
+        own : (same : Bool) → (MayBegin alphabet text dic.1 → ⊥) →
+            IsFitting alphabet (text ++ rest) (cond same dic.1 []) []
         own true fails = none-fits dic.1 fails
         own false fails = none
 
     -- so no entry applies
-    pub nothing-applies : (dics : List (Priority × List Entry)) → NoneBegins lines dics text →
-        AreApplying lines dics (text ++ rest) []
+    pub nothing-applies : (dics : List (Priority × List Entry)) → NoneBegins alphabet dics text →
+        AreApplying alphabet dics (text ++ rest) []
     nothing-applies dics begin = low (found High) (found Normal) (found Low)
       where
-        found : (priority : Priority) → AreFound lines dics (text ++ rest) priority []
+        found : (priority : Priority) → AreFound alphabet dics (text ++ rest) priority []
         found priority = record {
           fitting = [];
           fit = none-at priority dics begin;

@@ -7,7 +7,7 @@ use Rattle.std.specs.Ordering.{nat_cmp}
 use Rattle.std.specs.List.{AllZip}
 use Rattle.std.proofs.lemmas.List.{length_push, get_or_push, get_or_append_left}
 use Rattle.std.proofs.lemmas.Option.{same_Some, slice_get_within, slice_get-get_or, get_or_from_slice_get}
-use Rattle.ux_alphabet.specs.declared.line.Line.{Line}
+use Rattle.ux_alphabet.specs.Letters.{Letters}
 use Rattle.ux_dela.specs.declared.entry.Entry.{Entry}
 use Rattle.ux_tokens.specs.Tokens.{Token}
 use Rattle.ux_apply.specs.declared.priority.Priority.{Priority}
@@ -81,16 +81,16 @@ module _ {X Z : Type 0} (IsRow : ℕ → List X → Type 0) where
       }
 
 -- the table of all of them
-pub rows-whole : {Z : Type 0} (lines : List Line) (dics : List (Priority × List Entry))
+pub rows-whole : {Z : Type 0} (alphabet : Letters) (dics : List (Priority × List Entry))
     (tokens : List Token) (rows : BTreeMap ℕ (Vec (ℕ × Entry) Z)) (end : ℕ) →
     end ≡ length tokens →
-    AreRowsUpTo (IsCompoundRow lines dics tokens) (length tokens) rows →
-    AreCompounds lines dics tokens (table_of (row_of rows) end)
-rows-whole lines dics tokens rows end long all = record {
+    AreRowsUpTo (IsCompoundRow alphabet dics tokens) (length tokens) rows →
+    AreCompounds alphabet dics tokens (table_of (row_of rows) end)
+rows-whole alphabet dics tokens rows end long all = record {
   each_token = length-table (row_of rows) end ∙ long;
   each = λ first row is.
       let at = table-row (row_of rows) end first row is in
-      subst (IsCompoundRow lines dics tokens first) (sym at.1)
+      subst (IsCompoundRow alphabet dics tokens first) (sym at.1)
       (all.each first (omega (arith, at.0, long)));
 }
 

@@ -3,7 +3,7 @@ use Rattle.std.proofs.Common.{arith, below_more, ◌≡◌, ℕ, zero, suc, ◌+
 use Rattle.std.specs.Prelude.{Option, Some, None, IsSomeAnd, IsUtf8, slice_get}
 use Rattle.std.proofs.lemmas.List.{take-append-drop, take-take, drop-take}
 use Rattle.std.proofs.lemmas.Option.{none-some, same_Some}
-use Rattle.ux_alphabet.specs.declared.line.Line.{Line}
+use Rattle.ux_alphabet.specs.Letters.{Letters}
 use Rattle.ux_dela.specs.declared.entry.Entry.{Entry}
 use Rattle.ux_tokens.specs.declared.kind.Kind.{Kind}
 use Rattle.ux_tokens.specs.declared.kind.Kind.TheVariants.{Word, Space, Other, Sentence, Stop, Tag}
@@ -104,22 +104,22 @@ module _ (tokens : List Token) (first : ℕ) where
         inside = λ i le below. all.inside i le (omega arith);
       }
 
-module _ (lines : List Line) (dics : List (Priority × List Entry)) (tokens : List Token)
+module _ (alphabet : Letters) (dics : List (Priority × List Entry)) (tokens : List Token)
     (first : ℕ) where
   -- tokens that are no span have no entries
-  no_span : (last : ℕ) → (IsSpan tokens first last → ⊥) → AreOfSpan lines dics tokens first last []
+  no_span : (last : ℕ) → (IsSpan tokens first last → ⊥) → AreOfSpan alphabet dics tokens first last []
   no_span last isnt = record { applying = λ is. absurd (isnt is); none = λ _. refl }
 
   -- where the first token can't be that of a span
   pub none-unbounded : (kind : Kind) → IsSomeAnd (slice_get tokens first) (λ t. kind ≡ t.kind) →
-      (MayBound kind → ⊥) → HaveNone lines dics tokens first (first + 1)
+      (MayBound kind → ⊥) → HaveNone alphabet dics tokens first (first + 1)
   none-unbounded kind at isnt later on =
       no_span later (λ is. isnt (kind_has MayBound (slice_get tokens first) kind at is.begins))
 
   -- where a token can't stand in a span
   pub none-past : (last : ℕ) (kind : Kind) →
       IsSomeAnd (slice_get tokens last) (λ t. kind ≡ t.kind) → first ≤ last →
-      (MayStand kind → ⊥) → HaveNone lines dics tokens first last
+      (MayStand kind → ⊥) → HaveNone alphabet dics tokens first last
   none-past last kind at ordered isnt later on =
       no_span later
       (λ is. isnt (kind_has MayStand (slice_get tokens last) kind at (is.inside last ordered on)))
@@ -127,26 +127,26 @@ module _ (lines : List Line) (dics : List (Priority × List Entry)) (tokens : Li
   -- where the last token can't be that of a span
   pub none-here : (last : ℕ) (kind : Kind) →
       IsSomeAnd (slice_get tokens last) (λ t. kind ≡ t.kind) → (MayBound kind → ⊥) →
-      AreOfSpan lines dics tokens first last []
+      AreOfSpan alphabet dics tokens first last []
   none-here last kind at isnt =
       no_span last (λ is. isnt (kind_has MayBound (slice_get tokens last) kind at is.ends))
 
   -- where no form begins with characters that fit the text so far
   pub none-begins : (last : ℕ) (text : List ℕ) → text ≡ text_of tokens first last →
-      IsUtf8 text → first ≤ last → NoneBegins lines dics text →
-      (later : ℕ) → last ≤ later → AreOfSpan lines dics tokens first later []
+      IsUtf8 text → first ≤ last → NoneBegins alphabet dics text →
+      (later : ℕ) → last ≤ later → AreOfSpan alphabet dics tokens first later []
   none-begins last text is utf8 ordered begin later on =
       let longer = text_of-longer tokens first last later ordered on in
       let whole : text_of tokens first later ≡ text ++ longer.0 =
       longer.1 ∙ ap (λ (t : List ℕ). t ++ longer.0) (sym is) in record {
-        applying = λ span. subst (λ (t : List ℕ). AreApplying lines dics t []) (sym whole)
-            (nothing-applies lines text utf8 longer.0 dics begin);
+        applying = λ span. subst (λ (t : List ℕ). AreApplying alphabet dics t []) (sym whole)
+            (nothing-applies alphabet text utf8 longer.0 dics begin);
         none = λ _. refl;
       }
 
   -- where a form may begin with the first token alone, but none does
   pub none-first : (token : Token) → slice_get tokens first ≡ Some token → IsUtf8 token.text →
-      NoneBegins lines dics token.text → HaveNone lines dics tokens first (first + 1)
+      NoneBegins alphabet dics token.text → HaveNone alphabet dics tokens first (first + 1)
   none-first token at utf8 begin later on =
       none-begins first token.text (one_text token at) utf8 (omega arith) begin later (omega arith)
     where
@@ -165,30 +165,30 @@ module _ (lines : List Line) (dics : List (Priority × List Entry)) (tokens : Li
   -- where a form may begin with a span, its entries are those that apply
   pub of_span : (last : ℕ) (text : List ℕ) (entries : List Entry) →
       text ≡ text_of tokens first last → IsSpan tokens first last →
-      AreApplying lines dics text entries → AreOfSpan lines dics tokens first last entries
+      AreApplying alphabet dics text entries → AreOfSpan alphabet dics tokens first last entries
   of_span last text entries is span applying = record {
-    applying = λ _. subst (λ (t : List ℕ). AreApplying lines dics t entries) is applying;
+    applying = λ _. subst (λ (t : List ℕ). AreApplying alphabet dics t entries) is applying;
     none = λ isnt. absurd (isnt span);
   }
 
   -- the row so far is whole where no later span has an entry
   pub row-ends : (last : ℕ) (row : List (ℕ × Entry)) (n : ℕ) →
-      AreCompoundUpTo lines dics tokens first last row → HaveNone lines dics tokens first last →
-      AreCompoundUpTo lines dics tokens first (last + n) row
+      AreCompoundUpTo alphabet dics tokens first last row → HaveNone alphabet dics tokens first last →
+      AreCompoundUpTo alphabet dics tokens first (last + n) row
   row-ends last row zero so_far nothing =
-      subst (λ (k : ℕ). AreCompoundUpTo lines dics tokens first k row) (omega arith) so_far
+      subst (λ (k : ℕ). AreCompoundUpTo alphabet dics tokens first k row) (omega arith) so_far
   row-ends last row (suc n) so_far nothing =
       let before = row-ends last row n so_far nothing in
       let same : row ++ map (λ (e : Entry). (last + n, e)) [] ≡ row = append-nil row in
       let end : last + n + 1 ≡ last + suc n = omega arith in
-      subst (λ (k : ℕ). AreCompoundUpTo lines dics tokens first k row) end
-      (subst (AreCompoundUpTo lines dics tokens first (last + n + 1)) same
+      subst (λ (k : ℕ). AreCompoundUpTo alphabet dics tokens first k row) end
+      (subst (AreCompoundUpTo alphabet dics tokens first (last + n + 1)) same
       (more (last + n) row [] before (nothing (last + n) (omega arith))))
 
   pub row-whole : (last : ℕ) (row : List (ℕ × Entry)) → last ≤ length tokens →
-      AreCompoundUpTo lines dics tokens first last row → HaveNone lines dics tokens first last →
-      AreCompoundUpTo lines dics tokens first (length tokens) row
+      AreCompoundUpTo alphabet dics tokens first last row → HaveNone alphabet dics tokens first last →
+      AreCompoundUpTo alphabet dics tokens first (length tokens) row
   row-whole last row within so_far nothing =
       let end : last + (length tokens - last) ≡ length tokens = omega arith in
-      subst (λ (k : ℕ). AreCompoundUpTo lines dics tokens first k row) end
+      subst (λ (k : ℕ). AreCompoundUpTo alphabet dics tokens first k row) end
       (row-ends last row (length tokens - last) so_far nothing)

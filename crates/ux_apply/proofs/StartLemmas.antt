@@ -3,7 +3,7 @@ use Rattle.std.proofs.Common.{arith, ◌≡◌, ◌⊎◌, ℕ, zero, suc, ◌+�
 use Rattle.std.specs.Prelude.{Option, Some, None, IsSomeAnd, slice_get}
 use Rattle.std.specs.List.{AllZip}
 use Rattle.std.proofs.lemmas.Option.{none-some, same_Some, slice_get_within}
-use Rattle.ux_alphabet.specs.declared.line.Line.{Line}
+use Rattle.ux_alphabet.specs.Letters.{Letters}
 use Rattle.ux_dela.specs.declared.entry.Entry.{Entry}
 use Rattle.ux_tokens.specs.declared.kind.Kind.TheVariants.{Space}
 use Rattle.ux_tokens.specs.Tokens.{Token, SPACE, joined}
@@ -42,12 +42,12 @@ two_texts (x ∷ y ∷ xs) zero t u is next =
 two_texts (x ∷ []) (suc k) t u is next = absurd (none-some t is)
 two_texts (x ∷ y ∷ xs) (suc k) t u is next = two_texts (y ∷ xs) k t u is next
 
-module _ (lines : List Line) (dics : List (Priority × List Entry)) (tokens : List Token)
+module _ (alphabet : Letters) (dics : List (Priority × List Entry)) (tokens : List Token)
     (first : ℕ) where
   -- none where no form begins with the token and a space
   none-spaced : (token : Token) → slice_get tokens first ≡ Some token →
-      IsStart lines dics token.text Unspaced → IsSpaceAt tokens (first + 1) →
-      HaveNone lines dics tokens first (first + 1)
+      IsStart alphabet dics token.text Unspaced → IsSpaceAt tokens (first + 1) →
+      HaveNone alphabet dics tokens first (first + 1)
   none-spaced token at begin space later on =
       let next = there (slice_get tokens (first + 1)) space in
       let behind : first + 1 ≡ suc first = omega arith in
@@ -57,45 +57,45 @@ module _ (lines : List Line) (dics : List (Priority × List Entry)) (tokens : Li
       ∙ (sym (two_texts tokens first token next.0 at
       (ap (slice_get tokens) (sym behind) ∙ next.1))
       ∙ ap (λ (k : ℕ). joined (take k (drop first tokens))) (sym two)) in
-      none-begins lines dics tokens first (first + 1) (token.text ++ SPACE ∷ []) text begin.0
+      none-begins alphabet dics tokens first (first + 1) (token.text ++ SPACE ∷ []) text begin.0
       (omega arith) begin.1 later on
 
   -- none where all is over
   pub none-over : (starts : List Start) (n : ℕ) (mark : Start) →
-      AllZip (IsStart lines dics) (different_texts tokens) starts →
+      AllZip (IsStart alphabet dics) (different_texts tokens) starts →
       (mark ≡ Spaced) ⊎ (slice_get starts n ≡ Some mark) →
       IsSomeAnd (slice_get tokens first)
       (λ t. slice_get (different_texts tokens) n ≡ Some t.text) →
-      IsOver tokens first mark → HaveNone lines dics tokens first (first + 1)
+      IsOver tokens first mark → HaveNone alphabet dics tokens first (first + 1)
   none-over starts n mark all (inl spaced) numbered over =
       absurd (subst (IsOver tokens first) spaced over)
   none-over starts n mark all (inr at) numbered over =
       let token = there (slice_get tokens first) numbered in
-      let own = zip-at (IsStart lines dics) (different_texts tokens) starts n token.0.text all
+      let own = zip-at (IsStart alphabet dics) (different_texts tokens) starts n token.0.text all
       token.2 in
       let same : own.0 ≡ mark = same_Some own.0 mark (sym own.1 ∙ at) in
-      by mark token.0 token.1 (subst (IsStart lines dics token.0.text) same own.2) over
+      by mark token.0 token.1 (subst (IsStart alphabet dics token.0.text) same own.2) over
     where
       by : (s : Start) (token : Token) → slice_get tokens first ≡ Some token →
-          IsStart lines dics token.text s → IsOver tokens first s →
-          HaveNone lines dics tokens first (first + 1)
+          IsStart alphabet dics token.text s → IsOver tokens first s →
+          HaveNone alphabet dics tokens first (first + 1)
       by Never token is begin past =
-          none-first lines dics tokens first token is begin.0 begin.1
+          none-first alphabet dics tokens first token is begin.0 begin.1
       by Unspaced token is begin past = none-spaced token is begin past
       by Spaced token is begin past = absurd past
 
   -- up to the nearest token that has to be tried there are no entries
   pub row-start : (nearest : ℕ) →
       IsSomeAnd (slice_get tokens first) (λ token. MayBound token.kind) →
-      IsNearestLast tokens first nearest → AreCompoundUpTo lines dics tokens first nearest []
+      IsNearestLast tokens first nearest → AreCompoundUpTo alphabet dics tokens first nearest []
   row-start nearest bound (inl next) =
-      subst (λ (k : ℕ). AreCompoundUpTo lines dics tokens first k []) (sym next)
-      (start-bound lines dics tokens first bound)
+      subst (λ (k : ℕ). AreCompoundUpTo alphabet dics tokens first k []) (sym next)
+      (start-bound alphabet dics tokens first bound)
   row-start nearest bound (inr behind) =
       let end : first + 1 + 1 ≡ nearest = omega (arith, behind.0) in
-      subst (λ (k : ℕ). AreCompoundUpTo lines dics tokens first k []) end
-      (more (first + 1) [] [] (start-bound lines dics tokens first bound)
-      (none-here lines dics tokens first (first + 1) Space
+      subst (λ (k : ℕ). AreCompoundUpTo alphabet dics tokens first k []) end
+      (more (first + 1) [] [] (start-bound alphabet dics tokens first bound)
+      (none-here alphabet dics tokens first (first + 1) Space
       (space_kind (slice_get tokens (first + 1)) behind.1) (λ may. may)))
 
 -- and the tokens before it may stand in a span

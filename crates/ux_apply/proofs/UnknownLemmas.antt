@@ -12,7 +12,7 @@ use Rattle.std.proofs.lemmas.Map.Views.{btree_set_contains_iff}
 use Rattle.std.proofs.lemmas.List.{take_more, take_all}
 use Rattle.std.proofs.lemmas.List.Elements.{Contains-append_left, Contains-push, Contains-push_cases}
 use Rattle.std.proofs.lemmas.Option.{slice_get_within, slice_get-get_or, get_or_from_slice_get}
-use Rattle.ux_alphabet.specs.declared.line.Line.{Line}
+use Rattle.ux_alphabet.specs.Letters.{Letters}
 use Rattle.ux_dela.specs.declared.entry.Entry.{Entry}
 use Rattle.ux_tokens.specs.declared.kind.Kind.{Kind}
 use Rattle.ux_tokens.specs.declared.kind.Kind.TheVariants.{Word}
@@ -173,46 +173,46 @@ module _ {Z : Type 0} (tokens : List Token) (rows : List (Vec Entry Z))
           let at = zip-at (IsWordNumber tokens) tokens words is.place is.token numbered is.stands in
           by n is at.0 at.1 at.2
 
-  module _ (lines : List Line) (dics : List (Priority × List Entry))
-      (are : AllZip (λ (text : List ℕ) (row : Vec Entry Z). AreApplying lines dics text row.items)
+  module _ (alphabet : Letters) (dics : List (Priority × List Entry))
+      (are : AllZip (λ (text : List ℕ) (row : Vec Entry Z). AreApplying alphabet dics text row.items)
       (different_texts tokens) rows) where
     -- a word has the row of its number
     simple-of : (token : Token) (n : ℕ) → IsWordNumber tokens token (Some n) →
-        AreSimpleOf lines dics token.kind token.text (row_at rows (Some n))
+        AreSimpleOf alphabet dics token.kind token.text (row_at rows (Some n))
     simple-of token n has =
-        let at = zip-at (λ (text : List ℕ) (row : Vec Entry Z). AreApplying lines dics text row.items)
+        let at = zip-at (λ (text : List ℕ) (row : Vec Entry Z). AreApplying alphabet dics text row.items)
         (different_texts tokens) rows n token.text are has.1 in
-        subst (λ (kind : Kind). AreSimpleOf lines dics kind token.text (row_at rows (Some n)))
+        subst (λ (kind : Kind). AreSimpleOf alphabet dics kind token.text (row_at rows (Some n)))
         (sym has.0)
-        (subst (λ (o : Option (Vec Entry Z)). AreApplying lines dics token.text (items_in o))
+        (subst (λ (o : Option (Vec Entry Z)). AreApplying alphabet dics token.text (items_in o))
         (sym at.1) at.2)
 
-    module _ (own : AreRowsUpTo (IsOwnRow lines tokens) (length tokens) tags) where
+    module _ (own : AreRowsUpTo (IsOwnRow alphabet tokens) (length tokens) tags) where
       simple-there : (i : ℕ) (token : Token) → slice_get tokens i ≡ Some token →
-          AreSimpleOf lines dics token.kind token.text (simple_at words rows tags i)
+          AreSimpleOf alphabet dics token.kind token.text (simple_at words rows tags i)
       simple-there i token at =
           let word = zip-at (IsWordNumber tokens) tokens words i token numbered at in
-          subst (AreSimpleOf lines dics token.kind token.text)
+          subst (AreSimpleOf alphabet dics token.kind token.text)
           (sym (ap (row_by rows tags i) word.1)) (by word.0 word.2)
         where
           by : (w : Option ℕ) → IsWordNumber tokens token w →
-              AreSimpleOf lines dics token.kind token.text (row_by rows tags i (Some w))
+              AreSimpleOf alphabet dics token.kind token.text (row_by rows tags i (Some w))
           by None isnt =
-              simple-own lines dics token.kind token.text (row_of tags i) isnt
+              simple-own alphabet dics token.kind token.text (row_of tags i) isnt
               (subst
               (λ (o : Option Token).
-              IsSomeAnd o (λ t. AreOwnSimple lines t.kind t.text (row_of tags i))) at
+              IsSomeAnd o (λ t. AreOwnSimple alphabet t.kind t.text (row_of tags i))) at
               (own.each i (slice_get_within tokens i token at)))
           by (Some n) has = simple-of token n has
 
       -- so each token has its simple entries
-      pub simple-whole : AreSimple lines dics tokens table
+      pub simple-whole : AreSimple alphabet dics tokens table
       simple-whole =
           let long = zip-length (IsWordNumber tokens) tokens words numbered in
           subst
           (λ (l : List Token).
-          AllZip (λ (t : Token) (row : List Entry). AreSimpleOf lines dics t.kind t.text row) l table)
+          AllZip (λ (t : Token) (row : List Entry). AreSimpleOf alphabet dics t.kind t.text row) l table)
           (take_all (length words) tokens (omega (arith, long)))
           (zip-table
-          (λ (t : Token) (row : List Entry). AreSimpleOf lines dics t.kind t.text row) tokens
+          (λ (t : Token) (row : List Entry). AreSimpleOf alphabet dics t.kind t.text row) tokens
           (simple_at words rows tags) (length words) (omega (arith, long)) simple-there)

@@ -1,7 +1,7 @@
 -- Which entries apply to one text, by the priorities of the dictionaries. The manual, on applying
--- dictionaries.
+-- dictionaries. Public: the crate's public contracts speak of it.
 use Rattle.std.specs.Prelude.{◌≢◌, ℕ, Bool, true, false, cond, List, [], ◌∷◌, ◌++◌, map}
-use Rattle.ux_alphabet.specs.declared.line.Line.{Line}
+use Rattle.ux_alphabet.specs.Letters.{Letters}
 use Rattle.ux_dela.specs.declared.entry.Entry.{Entry}
 use Rattle.ux_dict.specs.Content.{AreDifferent}
 use Rattle.ux_dict.specs.Forms.{IsFitting}
@@ -32,19 +32,19 @@ content_at priority (dic ∷ dics) =
     cond (is_same dic.0 priority) dic.1 [] ++ content_at priority dics
 
 -- the entries of dictionaries of this priority whose forms fit the text, each once
-pub record AreFound (lines : List Line) (dics : List (Priority × List Entry)) (text : List ℕ)
+pub record AreFound (alphabet : Letters) (dics : List (Priority × List Entry)) (text : List ℕ)
     (priority : Priority) (entries : List Entry) : Type 0 where
   pub fitting : List Entry
-  pub fit : IsFitting lines text (content_at priority dics) fitting
+  pub fit : IsFitting alphabet text (content_at priority dics) fitting
   pub once : AreDifferent fitting entries
 
 -- the entries that apply to the text are those of the highest priority that has any
-pub data AreApplying (lines : List Line) (dics : List (Priority × List Entry)) (text : List ℕ) :
+pub data AreApplying (alphabet : Letters) (dics : List (Priority × List Entry)) (text : List ℕ) :
     (entries : List Entry) → Type 0 where
-  high : {entries : List Entry} → AreFound lines dics text High entries → entries ≢ [] →
-      AreApplying lines dics text entries
-  normal : {entries : List Entry} → AreFound lines dics text High [] →
-      AreFound lines dics text Normal entries → entries ≢ [] → AreApplying lines dics text entries
-  low : {entries : List Entry} → AreFound lines dics text High [] →
-      AreFound lines dics text Normal [] → AreFound lines dics text Low entries →
-      AreApplying lines dics text entries
+  high : {entries : List Entry} → AreFound alphabet dics text High entries → entries ≢ [] →
+      AreApplying alphabet dics text entries
+  normal : {entries : List Entry} → AreFound alphabet dics text High [] →
+      AreFound alphabet dics text Normal entries → entries ≢ [] → AreApplying alphabet dics text entries
+  low : {entries : List Entry} → AreFound alphabet dics text High [] →
+      AreFound alphabet dics text Normal [] → AreFound alphabet dics text Low entries →
+      AreApplying alphabet dics text entries

@@ -1,8 +1,9 @@
--- What is kept of a text's entries, and how it is collected.
+-- What is kept of a text's entries, and how it is collected. Inner: the crate's own functions alone
+-- speak of it.
 use Rattle.std.specs.Prelude.{◌≡◌, ◌≢◌, ◌⊎◌, ℕ, zero, suc, ◌+◌, ◌<◌, ◌≤◌, List, [], ◌∷◌, ◌++◌, Option, None, Some, All, IsSomeAnd, IsUtf8, Vec, slice_get}
 use Rattle.std.specs.BTreeMap.{BTreeMap, get}
 use Rattle.std.specs.Ordering.{nat_cmp}
-use Rattle.ux_alphabet.specs.declared.line.Line.{Line}
+use Rattle.ux_alphabet.specs.Letters.{Letters}
 use Rattle.ux_dela.specs.declared.entry.Entry.{Entry}
 use Rattle.ux_dict.specs.Forms.{IsFitting, MayBegin}
 use Rattle.ux_tokens.specs.declared.kind.Kind.TheVariants.{Word, Space}
@@ -15,26 +16,26 @@ use Rattle.ux_apply.specs.Spans.{MayBound, MayStand}
 use Rattle.ux_apply.specs.Tables.{AreOfSpan, AreOwnSimple}
 
 -- the entries with those of a content that fit the text
-pub record AreAdded (lines : List Line) (text : List ℕ) (content old new : List Entry) :
+pub record AreAdded (alphabet : Letters) (text : List ℕ) (content old new : List Entry) :
     Type 0 where
   pub more : List Entry
-  pub fit : IsFitting lines text content more
+  pub fit : IsFitting alphabet text content more
   pub added : new ≡ old ++ more
 
 -- no form of any dictionary begins with characters that fit the text
-abbrev pub NoneBegins : List Line → List (Priority × List Entry) → (text : List ℕ) → Type 0
-NoneBegins lines dics text = All (λ dic. MayBegin lines text dic.1 → ⊥) dics
+abbrev pub NoneBegins : Letters → List (Priority × List Entry) → (text : List ℕ) → Type 0
+NoneBegins alphabet dics text = All (λ dic. MayBegin alphabet text dic.1 → ⊥) dics
 
 -- the token at the place has the text
 abbrev pub HasText : List Token → (text : List ℕ) (place : ℕ) → Type 0
 HasText tokens text place = IsSomeAnd (slice_get tokens place) (λ token. text ≡ token.text)
 
 -- no form begins with the text, or none with a space behind it, or some may
-abbrev pub IsStart : List Line → List (Priority × List Entry) → (text : List ℕ) → Start → Type 0
-IsStart lines dics text Never = IsUtf8 text × NoneBegins lines dics text
-IsStart lines dics text Unspaced =
-    IsUtf8 (text ++ SPACE ∷ []) × NoneBegins lines dics (text ++ SPACE ∷ [])
-IsStart lines dics text Spaced = Unit {0}
+abbrev pub IsStart : Letters → List (Priority × List Entry) → (text : List ℕ) → Start → Type 0
+IsStart alphabet dics text Never = IsUtf8 text × NoneBegins alphabet dics text
+IsStart alphabet dics text Unspaced =
+    IsUtf8 (text ++ SPACE ∷ []) × NoneBegins alphabet dics (text ++ SPACE ∷ [])
+IsStart alphabet dics text Spaced = Unit {0}
 
 -- a space stands at the place
 abbrev pub IsSpaceAt : List Token → (place : ℕ) → Type 0
@@ -59,10 +60,10 @@ pub record IsFront (tokens : List Token) (first place : ℕ) : Type 0 where
       IsSomeAnd (slice_get tokens i) (λ token. MayStand token.kind)
 
 -- no span from the first token to the last one or a later one has an entry
-abbrev pub HaveNone : List Line → List (Priority × List Entry) → List Token →
+abbrev pub HaveNone : Letters → List (Priority × List Entry) → List Token →
     (first last : ℕ) → Type 0
-HaveNone lines dics tokens first last =
-    (later : ℕ) → last ≤ later → AreOfSpan lines dics tokens first later []
+HaveNone alphabet dics tokens first last =
+    (later : ℕ) → last ≤ later → AreOfSpan alphabet dics tokens first later []
 
 -- the word at a place has the number, and where none is kept, no word stands there
 abbrev pub IsWordNumber : List Token → Token → Option ℕ → Type 0
@@ -102,9 +103,9 @@ abbrev pub simple_at : {Z : Type 0} → List (Option ℕ) → List (Vec Entry Z)
 simple_at words rows tags place = row_by rows tags place (slice_get words place)
 
 -- the row has the own simple entry of the token at the place
-abbrev pub IsOwnRow : List Line → List Token → (place : ℕ) → List Entry → Type 0
-IsOwnRow lines tokens place row =
-    IsSomeAnd (slice_get tokens place) (λ token. AreOwnSimple lines token.kind token.text row)
+abbrev pub IsOwnRow : Letters → List Token → (place : ℕ) → List Entry → Type 0
+IsOwnRow alphabet tokens place row =
+    IsSomeAnd (slice_get tokens place) (λ token. AreOwnSimple alphabet token.kind token.text row)
 
 -- the rows of the places before one are such rows, and the others are empty
 pub record AreRowsUpTo {X Z : Type 0} (IsRow : ℕ → List X → Type 0) (place : ℕ)

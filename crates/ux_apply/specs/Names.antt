@@ -1,4 +1,5 @@
 -- The priority of a dictionary, by the name of its file. The manual, on applying dictionaries.
+-- Public: the crate's public contracts speak of it.
 use Rattle.std.specs.Prelude.{◌≡◌, ◌≢◌, ◌⊎◌, ℕ, ◌<◌, List, [], ◌∷◌, ◌++◌, Contains, length, slice_index}
 use Rattle.ux_apply.specs.declared.priority.Priority.{Priority}
 use Rattle.ux_apply.specs.declared.priority.Priority.TheVariants.{High, Normal, Low}

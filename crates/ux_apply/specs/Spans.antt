@@ -1,4 +1,5 @@
--- The parts of a text to which entries may apply. The manual, on applying dictionaries.
+-- The parts of a text to which entries may apply. The manual, on applying dictionaries. Public: the
+-- crate's public contracts speak of it.
 use Rattle.std.specs.Prelude.{ℕ, ◌+◌, ◌≤◌, List, IsSomeAnd, slice_get, slice_range}
 use Rattle.ux_tokens.specs.declared.kind.Kind.{Kind}
 use Rattle.ux_tokens.specs.declared.kind.Kind.TheVariants.{Word, Space, Other, Sentence, Stop, Tag}

@@ -1,10 +1,10 @@
 -- Which entries apply to the tokens and spans of a text. The manual, on applying dictionaries.
+-- Public: the crate's public contracts speak of it.
 use Rattle.std.specs.Prelude.{◌≡◌, ◌↔◌, ℕ, ◌+◌, List, [], ◌∷◌, ◌++◌, Some, All, Contains, IsSomeAnd, length, map, slice_get}
 use Rattle.std.specs.List.{AllZip}
 use Rattle.std.specs.List.Sorted.{IsStrictlyIncreasing}
 use Rattle.std.specs.Str.{chars}
-use Rattle.ux_alphabet.specs.declared.line.Line.{Line}
-use Rattle.ux_alphabet.specs.Letters.{IsLetter}
+use Rattle.ux_alphabet.specs.Letters.{Letters, IsLetter}
 use Rattle.ux_dela.specs.declared.entry.Entry.{Entry}
 use Rattle.ux_tokens.specs.declared.kind.Kind.{Kind}
 use Rattle.ux_tokens.specs.declared.kind.Kind.TheVariants.{Word, Space, Other, Sentence, Stop, Tag}
@@ -22,79 +22,79 @@ pub record Tables : Type 0 where
   pub unknown : List ℕ
 
 -- the form of the entry has letters alone
-abbrev pub IsSimpleForm : List Line → Entry → Type 0
-IsSimpleForm lines entry = All (IsLetter lines) (chars entry.form)
+abbrev pub IsSimpleForm : Letters → Entry → Type 0
+IsSimpleForm alphabet entry = All (IsLetter alphabet) (chars entry.form)
 
 -- the entry of a tag is its simple one, if the form has letters alone
-pub record IsOwnSimple (lines : List Line) (text : List ℕ) (entries : List Entry) : Type 0 where
+pub record IsOwnSimple (alphabet : Letters) (text : List ℕ) (entries : List Entry) : Type 0 where
   pub entry : Entry
   pub tag : IsTag text entry
-  pub letters : IsSimpleForm lines entry → entries ≡ entry ∷ []
-  pub others : (IsSimpleForm lines entry → ⊥) → entries ≡ []
+  pub letters : IsSimpleForm alphabet entry → entries ≡ entry ∷ []
+  pub others : (IsSimpleForm alphabet entry → ⊥) → entries ≡ []
 
 -- and otherwise it is its compound one, with the tag as its last token
-pub record IsOwnCompound (lines : List Line) (text : List ℕ) (place : ℕ)
+pub record IsOwnCompound (alphabet : Letters) (text : List ℕ) (place : ℕ)
     (row : List (ℕ × Entry)) : Type 0 where
   pub entry : Entry
   pub tag : IsTag text entry
-  pub letters : IsSimpleForm lines entry → row ≡ []
-  pub others : (IsSimpleForm lines entry → ⊥) → row ≡ (place, entry) ∷ []
+  pub letters : IsSimpleForm alphabet entry → row ≡ []
+  pub others : (IsSimpleForm alphabet entry → ⊥) → row ≡ (place, entry) ∷ []
 
 -- a tag has its own simple entry, and another token has none
-abbrev pub AreOwnSimple : List Line → Kind → (text : List ℕ) → List Entry → Type 0
-AreOwnSimple lines Word text entries = entries ≡ []
-AreOwnSimple lines Space text entries = entries ≡ []
-AreOwnSimple lines Other text entries = entries ≡ []
-AreOwnSimple lines Sentence text entries = entries ≡ []
-AreOwnSimple lines Stop text entries = entries ≡ []
-AreOwnSimple lines Tag text entries = IsOwnSimple lines text entries
+abbrev pub AreOwnSimple : Letters → Kind → (text : List ℕ) → List Entry → Type 0
+AreOwnSimple alphabet Word text entries = entries ≡ []
+AreOwnSimple alphabet Space text entries = entries ≡ []
+AreOwnSimple alphabet Other text entries = entries ≡ []
+AreOwnSimple alphabet Sentence text entries = entries ≡ []
+AreOwnSimple alphabet Stop text entries = entries ≡ []
+AreOwnSimple alphabet Tag text entries = IsOwnSimple alphabet text entries
 
 -- a tag has its own compound entry, and another token has none
-abbrev pub AreOwnCompound : List Line → Kind → (text : List ℕ) → (place : ℕ) →
+abbrev pub AreOwnCompound : Letters → Kind → (text : List ℕ) → (place : ℕ) →
     List (ℕ × Entry) → Type 0
-AreOwnCompound lines Word text place row = row ≡ []
-AreOwnCompound lines Space text place row = row ≡ []
-AreOwnCompound lines Other text place row = row ≡ []
-AreOwnCompound lines Sentence text place row = row ≡ []
-AreOwnCompound lines Stop text place row = row ≡ []
-AreOwnCompound lines Tag text place row = IsOwnCompound lines text place row
+AreOwnCompound alphabet Word text place row = row ≡ []
+AreOwnCompound alphabet Space text place row = row ≡ []
+AreOwnCompound alphabet Other text place row = row ≡ []
+AreOwnCompound alphabet Sentence text place row = row ≡ []
+AreOwnCompound alphabet Stop text place row = row ≡ []
+AreOwnCompound alphabet Tag text place row = IsOwnCompound alphabet text place row
 
-module _ (lines : List Line) (dics : List (Priority × List Entry)) where
+module _ (alphabet : Letters) (dics : List (Priority × List Entry)) where
   -- a word has the simple entries that apply to its text, a tag its own, and another token has none
   abbrev pub AreSimpleOf : Kind → (text : List ℕ) → List Entry → Type 0
-  AreSimpleOf Word text entries = AreApplying lines dics text entries
+  AreSimpleOf Word text entries = AreApplying alphabet dics text entries
   AreSimpleOf Space text entries = entries ≡ []
   AreSimpleOf Other text entries = entries ≡ []
   AreSimpleOf Sentence text entries = entries ≡ []
   AreSimpleOf Stop text entries = entries ≡ []
-  AreSimpleOf Tag text entries = IsOwnSimple lines text entries
+  AreSimpleOf Tag text entries = IsOwnSimple alphabet text entries
 
   -- each token has its simple entries
   abbrev pub AreSimple : List Token → List (List Entry) → Type 0
   AreSimple tokens rows = AllZip (λ token entries. AreSimpleOf token.kind token.text entries) tokens rows
 
-module _ (lines : List Line) (dics : List (Priority × List Entry)) (tokens : List Token)
+module _ (alphabet : Letters) (dics : List (Priority × List Entry)) (tokens : List Token)
     (first : ℕ) where
   -- a span has the entries that apply to its text, and other neighbouring tokens have none
   pub record AreOfSpan (last : ℕ) (entries : List Entry) : Type 0 where
     pub applying : IsSpan tokens first last →
-        AreApplying lines dics (text_of tokens first last) entries
+        AreApplying alphabet dics (text_of tokens first last) entries
     pub none : (IsSpan tokens first last → ⊥) → entries ≡ []
 
   -- the row has the token's own compound entry, and those of all spans that begin there, have two
   -- or more tokens and end before a place, in order of last token
   pub data AreCompoundUpTo : (end : ℕ) (row : List (ℕ × Entry)) → Type 0 where
     start : (row : List (ℕ × Entry)) → IsSomeAnd (slice_get tokens first)
-        (λ token. AreOwnCompound lines token.kind token.text first row) →
+        (λ token. AreOwnCompound alphabet token.kind token.text first row) →
         AreCompoundUpTo (first + 1) row
     more : (last : ℕ) (row : List (ℕ × Entry)) (entries : List Entry) →
         AreCompoundUpTo last row → AreOfSpan last entries →
         AreCompoundUpTo (last + 1) (row ++ map (λ entry. (last, entry)) entries)
 
-module _ (lines : List Line) (dics : List (Priority × List Entry)) (tokens : List Token) where
+module _ (alphabet : Letters) (dics : List (Priority × List Entry)) (tokens : List Token) where
   -- the row has the compound entries that begin at a token
   abbrev pub IsCompoundRow : (first : ℕ) (row : List (ℕ × Entry)) → Type 0
-  IsCompoundRow first row = AreCompoundUpTo lines dics tokens first (length tokens) row
+  IsCompoundRow first row = AreCompoundUpTo alphabet dics tokens first (length tokens) row
 
   -- each token has the compound entries that begin there
   pub record AreCompounds (rows : List (List (ℕ × Entry))) : Type 0 where
@@ -118,8 +118,8 @@ module _ (tokens : List Token) (simple : List (List Entry)) where
     pub exact : (number : ℕ) → Contains numbers number ↔ IsUnknown number
 
 -- the tables are those of the dictionaries over the tokens
-pub record AreApplied (lines : List Line) (dics : List (Priority × List Entry))
+pub record AreApplied (alphabet : Letters) (dics : List (Priority × List Entry))
     (tokens : List Token) (tables : Tables) : Type 0 where
-  pub simple : AreSimple lines dics tokens tables.simple
-  pub compounds : AreCompounds lines dics tokens tables.compounds
+  pub simple : AreSimple alphabet dics tokens tables.simple
+  pub compounds : AreCompounds alphabet dics tokens tables.compounds
   pub unknown : AreUnknown tokens tables.simple tables.unknown

@@ -1,4 +1,5 @@
--- Words without a simple entry, by their numbers and the rows of these.
+-- Words without a simple entry, by their numbers and the rows of these. Inner: the crate's own
+-- functions alone speak of it.
 use Rattle.std.specs.Prelude.{◌≡◌, ℕ, List, [], Option, Some, Contains, Vec}
 use Rattle.ux_dela.specs.declared.entry.Entry.{Entry}
 use Rattle.ux_apply.specs.Kept.{row_at}

@@ -1,7 +1,8 @@
 //! How spans with entries may begin.
 //!
-//! In a text the second token of a span is mostly a space. So what the dictionaries answer of a
-//! token and a space is asked once for each different token, and not at each of its places.
+//! In a text of words the second token of a span is mostly a space. So what the dictionaries answer
+//! of a token and a space is asked once for each different token, and not at each of its places.
+//! Where each letter is a word, it is mostly a letter, and the first step of the span asks.
 
 ghost use Rattle.std.specs.Prelude.{◌≡◌, ◌<◌, ◌⊎◌, ◌+◌, ◌≤◌, ◌^◌, IfOk, IsFalse, IsTrue, MatchOption, Some, length, slice_get};
 ghost use Rattle.ux_apply.specs.Applying.{contents};

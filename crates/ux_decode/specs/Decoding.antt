@@ -1,4 +1,5 @@
--- The text of a file, and when a file is refused.
+-- The text of a file, and when a file is refused. Public: the crate's public contracts speak of
+-- it.
 use Rattle.std.specs.Prelude.{◌≡◌, ℕ, ◌+◌, List, [], ◌∷◌, ◌++◌, true, length, drop, Option, None, ⊤}
 use Rattle.std.specs.Str.{IsUtf8, encode_utf8_all, all_scalars}
 use Rattle.std.specs.Str.Lossy.{utf8_valid_len}

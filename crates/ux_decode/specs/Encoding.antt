@@ -1,4 +1,5 @@
--- The encoding that a file's mark names, and what characters are in each.
+-- The encoding that a file's mark names, and what characters are in each. Public, through
+-- `Decoding`.
 use Rattle.std.specs.Prelude.{◌≡◌, ℕ, ◌+◌, ◌*◌, ◌/◌, ◌%◌, ◌<◌, List, [], ◌∷◌, ◌++◌, drop, nat_eq, if◌then◌else◌}
 use Rattle.std.specs.List.{starts_with, flat_map}
 use Rattle.std.specs.Str.{encode_utf8_all}

@@ -1,9 +1,10 @@
 -- The entries of a file are counted line by line.
 use Rattle.std.proofs.Common.{refl, ◌≡◌, ℕ, ◌+◌, List, [], ◌∷◌, ◌++◌, sym, ◌∙◌, ap, length, length-append}
 use Rattle.ux_base.specs.Lines.{lines_of}
-use Rattle.ux_dela.specs.Files.{AreSaid, HasCount}
+use Rattle.ux_base.specs.EachLine.{AreSaid}
+use Rattle.ux_dela.specs.Files.{HasCount}
 use Rattle.ux_dela.specs.declared.error.DelaError.{DelaError}
-use Rattle.ux_dela.proofs.FileLemmas.{IsReadTo, read_start, read_more, read_whole}
+use Rattle.ux_base.proofs.EachLineLemmas.{IsReadTo, read_start, read_more, read_whole}
 
 module _ {T : Type 0} (Says : List ℕ → List T → Type 0)
     (Refuses : List ℕ → ℕ → DelaError → Type 0) where

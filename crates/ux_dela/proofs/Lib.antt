@@ -5,7 +5,6 @@ pub mod CodesTextLemmas
 pub mod CountLemmas
 pub mod CutLemmas
 pub mod ExclusionLemmas
-pub mod FileLemmas
 pub mod LineLemmas
 pub mod ListLemmas
 pub mod PartLemmas

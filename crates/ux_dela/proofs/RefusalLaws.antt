@@ -5,7 +5,7 @@ use Rattle.ux_dela.specs.Delaf.{DelafSays, RefusesDelaf}
 use Rattle.ux_dela.specs.Files.{Refuses}
 use Rattle.ux_dela.specs.declared.error.DelaError.{DelaError}
 use Rattle.ux_dela.proofs.ExclusionLemmas.{says_excluded}
-use Rattle.ux_dela.proofs.FileLemmas.{refused_in_one_way}
+use Rattle.ux_base.proofs.EachLineLemmas.{refused_in_one_way}
 use Rattle.ux_dela.proofs.RefusalLemmas.{one_fault}
 
 -- no line of forms is refused in two ways

@@ -11,7 +11,8 @@ use Rattle.ux_base.proofs.LinesLemmas.{HasNoFeedBefore, lines_behind-last}
 use Rattle.ux_dela.specs.Signs.{COMMA, DOT, SLASH, SPACE, HYPHEN, EQUALS, is_comma, is_dot, is_equals, is_form_sign, is_printed_code_sign}
 use Rattle.ux_dela.specs.Written.{Written, bare, protected, written, IsPart, is_end, has_bare, meant, all_meant}
 use Rattle.ux_dela.specs.Delaf.{IsSkipped, DelafParts, IsDelafLine, DelafSays, entries, entries_of, entry_as, has_mark, lemma_of}
-use Rattle.ux_dela.specs.Files.{AreEntries, AreSaid, no_line, line_then}
+use Rattle.ux_base.specs.EachLine.{AreSaid, no_line, line_then}
+use Rattle.ux_dela.specs.Files.{AreEntries}
 use Rattle.ux_dela.specs.Sound.{is_feed, HasNoFeed, IsSound}
 use Rattle.ux_dela.specs.Printed.{shield, shielded, all_shielded, shielded_form, shielded_lemma, shielded_codes, printed, printed_codes, IsPrintable}
 use Rattle.ux_dela.specs.declared.entry.Entry.{Entry}

@@ -10,7 +10,7 @@ use Rattle.ux_dela.specs.Signs.{COMMA, DOT, PLUS, COLON, SPACE, HYPHEN, EQUALS, 
 use Rattle.ux_dela.specs.Written.{Written, bare, protected, written, byte_as, meant, meant_as, all_meant, all_behind}
 use Rattle.ux_dela.specs.Codes.{AreCodes, IsCodeList}
 use Rattle.ux_dela.specs.Delaf.{DelafParts, IsDelafLine, DelafSays, skipped, entries, entries_of, entry_as, has_mark, lemma_of}
-use Rattle.ux_dela.specs.Files.{AreSaid, no_line, line_then}
+use Rattle.ux_base.specs.EachLine.{AreSaid, no_line, line_then}
 use Rattle.ux_dela.specs.Sound.{is_feed, HasNoFeed, IsSoundText, AreSoundTexts, AreSoundCodes, IsSound}
 use Rattle.ux_dela.specs.declared.entry.Entry.{Entry}
 use Rattle.ux_dela.proofs.CharactersLemmas.{written-append}

@@ -8,7 +8,7 @@ use Rattle.ux_dela.specs.Files.{AreStems, RefusesStems}
 use Rattle.ux_dela.specs.declared.entry.Stem.{Stem}
 use Rattle.ux_dela.specs.declared.error.DelaError.{DelaError}
 use Rattle.ux_dela.specs.declared.error.DelaError.TheVariants.{NoComma, NoDot, EmptyForm, EmptyCode, BadEscape, BadClass, NoMemory}
-use Rattle.ux_dela.proofs.FileLemmas.{said_once, refused_in_one_way}
+use Rattle.ux_base.proofs.EachLineLemmas.{said_once, refused_in_one_way}
 use Rattle.ux_dela.proofs.StemExclusionLemmas.{stem_excluded}
 use Rattle.ux_dela.proofs.StemUniqueLemmas.{same_stem_cut, same_stem_list, one_class, one_empty_place, listed_not_empty, cut_has_comma, cut_not_open, open_has_end}
 

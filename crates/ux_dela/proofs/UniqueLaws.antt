@@ -8,7 +8,7 @@ use Rattle.ux_dela.specs.Files.{AreEntries}
 use Rattle.ux_dela.specs.declared.entry.Entry.{Entry}
 use Rattle.ux_dela.proofs.CodesLemmas.{one_list}
 use Rattle.ux_dela.proofs.ExclusionLemmas.{one_cut}
-use Rattle.ux_dela.proofs.FileLemmas.{said_once}
+use Rattle.ux_base.proofs.EachLineLemmas.{said_once}
 
 -- the entries of these parts, whatever the codes' text and the comment are
 entries_in_parts : (form lemma gram : List Written) (sem infl : List (List Written)) → List Entry

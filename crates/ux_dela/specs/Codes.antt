@@ -1,5 +1,5 @@
 -- The codes of a line: a grammatical code, semantic codes and inflection codes. The manual, on
--- DELAF lines.
+-- DELAF lines. Public: the crate's public contracts speak of it.
 use Rattle.std.specs.Prelude.{◌≡◌, ◌≢◌, ℕ, Bool, true, List, [], ◌∷◌, ◌++◌, length}
 use Rattle.ux_dela.specs.Signs.{PLUS, COLON, is_code_sign, is_colon}
 use Rattle.ux_dela.specs.Written.{Written, bare, protected, written, IsPart, all_behind}

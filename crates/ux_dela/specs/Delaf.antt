@@ -1,4 +1,5 @@
--- Lines of forms: `form,lemma.codes` and a comment. The manual, on the DELAF format.
+-- Lines of forms: `form,lemma.codes` and a comment. The manual, on the DELAF format. Public: the
+-- crate's public contracts speak of it.
 use Rattle.std.specs.Prelude.{◌≡◌, ◌≢◌, ℕ, ◌+◌, Bool, ◌||◌, List, [], ◌∷◌, ◌++◌, if◌then◌else◌, length}
 use Rattle.ux_dela.specs.Signs.{COMMA, DOT, SLASH, EQUALS, SPACE, HYPHEN, BACKSLASH, is_comma, is_dot, is_slash, is_equals}
 use Rattle.ux_dela.specs.Written.{Written, bare, written, meant, meant_as, all_meant, IsPart, has_bare}

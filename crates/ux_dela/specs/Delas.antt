@@ -1,4 +1,5 @@
 -- Lines of lemmas: `lemma,class`, semantic codes and a comment. The manual, on the DELAS format.
+-- Public: the crate's public contracts speak of it.
 use Rattle.std.specs.Prelude.{◌≡◌, ◌≢◌, ℕ, ◌+◌, true, List, [], ◌∷◌, ◌++◌, length}
 use Rattle.std.specs.List.{list_all}
 use Rattle.ux_dela.specs.Signs.{COMMA, PLUS, BACKSLASH, is_comma, is_slash, is_plus, is_upper, is_digit}

@@ -1,4 +1,4 @@
--- How an entry is printed as a line.
+-- How an entry is printed as a line. Public: the crate's public contracts speak of it.
 use Rattle.std.specs.Prelude.{◌≡◌, ℕ, ◌==◌, Bool, true, false, List, [], ◌∷◌, ◌++◌, if◌then◌else◌}
 use Rattle.std.specs.Str.{bytes_eq}
 use Rattle.ux_base.specs.Lines.{ends_in_return}

@@ -1,5 +1,5 @@
 -- What the parts of the reader promise one another: a text as its characters, and a text that is
--- cut where a part ends.
+-- cut where a part ends. Inner: the crate's own functions alone speak of it.
 use Rattle.std.specs.Prelude.{◌≡◌, ◌≢◌, ℕ, ◌==◌, ◌+◌, ◌<◌, Bool, ◌||◌, true, false, List, [], ◌∷◌, ◌++◌, length, take, drop, slice_index, if◌then◌else◌, Option, None, Some}
 use Rattle.ux_dela.specs.Signs.{BACKSLASH, COMMA, DOT, PLUS, COLON, SPACE, HYPHEN, EQUALS, is_comma, is_dot, is_slash, is_code_sign, is_colon, is_plus, is_equals, is_brace, is_form_sign, is_printed_code_sign}
 use Rattle.ux_dela.specs.Written.{Written, bare, protected, written, meant, meant_as, all_meant, IsPart, is_end, all_behind, has_bare}

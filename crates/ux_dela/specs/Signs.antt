@@ -1,4 +1,5 @@
 -- The signs of dictionary lines. All are ASCII, so that no byte of a longer character is one.
+-- Public: the crate's public contracts speak of it.
 use Rattle.std.specs.Prelude.{ℕ, ◌==◌, Bool, ◌||◌, ◌&&◌, nat_le}
 
 abbrev pub COMMA : ℕ

@@ -1,4 +1,4 @@
--- Which entries dictionary lines can say.
+-- Which entries dictionary lines can say. Public: the crate's public contracts speak of it.
 use Rattle.std.specs.Prelude.{◌≡◌, ◌≢◌, ℕ, ◌==◌, Bool, false, List, [], ◌∷◌}
 use Rattle.std.specs.List.{list_any}
 use Rattle.ux_dela.specs.Signs.{LINE_FEED}

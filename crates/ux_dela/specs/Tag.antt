@@ -1,4 +1,5 @@
--- Which bodies of tags are entries. The manual, on tags in a text.
+-- Which bodies of tags are entries. The manual, on tags in a text. Public: the crate's public
+-- contracts speak of it.
 use Rattle.std.specs.Prelude.{◌≡◌, ℕ, List, [], ◌∷◌}
 use Rattle.ux_dela.specs.Signs.{is_brace}
 use Rattle.ux_dela.specs.Written.{Written, written, IsPart}

@@ -1,4 +1,5 @@
 -- How the parts of a dictionary line are written: each character bare or behind a backslash.
+-- Public: the crate's public contracts speak of it.
 use Rattle.std.specs.Prelude.{◌≡◌, ℕ, ◌==◌, Bool, false, ◌||◌, List, [], ◌∷◌, ◌++◌, if◌then◌else◌}
 use Rattle.ux_dela.specs.Signs.{BACKSLASH, EQUALS, is_equals}
 

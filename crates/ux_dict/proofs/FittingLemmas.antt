@@ -9,8 +9,7 @@ use Rattle.std.proofs.lemmas.List.{append_assoc, append-nil, take_more, take_at,
 use Rattle.std.proofs.lemmas.List.Elements.{All-nil, All-cons, All-head, All-append, All-weaker, All-contains, AllZip-push, length_all_zip, Contains-append_left, Contains-push}
 use Rattle.std.proofs.lemmas.Str.{length-le-encodes}
 use lib.Utf8.{encodes}
-use Rattle.ux_alphabet.specs.declared.line.Line.{Line}
-use Rattle.ux_alphabet.specs.Letters.{Fits}
+use Rattle.ux_alphabet.specs.Letters.{Letters, Fits}
 use Rattle.ux_dela.specs.declared.entry.Entry.{Entry}
 use Rattle.ux_dict.specs.declared.parts.Part.{Part}
 use Rattle.ux_dict.specs.Content.{IsUpTo}
@@ -49,47 +48,47 @@ zip_apart R (x ∷ xs) (y ∷ ys) zs zip =
     (x ∷ rest.0, rest.1, ap (λ (l : List ℕ). x ∷ l) rest.2, (zip.0, rest.3), rest.4)
 
 -- what begins with characters that fit more begins with some that fit less
-pub fits_less : (lines : List Line) (front more : List ℕ) (entry : Entry) →
-    BeginsFittingAll lines (front ++ more) entry → BeginsFittingAll lines front entry
-fits_less lines front more entry (fitting, zip, (rest, is)) =
-    let split = zip_apart (Fits lines) fitting front more zip in
+pub fits_less : (alphabet : Letters) (front more : List ℕ) (entry : Entry) →
+    BeginsFittingAll alphabet (front ++ more) entry → BeginsFittingAll alphabet front entry
+fits_less alphabet front more entry (fitting, zip, (rest, is)) =
+    let split = zip_apart (Fits alphabet) fitting front more zip in
     let whole = is ∙ ap (λ (l : List ℕ). l ++ rest) split.2
     ∙ append_assoc split.0 split.1 rest in
     (split.0, split.3, (split.1 ++ rest, whole))
 
 -- no parts go on as none
-pub GoOn-none : (lines : List Line) (letters : List ℕ) (c : ℕ) (parts next : List Part) →
-    parts ≡ [] → next ≡ [] → GoOn lines letters c parts next
-GoOn-none lines letters c parts next is also front all spelled fit =
-    let P = BeginsFittingAll lines front in
+pub GoOn-none : (alphabet : Letters) (letters : List ℕ) (c : ℕ) (parts next : List Part) →
+    parts ≡ [] → next ≡ [] → GoOn alphabet letters c parts next
+GoOn-none alphabet letters c parts next is also front all spelled fit =
+    let P = BeginsFittingAll alphabet front in
     let whole = subst (λ (p : List Part). IsChosen P all (entries_of p)) is fit.whole in
-    subst (AreFittingParts lines (front ++ c ∷ []) all) (sym also) (record {
-      whole = chosen-again (BeginsFittingAll lines front)
-          (BeginsFittingAll lines (front ++ c ∷ [])) (fits_less lines front (c ∷ [])) whole none;
-      each = All-nil (IsFittingPart lines (front ++ c ∷ []));
+    subst (AreFittingParts alphabet (front ++ c ∷ []) all) (sym also) (record {
+      whole = chosen-again (BeginsFittingAll alphabet front)
+          (BeginsFittingAll alphabet (front ++ c ∷ [])) (fits_less alphabet front (c ∷ [])) whole none;
+      each = All-nil (IsFittingPart alphabet (front ++ c ∷ []));
     })
 
-module _ (lines : List Line) (all candidates front : List ℕ) (c : ℕ)
-    (are : AreCandidates lines all c candidates) where
+module _ (alphabet : Letters) (all candidates front : List ℕ) (c : ℕ)
+    (are : AreCandidates alphabet all c candidates) where
   -- one more character that fits
-  longer : (fitting : List ℕ) (d : ℕ) → AllZip (Fits lines) fitting front →
-      Contains candidates d → AllZip (Fits lines) (fitting ++ d ∷ []) (front ++ c ∷ [])
+  longer : (fitting : List ℕ) (d : ℕ) → AllZip (Fits alphabet) fitting front →
+      Contains candidates d → AllZip (Fits alphabet) (fitting ++ d ∷ []) (front ++ c ∷ [])
   longer fitting d zip member =
-      AllZip-push (Fits lines) fitting front d c zip
-      (All-contains (λ letter. Fits lines letter c) candidates d are.fit member)
+      AllZip-push (Fits alphabet) fitting front d c zip
+      (All-contains (λ letter. Fits alphabet letter c) candidates d are.fit member)
 
   -- a form of the part fits one character more exactly where it goes on with a candidate
-  goes_fitting : (fitting : List ℕ) (entry : Entry) → AllZip (Fits lines) fitting front →
+  goes_fitting : (fitting : List ℕ) (entry : Entry) → AllZip (Fits alphabet) fitting front →
       BeginsWith fitting entry → IsSpelled all entry →
-      GoesOnWith fitting candidates entry ↔ BeginsFittingAll lines (front ++ c ∷ []) entry
+      GoesOnWith fitting candidates entry ↔ BeginsFittingAll alphabet (front ++ c ∷ []) entry
   goes_fitting fitting entry zip begins spelled = (
     λ goes. (fitting ++ goes.0 ∷ [], longer fitting goes.0 zip goes.1, goes.2),
     λ more.
-        let split = zip_split (Fits lines) more.0 front c more.1 in
+        let split = zip_split (Fits alphabet) more.0 front c more.1 in
         let whole = more.2.1 ∙ ap (λ (l : List ℕ). l ++ more.2.0) split.2 in
         let behind = whole ∙ append_assoc split.0 (split.1 ∷ []) more.2.0 in
-        let long = length_all_zip (Fits lines) split.0 front split.3
-        ∙ sym (length_all_zip (Fits lines) fitting front zip) in
+        let long = length_all_zip (Fits alphabet) split.0 front split.3
+        ∙ sym (length_all_zip (Fits alphabet) fitting front zip) in
         let same = same_front split.0 fitting (split.1 ∷ more.2.0) begins.0
         (sym behind ∙ begins.1) long in
         let there : Contains (chars entry.form) split.1 =
@@ -107,14 +106,14 @@ module _ (lines : List Line) (all candidates front : List ℕ) (c : ℕ)
   )
 
   -- a part's new parts fit one character more
-  pub fitting_part : (part : Part) (old new : List Part) → IsFittingPart lines front part →
+  pub fitting_part : (part : Part) (old new : List Part) → IsFittingPart alphabet front part →
       ((fitting : List ℕ) → IsPart fitting part → IsContinued fitting candidates part old new) →
       All (IsSpelled all) part.entries.now → (before : List Entry) →
-      AreFittingParts lines (front ++ c ∷ []) before old →
-      AreFittingParts lines (front ++ c ∷ []) (before ++ part.entries.now) new
+      AreFittingParts alphabet (front ++ c ∷ []) before old →
+      AreFittingParts alphabet (front ++ c ∷ []) (before ++ part.entries.now) new
   fitting_part part old new (fitting, zip, is) continues spelled before so_far =
       let goes = continues fitting is in
-      let Q = BeginsFittingAll lines (front ++ c ∷ []) in
+      let Q = BeginsFittingAll alphabet (front ++ c ∷ []) in
       let chosen = chosen-same (GoesOnWith fitting candidates) Q
       (λ k d lt. goes_fitting fitting (get_or part.entries.now k d) zip (is.shared k d lt)
       (spelled k d lt)) goes.chosen in
@@ -122,18 +121,18 @@ module _ (lines : List Line) (all candidates front : List ℕ) (c : ℕ)
       record {
         whole = subst (IsChosen Q (before ++ part.entries.now)) (sym entries)
             (chosen-append Q so_far.whole chosen);
-        each = subst (All (IsFittingPart lines (front ++ c ∷ []))) (sym goes.is)
-            (All-append (IsFittingPart lines (front ++ c ∷ [])) old goes.pushed so_far.each
+        each = subst (All (IsFittingPart alphabet (front ++ c ∷ []))) (sym goes.is)
+            (All-append (IsFittingPart alphabet (front ++ c ∷ [])) old goes.pushed so_far.each
             (All-weaker (λ (p : Part). (d : ℕ) × Contains candidates d
-            × IsPart (fitting ++ d ∷ []) p) (IsFittingPart lines (front ++ c ∷ []))
+            × IsPart (fitting ++ d ∷ []) p) (IsFittingPart alphabet (front ++ c ∷ []))
             (λ p h. (fitting ++ h.0 ∷ [], longer fitting h.0 zip h.1, h.2)) goes.pushed goes.each));
       }
 
 -- no part so far
-pub fitting_start : (lines : List Line) (front : List ℕ) →
-    AreFittingParts lines front [] []
-fitting_start lines front =
-    record { whole = none; each = All-nil (IsFittingPart lines front) }
+pub fitting_start : (alphabet : Letters) (front : List ℕ) →
+    AreFittingParts alphabet front [] []
+fitting_start alphabet front =
+    record { whole = none; each = All-nil (IsFittingPart alphabet front) }
 
 -- the entries of the parts so far and of the next one
 pub entries_of-more : (parts : List Part) (i : ℕ) (part : Part) → i < length parts →
@@ -180,16 +179,16 @@ some_entry (first ∷ parts) (suc i) part lt at some =
     omega (arith, size, later)
 
 -- what holds of the parts alone holds of all entries
-pub GoOn-from : (lines : List Line) (letters : List ℕ) (c : ℕ) (parts next : List Part) →
-    ((front : List ℕ) → All (IsFittingPart lines front) parts →
+pub GoOn-from : (alphabet : Letters) (letters : List ℕ) (c : ℕ) (parts next : List Part) →
+    ((front : List ℕ) → All (IsFittingPart alphabet front) parts →
     All (IsSpelled letters) (entries_of parts) →
-    AreFittingParts lines (front ++ c ∷ []) (entries_of parts) next) →
-    GoOn lines letters c parts next
-GoOn-from lines letters c parts next goes front all spelled fit =
-    let P = BeginsFittingAll lines front in
+    AreFittingParts alphabet (front ++ c ∷ []) (entries_of parts) next) →
+    GoOn alphabet letters c parts next
+GoOn-from alphabet letters c parts next goes front all spelled fit =
+    let P = BeginsFittingAll alphabet front in
     let step = goes front fit.each (chosen-within P (IsSpelled letters) fit.whole spelled) in
     record {
-      whole = chosen-again P (BeginsFittingAll lines (front ++ c ∷ [])) (fits_less lines front (c ∷ []))
+      whole = chosen-again P (BeginsFittingAll alphabet (front ++ c ∷ [])) (fits_less alphabet front (c ∷ []))
           fit.whole step.whole;
       each = step.each;
     }
@@ -207,17 +206,17 @@ IsPart-whole keys letters longest entries part is same also len = record {
   ordered = subst (AllPairs IsUpTo) (sym same) is.dictionary.ordered;
 }
 
-pub fitting_whole : (lines : List Line) (part : Part) → IsPart [] part →
-    AreFittingParts lines [] part.entries.now (part ∷ [])
-fitting_whole lines part is =
-    let begins : (entry : Entry) → BeginsFittingAll lines [] entry =
+pub fitting_whole : (alphabet : Letters) (part : Part) → IsPart [] part →
+    AreFittingParts alphabet [] part.entries.now (part ∷ [])
+fitting_whole alphabet part is =
+    let begins : (entry : Entry) → BeginsFittingAll alphabet [] entry =
     λ entry. ([], tt, (chars entry.form, refl)) in
     record {
-      whole = subst (IsChosen (BeginsFittingAll lines []) part.entries.now)
+      whole = subst (IsChosen (BeginsFittingAll alphabet []) part.entries.now)
           (sym (append-nil part.entries.now))
-          (chosen-every (BeginsFittingAll lines []) part.entries.now begins);
-      each = All-cons (IsFittingPart lines []) part [] ([], tt, is)
-          (All-nil (IsFittingPart lines []));
+          (chosen-every (BeginsFittingAll alphabet []) part.entries.now begins);
+      each = All-cons (IsFittingPart alphabet []) part [] ([], tt, is)
+          (All-nil (IsFittingPart alphabet []));
     }
   where
     chosen-every : (P : Entry → Type 0) (xs : List Entry) → ((x : Entry) → P x) → IsChosen P xs xs
@@ -225,11 +224,11 @@ fitting_whole lines part is =
     chosen-every P (x ∷ xs) all = kept (all x) (chosen-every P xs all)
 
 -- a form of a part that fits a text ends with it exactly where the form fits it whole
-ends_whole : (lines : List Line) (text fitting : List ℕ) (part : Part) →
-    AllZip (Fits lines) fitting text → (is : IsPart fitting part) → (k : ℕ) (d : Entry) →
+ends_whole : (alphabet : Letters) (text fitting : List ℕ) (part : Part) →
+    AllZip (Fits alphabet) fitting text → (is : IsPart fitting part) → (k : ℕ) (d : Entry) →
     k < length part.entries.now → (ends_by part.len (get_or part.entries.now k d) ≡ true)
-    ↔ AllZip (Fits lines) (chars (get_or part.entries.now k d).form) text
-ends_whole lines text fitting part zip is k d lt =
+    ↔ AllZip (Fits alphabet) (chars (get_or part.entries.now k d).form) text
+ends_whole alphabet text fitting part zip is k d lt =
     let form = (get_or part.entries.now k d).form in
     let begins = is.shared k d lt in
     let size = ap length (form_is form fitting begins.0 (is.utf8 k d lt) begins.1)
@@ -239,10 +238,10 @@ ends_whole lines text fitting part zip is k d lt =
           let few = length-le-encodes begins.0 in
           let empty = nil_from_length begins.0 (omega (arith, short, size, few, is.long)) in
           let whole = begins.1 ∙ ap (λ (l : List ℕ). fitting ++ l) empty ∙ append-nil fitting in
-          subst (λ (l : List ℕ). AllZip (Fits lines) l text) (sym whole) zip,
+          subst (λ (l : List ℕ). AllZip (Fits alphabet) l text) (sym whole) zip,
       λ fits.
-          let long = length_all_zip (Fits lines) (chars form) text fits in
-          let same = length_all_zip (Fits lines) fitting text zip in
+          let long = length_all_zip (Fits alphabet) (chars form) text fits in
+          let same = length_all_zip (Fits alphabet) fitting text zip in
           let parts = ap length begins.1 ∙ length-append fitting begins.0 in
           let empty = nil_from_length begins.0 (omega (arith, long, same, parts)) in
           let bytes = ap (λ (l : List ℕ). length (encodes l)) empty in
@@ -250,29 +249,29 @@ ends_whole lines text fitting part zip is k d lt =
     )
 
 -- the entries of a part whose forms end with the text
-pub whole_part : (lines : List Line) (text : List ℕ) (part : Part) (found : List Entry) →
-    IsFittingPart lines text part →
+pub whole_part : (alphabet : Letters) (text : List ℕ) (part : Part) (found : List Entry) →
+    IsFittingPart alphabet text part →
     (IsPartitionedBy (ends_by part.len) part.entries.now →
     found ≡ filter (ends_by part.len) part.entries.now) →
-    IsChosen (λ entry. AllZip (Fits lines) (chars entry.form) text) part.entries.now found
-whole_part lines text part found (fitting, zip, is) given =
-    let W : Entry → Type 0 = λ entry. AllZip (Fits lines) (chars entry.form) text in
+    IsChosen (λ entry. AllZip (Fits alphabet) (chars entry.form) text) part.entries.now found
+whole_part alphabet text part found (fitting, zip, is) given =
+    let W : Entry → Type 0 = λ entry. AllZip (Fits alphabet) (chars entry.form) text in
     subst (IsChosen W part.entries.now) (sym (given (ends_parted fitting part is)))
     (chosen-filter W (ends_by part.len) part.entries.now
-    (ends_whole lines text fitting part zip is))
+    (ends_whole alphabet text fitting part zip is))
 
 -- a form that fits a text whole begins fitting it
-pub whole_begins : (lines : List Line) (text : List ℕ) (entry : Entry) →
-    AllZip (Fits lines) (chars entry.form) text → BeginsFittingAll lines text entry
-whole_begins lines text entry zip =
+pub whole_begins : (alphabet : Letters) (text : List ℕ) (entry : Entry) →
+    AllZip (Fits alphabet) (chars entry.form) text → BeginsFittingAll alphabet text entry
+whole_begins alphabet text entry zip =
     (chars entry.form, zip, ([], sym (append-nil (chars entry.form))))
 
 -- some entry may begin the text exactly where the parts have one
-pub MayBegin-some : (lines : List Line) (text : List ℕ) (content : List Entry)
-    (parts : List Part) → AreFittingParts lines (chars text) content parts →
-    (0 < length (entries_of parts)) ↔ MayBegin lines text content
-MayBegin-some lines text content parts fit =
-    let P = BeginsFittingAll lines (chars text) in (
+pub MayBegin-some : (alphabet : Letters) (text : List ℕ) (content : List Entry)
+    (parts : List Part) → AreFittingParts alphabet (chars text) content parts →
+    (0 < length (entries_of parts)) ↔ MayBegin alphabet text content
+MayBegin-some alphabet text content parts fit =
+    let P = BeginsFittingAll alphabet (chars text) in (
       λ some. first (entries_of parts) fit.whole some,
       λ (k, entry, lt, at, begins).
           let member = chosen-member P entry fit.whole (k, lt, at)
@@ -281,11 +280,11 @@ MayBegin-some lines text content parts fit =
     )
   where
     first : (found : List Entry) →
-        IsChosen (BeginsFittingAll lines (chars text)) content found → 0 < length found →
-        MayBegin lines text content
+        IsChosen (BeginsFittingAll alphabet (chars text)) content found → 0 < length found →
+        MayBegin alphabet text content
     first [] chosen some = absurd (omega (arith, some))
     first (entry ∷ found) chosen some =
-        let P = BeginsFittingAll lines (chars text) in
+        let P = BeginsFittingAll alphabet (chars text) in
         let begins = All-head P entry found (chosen-all P chosen) in
         let member = chosen-from P entry chosen (0, omega arith, refl) in
         (member.0, entry, member.1, member.2, (begins.0, begins.2.0, begins.2.1, begins.1))

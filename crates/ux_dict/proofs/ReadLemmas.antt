@@ -8,7 +8,7 @@ use Rattle.ux_dela.specs.Files.{Refuses}
 use Rattle.ux_dela.specs.declared.entry.Entry.{Entry}
 use Rattle.ux_dela.specs.declared.error.DelaError.{DelaError}
 use Rattle.ux_dela.proofs.ExclusionLemmas.{says_excluded}
-use Rattle.ux_dela.proofs.FileLemmas.{IsReadTo, read_start, read_more, read_whole, not_refused}
+use Rattle.ux_base.proofs.EachLineLemmas.{IsReadTo, read_start, read_more, read_whole, not_refused}
 use Rattle.ux_dela.proofs.SoundLemmas.{lines_of-no_feed, sound_file}
 use Rattle.ux_dict.specs.Content.{IsDictionary}
 use Rattle.ux_dict.specs.Equal.{entry_eq}

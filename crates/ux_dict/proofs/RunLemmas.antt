@@ -8,8 +8,7 @@ use Rattle.ux_dict.specs.Kept.{IsSpelled}
 use Rattle.std.specs.List.{AllZip}
 use Rattle.std.proofs.lemmas.List.{append_assoc, append-nil}
 use Rattle.std.proofs.lemmas.List.Elements.{All-append, All-weaker, All-head, All-tail, All-nil, All-push, length_all_zip}
-use Rattle.ux_alphabet.specs.declared.line.Line.{Line}
-use Rattle.ux_alphabet.specs.Letters.{Fits, FitsAlone}
+use Rattle.ux_alphabet.specs.Letters.{Letters, Fits, FitsAlone}
 use Rattle.ux_dela.specs.declared.entry.Entry.{Entry}
 use Rattle.ux_dict.specs.declared.parts.Part.{Part}
 use Rattle.ux_dict.specs.Forms.{IsChosen}
@@ -26,39 +25,39 @@ AllZip-append R (x ∷ xs) [] us vs zip more = absurd zip
 AllZip-append R (x ∷ xs) (y ∷ ys) us vs zip more =
     (zip.0, AllZip-append R xs ys us vs zip.1 more)
 
-module _ (lines : List Line) where
+module _ (alphabet : Letters) where
   -- each character fits itself
-  fits_itself : (run : List ℕ) → AllZip (Fits lines) run run
+  fits_itself : (run : List ℕ) → AllZip (Fits alphabet) run run
   fits_itself [] = tt
   fits_itself (c ∷ run) = (inl refl, fits_itself run)
 
-  only_itself : (fitting run : List ℕ) → All (FitsAlone lines) run →
-      AllZip (Fits lines) fitting run → fitting ≡ run
+  only_itself : (fitting run : List ℕ) → All (FitsAlone alphabet) run →
+      AllZip (Fits alphabet) fitting run → fitting ≡ run
   only_itself [] [] alone zip = refl
   only_itself [] (c ∷ run) alone zip = absurd zip
   only_itself (x ∷ fitting) [] alone zip = absurd zip
   only_itself (x ∷ fitting) (c ∷ run) alone zip =
-      let first = All-head (FitsAlone lines) c run alone x zip.0 in
-      let rest = only_itself fitting run (All-tail (FitsAlone lines) c run alone) zip.1 in
+      let first = All-head (FitsAlone alphabet) c run alone x zip.0 in
+      let rest = only_itself fitting run (All-tail (FitsAlone alphabet) c run alone) zip.1 in
       ap (λ d. d ∷ fitting) first ∙ ap (λ (l : List ℕ). c ∷ l) rest
 
-  module _ (front run : List ℕ) (alone : All (FitsAlone lines) run) where
-    longer : (fitting : List ℕ) → AllZip (Fits lines) fitting front →
-        AllZip (Fits lines) (fitting ++ run) (front ++ run)
-    longer fitting zip = AllZip-append (Fits lines) fitting front run run zip (fits_itself run)
+  module _ (front run : List ℕ) (alone : All (FitsAlone alphabet) run) where
+    longer : (fitting : List ℕ) → AllZip (Fits alphabet) fitting front →
+        AllZip (Fits alphabet) (fitting ++ run) (front ++ run)
+    longer fitting zip = AllZip-append (Fits alphabet) fitting front run run zip (fits_itself run)
 
     -- a form of a part fits these as well exactly where it goes on with them
-    goes_fitting : (fitting : List ℕ) (entry : Entry) → AllZip (Fits lines) fitting front →
+    goes_fitting : (fitting : List ℕ) (entry : Entry) → AllZip (Fits alphabet) fitting front →
         BeginsWith fitting entry →
-        BeginsWith (fitting ++ run) entry ↔ BeginsFittingAll lines (front ++ run) entry
+        BeginsWith (fitting ++ run) entry ↔ BeginsFittingAll alphabet (front ++ run) entry
     goes_fitting fitting entry zip begins = (
       λ goes. (fitting ++ run, longer fitting zip, goes),
       λ more.
-          let split = zip_apart (Fits lines) more.0 front run more.1 in
+          let split = zip_apart (Fits alphabet) more.0 front run more.1 in
           let whole = more.2.1 ∙ ap (λ (l : List ℕ). l ++ more.2.0) split.2 in
           let behind = whole ∙ append_assoc split.0 split.1 more.2.0 in
-          let long = length_all_zip (Fits lines) split.0 front split.3
-          ∙ sym (length_all_zip (Fits lines) fitting front zip) in
+          let long = length_all_zip (Fits alphabet) split.0 front split.3
+          ∙ sym (length_all_zip (Fits alphabet) fitting front zip) in
           let same = same_front split.0 fitting (split.1 ++ more.2.0) begins.0
           (sym behind ∙ begins.1) long in
           let last = only_itself split.1 run alone split.4 in (
@@ -69,13 +68,13 @@ module _ (lines : List Line) where
     )
 
     -- a part's new parts fit these as well
-    pub fitting_run : (part : Part) (old new : List Part) → IsFittingPart lines front part →
+    pub fitting_run : (part : Part) (old new : List Part) → IsFittingPart alphabet front part →
         ((fitting : List ℕ) → IsPart fitting part → IsFollowed fitting run part old new) →
-        (before : List Entry) → AreFittingParts lines (front ++ run) before old →
-        AreFittingParts lines (front ++ run) (before ++ part.entries.now) new
+        (before : List Entry) → AreFittingParts alphabet (front ++ run) before old →
+        AreFittingParts alphabet (front ++ run) (before ++ part.entries.now) new
     fitting_run part old new (fitting, zip, is) follows before so_far =
         let goes = follows fitting is in
-        let Q = BeginsFittingAll lines (front ++ run) in
+        let Q = BeginsFittingAll alphabet (front ++ run) in
         let chosen = chosen-same (BeginsWith (fitting ++ run)) Q
         (λ k d lt. goes_fitting fitting (get_or part.entries.now k d) zip (is.shared k d lt))
         goes.chosen in
@@ -83,81 +82,81 @@ module _ (lines : List Line) where
         record {
           whole = subst (IsChosen Q (before ++ part.entries.now)) (sym entries)
               (chosen-append Q so_far.whole chosen);
-          each = subst (All (IsFittingPart lines (front ++ run))) (sym goes.is)
-              (All-append (IsFittingPart lines (front ++ run)) old goes.pushed so_far.each
-              (All-weaker (IsPart (fitting ++ run)) (IsFittingPart lines (front ++ run))
+          each = subst (All (IsFittingPart alphabet (front ++ run))) (sym goes.is)
+              (All-append (IsFittingPart alphabet (front ++ run)) old goes.pushed so_far.each
+              (All-weaker (IsPart (fitting ++ run)) (IsFittingPart alphabet (front ++ run))
               (λ p h. (fitting ++ run, longer fitting zip, h)) goes.pushed goes.each));
         }
 
 -- what holds of the parts alone holds of all entries
 pub GoOnAlone-from : (more : List ℕ) (parts next : List Part) →
-    ((lines : List Line) (front : List ℕ) → All (FitsAlone lines) more →
-    All (IsFittingPart lines front) parts →
-    AreFittingParts lines (front ++ more) (entries_of parts) next) → GoOnAlone more parts next
-GoOnAlone-from more parts next goes lines front all alone fit =
-    let step = goes lines front alone fit.each in
+    ((alphabet : Letters) (front : List ℕ) → All (FitsAlone alphabet) more →
+    All (IsFittingPart alphabet front) parts →
+    AreFittingParts alphabet (front ++ more) (entries_of parts) next) → GoOnAlone more parts next
+GoOnAlone-from more parts next goes alphabet front all alone fit =
+    let step = goes alphabet front alone fit.each in
     record {
-      whole = chosen-again (BeginsFittingAll lines front) (BeginsFittingAll lines (front ++ more))
-          (fits_less lines front more) fit.whole step.whole;
+      whole = chosen-again (BeginsFittingAll alphabet front) (BeginsFittingAll alphabet (front ++ more))
+          (fits_less alphabet front more) fit.whole step.whole;
       each = step.each;
     }
 
 -- to go on with no character is to stay
 pub GoOnAlone-none : (more : List ℕ) (parts : List Part) → more ≡ [] → GoOnAlone more parts parts
-GoOnAlone-none more parts is lines front all alone fit =
-    subst (λ (l : List ℕ). AreFittingParts lines l all parts)
+GoOnAlone-none more parts is alphabet front all alone fit =
+    subst (λ (l : List ℕ). AreFittingParts alphabet l all parts)
     (sym (append-nil front) ∙ ap (λ (l : List ℕ). front ++ l) (sym is)) fit
 
 -- the parts fit the front of a text, but for a run of characters at its end that no others fit
-pub record AreFittingBut (lines : List Line) (front run : List ℕ) (all : List Entry)
+pub record AreFittingBut (alphabet : Letters) (front run : List ℕ) (all : List Entry)
     (parts : List Part) : Type 0 where
   pub done : List ℕ
   pub is : front ≡ done ++ run
-  pub alone : All (FitsAlone lines) run
-  pub fit : AreFittingParts lines done all parts
+  pub alone : All (FitsAlone alphabet) run
+  pub fit : AreFittingParts alphabet done all parts
 
-module _ (lines : List Line) (all : List Entry) where
+module _ (alphabet : Letters) (all : List Entry) where
   -- no character yet
   pub but_start : (run : List ℕ) (parts : List Part) → run ≡ [] →
-      AreFittingParts lines [] all parts → AreFittingBut lines [] run all parts
+      AreFittingParts alphabet [] all parts → AreFittingBut alphabet [] run all parts
   but_start run parts none fit = record {
     done = [];
     is = sym none;
-    alone = subst (All (FitsAlone lines)) (sym none) (All-nil (FitsAlone lines));
+    alone = subst (All (FitsAlone alphabet)) (sym none) (All-nil (FitsAlone alphabet));
     fit = fit;
   }
 
   -- one more that no other fits
   pub but_longer : (front run new : List ℕ) (c : ℕ) (parts : List Part) →
-      AreFittingBut lines front run all parts → FitsAlone lines c → new ≡ run ++ c ∷ [] →
-      AreFittingBut lines (front ++ c ∷ []) new all parts
+      AreFittingBut alphabet front run all parts → FitsAlone alphabet c → new ≡ run ++ c ∷ [] →
+      AreFittingBut alphabet (front ++ c ∷ []) new all parts
   but_longer front run new c parts but alone is = record {
     done = but.done;
     is = ap (λ (l : List ℕ). l ++ c ∷ []) but.is ∙ append_assoc but.done run (c ∷ [])
         ∙ ap (λ (l : List ℕ). but.done ++ l) (sym is);
-    alone = subst (All (FitsAlone lines)) (sym is)
-        (All-push (FitsAlone lines) run c but.alone alone);
+    alone = subst (All (FitsAlone alphabet)) (sym is)
+        (All-push (FitsAlone alphabet) run c but.alone alone);
     fit = but.fit;
   }
 
   -- all characters so far
   pub but_end : (front run : List ℕ) (parts next : List Part) →
-      AreFittingBut lines front run all parts → GoOnAlone run parts next →
-      AreFittingParts lines front all next
+      AreFittingBut alphabet front run all parts → GoOnAlone run parts next →
+      AreFittingParts alphabet front all next
   but_end front run parts next but goes =
-      subst (λ (l : List ℕ). AreFittingParts lines l all next) (sym but.is)
-      (goes lines but.done all but.alone but.fit)
+      subst (λ (l : List ℕ). AreFittingParts alphabet l all next) (sym but.is)
+      (goes alphabet but.done all but.alone but.fit)
 
   -- one more that others fit
   pub but_other : (letters front run new : List ℕ) (c : ℕ) (parts behind next : List Part) →
-      AreFittingBut lines front run all parts → GoOnAlone run parts behind →
-      GoOn lines letters c behind next → All (IsSpelled letters) all → new ≡ [] →
-      AreFittingBut lines (front ++ c ∷ []) new all next
+      AreFittingBut alphabet front run all parts → GoOnAlone run parts behind →
+      GoOn alphabet letters c behind next → All (IsSpelled letters) all → new ≡ [] →
+      AreFittingBut alphabet (front ++ c ∷ []) new all next
   but_other letters front run new c parts behind next but goes on spelled none = record {
     done = front ++ c ∷ [];
     is = sym (append-nil (front ++ c ∷ []))
         ∙ ap (λ (l : List ℕ). (front ++ c ∷ []) ++ l) (sym none);
-    alone = subst (All (FitsAlone lines)) (sym none) (All-nil (FitsAlone lines));
+    alone = subst (All (FitsAlone alphabet)) (sym none) (All-nil (FitsAlone alphabet));
     fit = on front all spelled (but_end front run parts behind but goes);
   }
 

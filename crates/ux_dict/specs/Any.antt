@@ -1,4 +1,4 @@
--- A dictionary of any kind.
+-- A dictionary of any kind. Public: the crate's public contracts speak of it.
 use Rattle.std.specs.Prelude.{List}
 use Rattle.ux_dela.specs.declared.entry.Entry.{Entry}
 use Rattle.ux_dict.specs.declared.any_lexicon.AnyLexicon.{AnyLexicon}

@@ -1,5 +1,6 @@
 -- Which list of entries a dictionary has, by the list of what its lines say: each entry once, in
 -- order of form. Forms are in order of their bytes, which for UTF-8 is the order of code points.
+-- Public: the crate's public contracts speak of it.
 use Rattle.std.specs.Prelude.{◌≡◌, ◌≢◌, ◌⊎◌, ◌↔◌, ℕ, ◌<◌, List, All, AllPairs, Contains, Some, slice_get}
 use Rattle.std.specs.Ordering.{nat_cmp}
 use Rattle.std.specs.Cmp.Lexicographic.{slice_cmp}

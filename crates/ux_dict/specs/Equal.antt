@@ -1,4 +1,5 @@
--- When a table of entries takes two for one: where all of their parts are equal.
+-- When a table of entries takes two for one: where all of their parts are equal. Inner: the crate's
+-- own functions alone speak of it.
 use Rattle.std.proofs.Common.{◌≡◌, Bool, true, false, ◌&&◌, ℕ, List, ◌++◌, refl, sym, ap}
 use Rattle.std.specs.Prelude.{Decides, bytes_eq}
 use Rattle.std.specs.Cmp.{IsEquivalence}

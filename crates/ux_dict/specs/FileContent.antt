@@ -1,5 +1,5 @@
 -- Which content a dictionary has that is read from a file of forms, and which table of entries
--- stands behind it.
+-- stands behind it. Public: the crate's public contracts speak of it.
 use Rattle.std.specs.Prelude.{◌≡◌, ℕ, List, []}
 use Rattle.indexmap.specs.IndexSet.{insert_all}
 use Rattle.ux_dela.specs.Files.{AreEntries}

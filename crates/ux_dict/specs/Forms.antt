@@ -1,24 +1,24 @@
 -- Which forms fit a text. The manual, on the application of dictionaries: a lower-case letter of a
--- dictionary also fits its upper-case forms, and an upper-case letter fits itself alone.
+-- dictionary also fits its upper-case forms, and an upper-case letter fits itself alone. Public:
+-- the crate's public contracts speak of it.
 use Rattle.std.specs.Prelude.{◌≡◌, ℕ, max, List, [], ◌∷◌, ◌++◌, Any, bytes_eq, count_by, length}
 use Rattle.std.specs.List.{AllZip}
 use Rattle.std.specs.Str.{chars}
-use Rattle.ux_alphabet.specs.declared.line.Line.{Line}
-use Rattle.ux_alphabet.specs.Letters.{Fits}
+use Rattle.ux_alphabet.specs.Letters.{Letters, Fits}
 use Rattle.ux_dela.specs.declared.entry.Entry.{Entry}
 
 -- form and text have as many characters, and each of the form fits that of the text
-abbrev pub FitsForm : List Line → (form text : List ℕ) → Type 0
-FitsForm lines form text = AllZip (Fits lines) (chars form) (chars text)
+abbrev pub FitsForm : Letters → (form text : List ℕ) → Type 0
+FitsForm alphabet form text = AllZip (Fits alphabet) (chars form) (chars text)
 
 -- the form has a front that fits the text
-abbrev pub BeginsFitting : List Line → (form text : List ℕ) → Type 0
-BeginsFitting lines form text = (front rest : List ℕ) × (chars form ≡ front ++ rest)
-    × AllZip (Fits lines) front (chars text)
+abbrev pub BeginsFitting : Letters → (form text : List ℕ) → Type 0
+BeginsFitting alphabet form text = (front rest : List ℕ) × (chars form ≡ front ++ rest)
+    × AllZip (Fits alphabet) front (chars text)
 
 -- some entry has a form with a front that fits the text
-abbrev pub MayBegin : List Line → (text : List ℕ) → List Entry → Type 0
-MayBegin lines text content = Any (λ entry. BeginsFitting lines entry.form text) content
+abbrev pub MayBegin : Letters → (text : List ℕ) → List Entry → Type 0
+MayBegin alphabet text content = Any (λ entry. BeginsFitting alphabet entry.form text) content
 
 -- the second list has the members of the first one with the property, in order
 pub data IsChosen {X : Type 0} (P : X → Type 0) : (all chosen : List X) → Type 0 where
@@ -29,9 +29,9 @@ pub data IsChosen {X : Type 0} (P : X → Type 0) : (all chosen : List X) → Ty
       IsChosen P (x ∷ all) chosen
 
 -- what is found are the entries of the content whose forms fit the text, in order
-abbrev pub IsFitting : List Line → (text : List ℕ) → (content found : List Entry) → Type 0
-IsFitting lines text content found =
-    IsChosen (λ entry. FitsForm lines entry.form text) content found
+abbrev pub IsFitting : Letters → (text : List ℕ) → (content found : List Entry) → Type 0
+IsFitting alphabet text content found =
+    IsChosen (λ entry. FitsForm alphabet entry.form text) content found
 
 -- how many entries have exactly this form
 abbrev pub count_of : (form : List ℕ) → List Entry → ℕ

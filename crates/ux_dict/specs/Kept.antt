@@ -1,4 +1,5 @@
--- What a dictionary keeps beside its entries, and how it takes up its entries.
+-- What a dictionary keeps beside its entries, and how it takes up its entries. Inner: the crate's
+-- own functions alone speak of it.
 use Rattle.std.specs.Prelude.{◌≡◌, ℕ, List, Bool, false, All, Contains, IsTrue, IsUtf8, map, slice_index_or}
 use Rattle.std.specs.List.Sorted.{IsStrictlyIncreasing}
 use Rattle.std.specs.Str.{chars}

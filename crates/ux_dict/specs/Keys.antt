@@ -1,5 +1,6 @@
 -- Keys, by which entries are found without a look at their forms: the first eight bytes of a form
--- as a number, so that keys have the order of forms as far as these bytes go.
+-- as a number, so that keys have the order of forms as far as these bytes go. Inner: the crate's
+-- own functions alone speak of it.
 use Rattle.std.specs.Prelude.{◌==◌, ◌<◌, ◌+◌, ◌*◌, ℕ, zero, suc, List, [], ◌∷◌, All, Bool, cond, nat_lt, nat_le}
 use Rattle.ux_dela.specs.declared.entry.Entry.{Entry}
 

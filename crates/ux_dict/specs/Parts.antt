@@ -1,13 +1,12 @@
 -- Parts of a dictionary: entries whose forms begin with the same characters, which fit the front of
--- a text.
+-- a text. Inner: the crate's own functions alone speak of it.
 use Rattle.std.specs.Prelude.{◌≡◌, ◌==◌, ℕ, List, [], ◌∷◌, ◌++◌, Bool, nat_le, All, AllPairs, Contains, IsUtf8, length, take, drop, map, filter, flat_map, encode_utf8_all}
 use Rattle.std.specs.List.{AllZip}
 use Rattle.std.specs.List.Sorted.{IsStrictlyIncreasing}
 use Rattle.std.specs.Cmp.Lexicographic.{slice_cmp}
 use Rattle.std.specs.Ordering.{nat_cmp, ordering_index}
 use Rattle.std.specs.Str.{chars}
-use Rattle.ux_alphabet.specs.declared.line.Line.{Line}
-use Rattle.ux_alphabet.specs.Letters.{Fits, FitsAlone}
+use Rattle.ux_alphabet.specs.Letters.{Letters, Fits, FitsAlone}
 use Rattle.ux_dela.specs.declared.entry.Entry.{Entry}
 use Rattle.ux_dict.specs.declared.parts.Part.{Part}
 use Rattle.ux_dict.specs.Content.{IsUpTo}
@@ -83,43 +82,43 @@ pub record IsContinued (front letters : List ℕ) (part : Part) (old new : List 
   pub each : All (λ next. (c : ℕ) × Contains letters c × IsPart (front ++ c ∷ []) next) pushed
 
 -- the letters that fit a character of a text, in order
-pub record AreCandidates (lines : List Line) (letters : List ℕ) (c : ℕ) (candidates : List ℕ) :
+pub record AreCandidates (alphabet : Letters) (letters : List ℕ) (c : ℕ) (candidates : List ℕ) :
     Type 0 where
   pub increasing : IsStrictlyIncreasing candidates
-  pub fit : All (λ letter. Fits lines letter c) candidates
-  pub every : (letter : ℕ) → Contains letters letter → Fits lines letter c →
+  pub fit : All (λ letter. Fits alphabet letter c) candidates
+  pub every : (letter : ℕ) → Contains letters letter → Fits alphabet letter c →
       Contains candidates letter
 
 -- the form begins with characters that fit these
-abbrev pub BeginsFittingAll : List Line → (front : List ℕ) → Entry → Type 0
-BeginsFittingAll lines front entry = (fitting : List ℕ) × AllZip (Fits lines) fitting front
+abbrev pub BeginsFittingAll : Letters → (front : List ℕ) → Entry → Type 0
+BeginsFittingAll alphabet front entry = (fitting : List ℕ) × AllZip (Fits alphabet) fitting front
     × BeginsWith fitting entry
 
 -- the part's forms begin with the same characters, which fit these
-abbrev pub IsFittingPart : List Line → (front : List ℕ) → Part → Type 0
-IsFittingPart lines front part = (fitting : List ℕ) × AllZip (Fits lines) fitting front
+abbrev pub IsFittingPart : Letters → (front : List ℕ) → Part → Type 0
+IsFittingPart alphabet front part = (fitting : List ℕ) × AllZip (Fits alphabet) fitting front
     × IsPart fitting part
 
 -- the parts have the entries whose forms begin with characters that fit these, in order
-pub record AreFittingParts (lines : List Line) (front : List ℕ) (all : List Entry)
+pub record AreFittingParts (alphabet : Letters) (front : List ℕ) (all : List Entry)
     (parts : List Part) : Type 0 where
-  pub whole : IsChosen (BeginsFittingAll lines front) all (entries_of parts)
-  pub each : All (IsFittingPart lines front) parts
+  pub whole : IsChosen (BeginsFittingAll alphabet front) all (entries_of parts)
+  pub each : All (IsFittingPart alphabet front) parts
 
 -- where the parts fit the front of a text, the next ones fit more characters, which no others fit
 abbrev pub GoOnAlone : (more : List ℕ) (parts next : List Part) → Type 0
-GoOnAlone more parts next = (lines : List Line) (front : List ℕ) (all : List Entry) →
-    All (FitsAlone lines) more → AreFittingParts lines front all parts →
-    AreFittingParts lines (front ++ more) all next
+GoOnAlone more parts next = (alphabet : Letters) (front : List ℕ) (all : List Entry) →
+    All (FitsAlone alphabet) more → AreFittingParts alphabet front all parts →
+    AreFittingParts alphabet (front ++ more) all next
 
 -- where the parts fit the front of a text, the next ones fit one character more
-abbrev pub GoOn : List Line → (letters : List ℕ) (c : ℕ) (parts next : List Part) → Type 0
-GoOn lines letters c parts next = (front : List ℕ) (all : List Entry) →
-    All (IsSpelled letters) all → AreFittingParts lines front all parts →
-    AreFittingParts lines (front ++ c ∷ []) all next
+abbrev pub GoOn : Letters → (letters : List ℕ) (c : ℕ) (parts next : List Part) → Type 0
+GoOn alphabet letters c parts next = (front : List ℕ) (all : List Entry) →
+    All (IsSpelled letters) all → AreFittingParts alphabet front all parts →
+    AreFittingParts alphabet (front ++ c ∷ []) all next
 
 -- where the parts fit a text, the entries are those whose whole forms do
 abbrev pub AreWhole : (parts : List Part) (found : List Entry) → Type 0
-AreWhole parts found = (lines : List Line) (text : List ℕ) (all : List Entry) →
-    AreFittingParts lines text all parts →
-    IsChosen (λ entry. AllZip (Fits lines) (chars entry.form) text) all found
+AreWhole parts found = (alphabet : Letters) (text : List ℕ) (all : List Entry) →
+    AreFittingParts alphabet text all parts →
+    IsChosen (λ entry. AllZip (Fits alphabet) (chars entry.form) text) all found

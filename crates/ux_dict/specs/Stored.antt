@@ -1,4 +1,5 @@
--- Which entry is kept: its lemma is the form where none is noted.
+-- Which entry is kept: its lemma is the form where none is noted. Inner: the crate's own functions
+-- alone speak of it.
 use Rattle.std.specs.Prelude.{ℕ, List, Option, unwrap_or}
 use Rattle.ux_dela.specs.declared.entry.Codes.{Codes}
 use Rattle.ux_dela.specs.declared.entry.Entry.{Entry}

@@ -3,7 +3,7 @@
 ghost use Rattle.std.specs.Prelude.{◌≡◌, ℕ, List, All, OnOk, IfOk, [], ◌∷◌};
 ghost use Rattle.std.specs.List.Sorted.{IsStrictlyIncreasing};
 ghost use Rattle.std.specs.Str.{chars};
-ghost use Rattle.ux_alphabet.specs.declared.line.Line.{Line};
+ghost use Rattle.ux_alphabet.specs.Letters.{Letters};
 ghost use Rattle.ux_dict.specs.Kept.{IsSpelled};
 ghost use Rattle.ux_dict.specs.Parts.{AreCandidates, AreFittingParts, GoOn, GoOnAlone, IsContinued, IsFollowed, IsPart};
 
@@ -103,8 +103,8 @@ fn continued<'a>(
     letters: &[char],
 ) -> Result<Vec<Part<'a>>, AllocError>
     requires { IsStrictlyIncreasing letters.now }
-    ensures { IfOk result (λ next. (lines : List Line) (all : List ℕ) (c : ℕ) →
-        AreCandidates lines all c letters.now → GoOn lines all c parts.now next.items) }
+    ensures { IfOk result (λ next. (alphabet : Letters) (all : List ℕ) (c : ℕ) →
+        AreCandidates alphabet all c letters.now → GoOn alphabet all c parts.now next.items) }
 {
     let mut next = Vec::new(alloc);
     for part in parts {

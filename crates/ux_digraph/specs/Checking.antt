@@ -1,4 +1,4 @@
--- Numbers and rules that stay below a bound.
+-- Numbers and rules that stay below a bound. Inner: the crate's own functions alone speak of it.
 use Rattle.std.specs.Prelude.{ℕ, ◌<◌, List, Contains}
 use Rattle.ux_digraph.specs.declared.closing.Rule.{Rule}
 

@@ -1,4 +1,5 @@
--- The strongly connected components of a graph, as a number for each node.
+-- The strongly connected components of a graph, as a number for each node. Public: the crate's
+-- public contracts speak of it.
 use Rattle.std.specs.Prelude.{◌≡◌, ◌≢◌, ℕ, ◌<◌, ◌≤◌, List, length, get_or, Contains}
 use Rattle.ux_digraph.specs.Paths.{row_of, Path}
 

@@ -1,4 +1,5 @@
--- The edges of a graph as rules: the end of an edge is reached where its beginning is.
+-- The edges of a graph as rules: the end of an edge is reached where its beginning is. Inner: the
+-- crate's own functions alone speak of it.
 use Rattle.std.specs.Prelude.{◌≡◌, ℕ, ◌<◌, List, Contains, ◌⊎◌, ◌↔◌}
 use Rattle.ux_digraph.specs.declared.closing.Rule.{Rule}
 use Rattle.ux_digraph.specs.Paths.{row_of}

@@ -1,4 +1,5 @@
 -- A search that joins nodes to groups, and closes the last group when no edge of it is left.
+-- Inner: the crate's own functions alone speak of it.
 use Rattle.std.specs.Prelude.{◌≡◌, ◌≢◌, ℕ, ◌+◌, ◌*◌, ◌<◌, ◌≤◌, List, [], ◌∷◌, length, get_or, Contains, ◌⊎◌, sum_by}
 use Rattle.ux_digraph.specs.Paths.{row_of, Reaches}
 use Rattle.ux_digraph.specs.declared.grouping.Mark.{Mark}

@@ -1,4 +1,5 @@
--- Marking the places that follow, from a list of places to look at.
+-- Marking the places that follow, from a list of places to look at. Inner: the crate's own
+-- functions alone speak of it.
 use Rattle.std.specs.Prelude.{◌≡◌, ℕ, ◌+◌, ◌*◌, List, [], length, Contains, ◌⊎◌, Bool, true, false, sum_by, get_or}
 use Rattle.ux_digraph.specs.declared.closing.Rule.{Rule}
 use Rattle.ux_digraph.specs.Rules.{Derived}

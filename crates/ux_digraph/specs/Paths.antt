@@ -1,4 +1,5 @@
 -- Paths through a graph, which is the list of the rows of its nodes: where their edges lead.
+-- Public: the crate's public contracts speak of it.
 use Rattle.std.specs.Prelude.{ℕ, ◌<◌, List, [], length, get_or, Contains}
 
 -- the nodes to which the edges of the node lead

@@ -1,4 +1,5 @@
--- Places that follow from facts by rules with two premises.
+-- Places that follow from facts by rules with two premises. Public: the crate's public contracts
+-- speak of it.
 use Rattle.std.specs.Prelude.{ℕ, ◌<◌, List, Contains}
 use Rattle.ux_digraph.specs.declared.closing.Rule.{Rule}
 

@@ -1,5 +1,5 @@
--- The line of one box: an `s` or nothing, the content between quotation marks, two coordinates, the
--- number of targets and the targets.
+-- The line of one box: an `s` or nothing, the content between quotation marks, two coordinates,
+-- the number of targets and the targets. Public, through `File` and `Content`.
 use Rattle.std.specs.Prelude.{ℕ, ◌==◌, ◌+◌, Bool, false, ◌&&◌, List, [], Option, None, Some, option_map, if◌then◌else◌, length, take, drop, map, slice_index, slice_index_or, Vec}
 use Rattle.std.specs.declared.alloc.Global.{Global}
 use Rattle.std.specs.List.{list_all}

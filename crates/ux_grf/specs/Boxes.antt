@@ -1,4 +1,4 @@
--- The box lines of a graph, and the targets of its boxes.
+-- The box lines of a graph, and the targets of its boxes. Public, through `File` and `Content`.
 use Rattle.std.specs.Prelude.{◌≡◌, ℕ, ◌==◌, ◌<◌, Bool, true, false, nat_lt, List, [], ◌∷◌, ◌++◌, Option, None, Some, if◌then◌else◌, fold, map, slice_get, length, slice_index, ◌≤◌}
 use Rattle.std.specs.List.{list_any, list_all, range_with_len}
 use Rattle.ux_grf.specs.declared.error.GrfError.{GrfError}

@@ -1,5 +1,5 @@
 -- What stands in a box: the lines and the output that its content writes, and where a content is
--- refused.
+-- refused. Public: the crate's public contracts speak of it.
 use Rattle.std.specs.Prelude.{◌≡◌, ℕ, ◌++◌, Bool, true, false, ◌&&◌, ◌⊎◌, nat_lt, List, [], ◌∷◌, length, None}
 use Rattle.std.specs.Str.{chars}
 use Rattle.ux_grf.specs.declared.item.Item.{Item}

@@ -1,4 +1,5 @@
--- A graph file: what it draws, and why it is refused.
+-- A graph file: what it draws, and why it is refused. Public: the crate's public contracts speak
+-- of it.
 use Rattle.std.specs.Prelude.{◌≡◌, ℕ, ◌<◌, ◌↔◌, Bool, true, false, List, [], ◌∷◌, Option, None, Some, length, map, get_or}
 use Rattle.ux_base.specs.Lines.{lines_of}
 use Rattle.ux_grf.specs.declared.content.Content.{Content}

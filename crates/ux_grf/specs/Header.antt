@@ -1,4 +1,5 @@
 -- The head of a graph file: its first line, lines that don't matter, and the number of boxes.
+-- Public, through `File` and `Content`.
 use Rattle.std.specs.Prelude.{ℕ, ◌==◌, Bool, ◌&&◌, nat_le, nat_eq, List, [], ◌∷◌, Option, None, Some, if◌then◌else◌, length, drop, take, codes, slice_index}
 use lib.Pointwise.{pointwise}
 use Rattle.std.specs.List.{list_all}

@@ -1,4 +1,5 @@
--- The box language, on items: what each sign begins in a line.
+-- The box language, on items: what each sign begins in a line. Public, through `File` and
+-- `Content`.
 use Rattle.std.specs.Prelude.{◌≡◌, ℕ, ◌==◌, ◌+◌, ◌<◌, ◌⊎◌, false, List, [], ◌∷◌, Option, None, Some, if◌then◌else◌, take, drop, codes, length, slice_index}
 use Rattle.std.specs.Str.{bytes_eq}
 use Rattle.ux_grf.specs.declared.item.Item.{Item}

@@ -1,4 +1,5 @@
 -- The box language, on lines: lines of one item, lines of items, and where a line is refused.
+-- Public, through `File` and `Content`.
 use Rattle.std.specs.Prelude.{◌≡◌, ℕ, suc, ◌==◌, ◌-◌, ◌<◌, Bool, true, false, ◌&&◌, ◌||◌, ◌⊎◌, nat_lt, nat_le, not, List, [], ◌∷◌, Option, None, Some, if◌then◌else◌, length, take, drop, slice_index, codes}
 use Rattle.std.specs.List.{list_all, list_any}
 use Rattle.std.specs.Str.{bytes_eq}

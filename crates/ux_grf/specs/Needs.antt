@@ -1,4 +1,4 @@
--- The names of the graphs that a graph calls.
+-- The names of the graphs that a graph calls. Public: the crate's public contracts speak of it.
 use Rattle.std.specs.Prelude.{ℕ, List, [], ◌∷◌, ◌++◌, map, fold, if◌then◌else◌}
 use Rattle.std.specs.List.{flat_map, list_any}
 use Rattle.std.specs.Str.{bytes_eq}

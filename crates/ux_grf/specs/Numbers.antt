@@ -1,4 +1,4 @@
--- The numbers of a graph file, in decimal digits.
+-- The numbers of a graph file, in decimal digits. Public, through `File` and `Content`.
 use Rattle.std.specs.Prelude.{ℕ, ◌==◌, Bool, false, ◌&&◌, nat_lt, nat_le, List, [], ◌∷◌, if◌then◌else◌, length}
 use Rattle.std.specs.List.{list_all}
 use Rattle.std.specs.Str.Parse.{digits_value}

@@ -1,4 +1,5 @@
--- The box language, on outputs: characters and the values of variables.
+-- The box language, on outputs: characters and the values of variables. Public, through `File` and
+-- `Content`.
 use Rattle.std.specs.Prelude.{◌≡◌, ℕ, suc, ◌==◌, ◌+◌, Bool, true, false, ◌&&◌, not, nat_lt, List, [], ◌∷◌, ◌++◌, Option, None, Some, option_map, if◌then◌else◌, take, drop, slice_index, codes}
 use Rattle.std.specs.Str.{bytes_eq}
 use Rattle.ux_grf.specs.declared.item.Piece.{Piece}

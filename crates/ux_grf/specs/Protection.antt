@@ -1,4 +1,5 @@
--- Backslashes: which signs they protect, and a text without those that do.
+-- Backslashes: which signs they protect, and a text without those that do. Public, through `File`
+-- and `Content`.
 use Rattle.std.specs.Prelude.{ℕ, suc, ◌==◌, Bool, true, false, not, ◌&&◌, ◌||◌, List, [], ◌∷◌, Option, None, Some, option_map, if◌then◌else◌, slice_index}
 use Rattle.ux_grf.specs.declared.protection.Stop.{Stop}
 use Rattle.ux_grf.specs.declared.protection.Stop.TheVariants.{Mark, Greater, CloseBrace, LiteralEnd}

@@ -1,4 +1,4 @@
--- The boxes that a path of targets leads to.
+-- The boxes that a path of targets leads to. Public, through `File` and `Content`.
 use Rattle.std.specs.Prelude.{ℕ, List, [], Contains, get_or, slice_set}
 
 -- the targets of a box, of which those of box 1 don't count: no path passes the end

@@ -1,4 +1,5 @@
--- How large a graph is: its boxes, lines and items, and the bytes of the items' texts.
+-- How large a graph is: its boxes, lines and items, and the bytes of the items' texts. Public: the
+-- crate's public contracts speak of it.
 use Rattle.std.specs.Prelude.{ℕ, ◌+◌, List, [], length, sum_by}
 use Rattle.ux_grf.specs.declared.graph.Graph.{Graph}
 use Rattle.ux_grf.specs.declared.graph.GrfBox.{GrfBox}

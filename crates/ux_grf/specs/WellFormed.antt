@@ -1,4 +1,5 @@
--- What holds of every graph that is read, and what those who use a graph may ask.
+-- What holds of every graph that is read, and what those who use a graph may ask. Public: the
+-- crate's public contracts speak of it.
 use Rattle.std.specs.Prelude.{◌≡◌, ◌≢◌, ℕ, ◌<◌, ◌≤◌, ◌↔◌, ◌⊎◌, Bool, true, false, List, [], length, map, get_or, All, AllPairs}
 use Rattle.ux_grf.specs.declared.graph.Graph.{Graph}
 use Rattle.ux_grf.specs.declared.graph.GrfBox.{GrfBox}

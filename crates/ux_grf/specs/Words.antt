@@ -1,4 +1,5 @@
--- The words of a text: its longest runs of bytes that are no gaps.
+-- The words of a text: its longest runs of bytes that are no gaps. Public, through `File` and
+-- `Content`.
 use Rattle.std.specs.Prelude.{ℕ, ◌≡◌, ◌<◌, true, false, length, slice_index, ◌==◌, Bool, ◌||◌, List, [], ◌∷◌, ◌++◌, if◌then◌else◌}
 use Rattle.ux_grf.specs.declared.words.Gap.{Gap}
 use Rattle.ux_grf.specs.declared.words.Gap.TheVariants.{Spaces, Blanks}

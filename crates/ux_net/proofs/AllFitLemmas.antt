@@ -6,7 +6,7 @@ use Rattle.std.proofs.lemmas.Bool.{eqb-true}
 use Rattle.std.proofs.lemmas.List.{length-map, get_or_default}
 use Rattle.std.proofs.lemmas.List.Elements.{All-nil, All-cons, All-tail, All-contains, All-weaker}
 use Rattle.std.proofs.lemmas.Option.{slice_get-map, slice_get_cases}
-use Rattle.ux_alphabet.specs.declared.line.Line.{Line}
+use Rattle.ux_alphabet.specs.Letters.{Letters}
 use Rattle.ux_grf.specs.declared.graph.GrfBox.{GrfBox}
 use Rattle.ux_grf.specs.Reached.{start}
 use Rattle.ux_grf.specs.Size.{size_of}
@@ -75,7 +75,7 @@ all_graphs : (P : List Place → Type 0) (places : List (List Place)) →
     ((n : ℕ) → n < length places → P (places_of places (suc n))) → All P places
 all_graphs P places each n d lt = subst P (places_at places n d lt) (each n lt)
 
-module _ (alphabet : List Line) (graphs : List Given) (places : List (List Place))
+module _ (alphabet : Letters) (graphs : List Given) (places : List (List Place))
     (formed : All (λ (graph : Given). IsWellFormed graph.1) graphs)
     (small : All (λ (graph : Given). size_of graph.1 < 4294967296) graphs)
     (are : AreSplit alphabet (drawn graphs) places) where

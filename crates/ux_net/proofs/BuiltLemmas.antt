@@ -3,8 +3,8 @@ use Rattle.std.proofs.Common.{arith, ◌≡◌, ℕ, zero, suc, ◌<◌, ◌≤�
 use Rattle.std.specs.Prelude.{slice_get}
 use Rattle.std.specs.Option.{option_map}
 use Rattle.std.proofs.lemmas.Option.{slice_get_cases, slice_get-map, slice_get_within, slice_get_past}
-use Rattle.ux_alphabet.specs.declared.line.Line.{Line}
-use Rattle.ux_tokens.specs.Numbers.{StandOnce}
+use Rattle.ux_alphabet.specs.Letters.{Letters}
+use Rattle.ux_base.specs.Distinct.{StandOnce}
 use Rattle.ux_net.specs.declared.net_graph.NetGraph.{NetGraph}
 use Rattle.ux_net.specs.declared.place.Place.{Place}
 use Rattle.ux_net.specs.declared.state.State.{State}
@@ -20,7 +20,7 @@ use Rattle.ux_net.proofs.SameGrammar.{word_within}
 use Rattle.ux_net.proofs.SplitLemmas.{none_there, to_places, to_boxes}
 use Rattle.ux_net.proofs.StepsLemmas.{target_from}
 
-module _ (alphabet : List Line) (graphs : List Drawn) (places : List (List Place))
+module _ (alphabet : Letters) (graphs : List Drawn) (places : List (List Place))
     (ranks : List (List ℕ)) (free : List (List Bool)) (net : List NetGraph)
     (are : AreSplit alphabet graphs places) (made : AreBuilt places ranks free net) where
   constructed_of : map (λ (graph : NetGraph). graph.name) net ≡ names_of graphs → (g : ℕ)
@@ -78,7 +78,7 @@ module _ (places : List (List Place)) (ranks : List (List ℕ)) (free : List (Li
           (ap states_in past.1)
 
   -- and so those of its boxes
-  pub box_words : (alphabet : List Line) (graphs : List Drawn) → StandOnce (names_of graphs) →
+  pub box_words : (alphabet : Letters) (graphs : List Drawn) → StandOnce (names_of graphs) →
       AreSplit alphabet graphs places → (g : ℕ) →
       HaveSameWords ((box_grammar alphabet graphs).graph g) (net_graph (net_states net g))
   box_words alphabet graphs once are g word =

@@ -8,7 +8,7 @@ use Rattle.std.proofs.lemmas.List.Elements.{All-contains, Contains-get_or}
 use Rattle.std.proofs.lemmas.List.Folds.{list_any_at}
 use Rattle.std.proofs.lemmas.Option.{slice_get-map, slice_get_read, slice_get_within, get_or_from_slice_get}
 use Rattle.ux_tokens.proofs.CutLemmas.{slice_get-push_cases}
-use Rattle.ux_alphabet.specs.declared.line.Line.{Line}
+use Rattle.ux_alphabet.specs.Letters.{Letters}
 use Rattle.ux_grf.specs.declared.graph.GrfBox.{GrfBox}
 use Rattle.ux_grf.specs.declared.item.Item.{Item}
 use Rattle.ux_grf.specs.declared.item.Item.TheVariants as item
@@ -38,11 +38,11 @@ named_number graphs (suc n) graph from to is =
     (omega (arith, to)) (is ∙ ap (λ m. get_or graphs m graph) same)))
 
 -- the places of each graph are those of its boxes
-abbrev pub AreSplitTo : List Line → List (List ℕ) → List Given → List (List Place) → Type 0
+abbrev pub AreSplitTo : Letters → List (List ℕ) → List Given → List (List Place) → Type 0
 AreSplitTo alphabet names graphs places =
     AllZip (λ (graph : Given) (p : List Place). ArePlaces alphabet names graph.1.boxes p) graphs places
 
-module _ (alphabet : List Line) (names : List (List ℕ)) where
+module _ (alphabet : Letters) (names : List (List ℕ)) where
   abbrev Are : Given → List Place → Type 0
   Are graph p = ArePlaces alphabet names graph.1.boxes p
 
@@ -74,7 +74,7 @@ module _ (alphabet : List Line) (names : List (List ℕ)) where
       split_each graphs places z.1 n (omega (arith, h))
 
 -- at the end those of all graphs
-pub split_all : (alphabet : List Line) (graphs : List Given) (names : List (List ℕ))
+pub split_all : (alphabet : Letters) (graphs : List Given) (names : List (List ℕ))
     (places : List (List Place)) (i : ℕ) → length graphs ≤ i → names ≡ names_of (drawn graphs) →
     AreSplitTo alphabet names (take i graphs) places → AreSplit alphabet (drawn graphs) places
 split_all alphabet graphs names places i past is so_far =

@@ -86,7 +86,7 @@ module _ (graphs : List (List Place)) (fit : All (IsFit (length graphs)) graphs)
       }
 
   module _ (edges : List (List ℕ)) (free_edges : AreFreeEdges graphs edges) where
-    -- a path along free edges is a run that may take nothing
+    -- a path along nullable edges is a run that may take nothing
     pub reaches_leads : {x y : ℕ} → Reaches edges x y → (g h a b : ℕ) →
         a < length (places_of graphs g) → b < length (places_of graphs h) →
         x ≡ number_of graphs g a → y ≡ number_of graphs h b →
@@ -113,7 +113,7 @@ module _ (graphs : List (List Place)) (fit : All (IsFit (length graphs)) graphs)
           omega (arith, f.to, free_edges.len);
     }
 
-    -- a node is on an empty loop exactly where a free step from it stays in its component
+    -- a node is on an empty loop exactly where a nullable step from it stays in its component
     pub loop_exactly : (numbers : List ℕ) → AreComponents edges numbers → (g node : ℕ) →
         IsOnEmptyLoop (place_grammar graphs) g node ↔ IsLoopStep graphs numbers g node
     loop_exactly numbers components g node = (forth, back)

@@ -1,4 +1,4 @@
--- Words that may take nothing, and the runs along them as paths through free edges.
+-- Words that may take nothing, and the runs along them as paths through nullable edges.
 use Rattle.std.proofs.Common.{◌≡◌, ℕ, List, [], ◌∷◌, ◌++◌, refl, subst, sym, true, false, append_assoc, append-nil}
 use Rattle.std.specs.Prelude.{All}
 use Rattle.std.proofs.lemmas.List.Elements.{All-nil, All-cons, All-head, All-tail}
@@ -44,7 +44,7 @@ module _ (grammar : Grammar) where
   still_free (Call h ∷ line) s =
       let no = All-head (λ x. takes_nothing x ≡ true) (Call h) line s in absurd (cc)
 
-  -- only a line with no call may be free without one
+  -- only a line with no call may be nullable without one
   pub free_still : (line : List Label) → All (λ (x : Label). is_call x ≡ false) line →
       IsFree grammar (letters line) → IsStill line
   free_still [] calls f = All-nil (λ x. takes_nothing x ≡ true)

@@ -26,7 +26,6 @@ pub mod StatesLemmas
 pub mod ConstructLaw
 pub mod RanksLemmas
 pub mod MeasuredLaw
-pub mod FitLemmas
 pub mod SameGrammar
 pub mod SplitLemmas
 pub mod MissingLemmas
@@ -34,4 +33,3 @@ pub mod SizesLemmas
 pub mod CompileLemmas
 pub mod AllFitLemmas
 pub mod BuiltLemmas
-pub mod FitnessLemmas

@@ -48,7 +48,7 @@ module _ (graphs : List (List Place)) (fit : All (IsFit (length graphs)) graphs)
   pub ends_nullable : (h : ℕ) → EndsFreely graphs h 0 → IsNullable (place_grammar graphs) h
   ends_nullable h e = (e.word, record { last = e.last; ends = e.ends; run = e.run }, e.free)
 
-  -- a line that calls nothing, or a graph with a free word, is free
+  -- a line that calls nothing, or a graph with a nullable word, is nullable
   pub line_free : (called : Option ℕ) (line : List Label) → CallsAt graphs called line →
       ((h : ℕ) → line ≡ Call h ∷ [] → called ≡ Some (number_of graphs h 0) →
       EndsFreely graphs h 0) → IsFree (place_grammar graphs) (letters line)

@@ -8,7 +8,7 @@ use Rattle.std.proofs.lemmas.Slice.Eq.{bytes_eq-Decides}
 use Rattle.std.proofs.lemmas.List.{length-map, take_more, take_all, map-append, length-take-le, get_or-take, get_or_default, get_or-map}
 use Rattle.std.proofs.lemmas.Option.{slice_get_cases, slice_get-map, slice_get_read, slice_get_within, slice_get_past, get_or_from_slice_get, slice_get-get_or}
 use Rattle.indexmap.proofs.CallerLemmas.{Contains-list_any}
-use Rattle.ux_tokens.specs.Numbers.{with_text, StandOnce}
+use Rattle.ux_base.specs.Distinct.{with_text, StandOnce}
 use Rattle.ux_net.specs.Boxes.{Drawn, names_of}
 use Rattle.ux_net.specs.Compiling.{AreThere, IsFirstLacking}
 use Rattle.ux_net.specs.Refusing.{drawn_of, drawn, calls_of, calls_in, AreCalled, AreWhole, IsFirstMissing}

@@ -5,7 +5,7 @@ use Rattle.std.proofs.lemmas.Bool.{cases_lt}
 use Rattle.std.proofs.lemmas.List.{get_or_push, length_push, length-take-le}
 use Rattle.std.proofs.lemmas.Option.{get_or_from_slice_get, none-some, slice_get_past, slice_get_cases, slice_get_read, slice_get_within}
 use Rattle.std.proofs.Math.ListN.{get_or-append}
-use Rattle.ux_alphabet.specs.declared.line.Line.{Line}
+use Rattle.ux_alphabet.specs.Letters.{Letters}
 use Rattle.ux_grf.specs.declared.graph.GrfBox.{GrfBox}
 use Rattle.ux_grf.specs.declared.item.Item.{Item}
 use Rattle.ux_net.proofs.SplittingLemmas.{take-next}
@@ -36,7 +36,7 @@ stands {X} xs new k x at = by (cases_lt k (length xs))
         let last : k ≡ length xs = omega (arith, behind, within, length_push xs new) in
         inr (last, sym (get_or_push xs new x k (sym last)) ∙ read)
 
-module _ (alphabet : List Line) (names : List (List ℕ)) where
+module _ (alphabet : Letters) (names : List (List ℕ)) where
   -- as many places as boxes, and each is that of its box
   pub record ArePlacesSoFar (boxes : List GrfBox) (places : List Place) : Type 0 where
     pub count : length places ≡ length boxes

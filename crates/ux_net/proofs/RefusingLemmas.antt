@@ -5,7 +5,7 @@ use Rattle.std.specs.Option.{option_map}
 use Rattle.std.proofs.lemmas.List.{length-map, take_more, take_all, map-append, length-take-le, take-map, get_or-take}
 use Rattle.std.proofs.lemmas.List.Elements.{All-nil, All-cons, All-append}
 use Rattle.std.proofs.lemmas.Option.{slice_get_cases, slice_get-map, slice_get_read, slice_get_within, get_or_from_slice_get}
-use Rattle.ux_alphabet.specs.declared.line.Line.{Line}
+use Rattle.ux_alphabet.specs.Letters.{Letters}
 use Rattle.ux_grf.specs.declared.graph.Graph.{Graph}
 use Rattle.ux_grf.specs.declared.graph.GrfBox.{GrfBox}
 use Rattle.ux_net.specs.declared.error.NetError.{NetError}
@@ -109,8 +109,8 @@ compiled_none graphs all (suc n) node so = by (slice_get_cases graphs n).1
         let here = ap (λ o. beyond_in (slice_get (boxes_in o) node)) h.2 in cc
     by (inr past) = let here = ap (λ o. beyond_in (slice_get (boxes_in o) node)) past.1 in cc
 
--- a list of graphs that can be compiled is refused for want of memory alone
-pub compilable_not_refused : (alphabet : List Line) (graphs : List Drawn) (error : NetError) →
+-- a list of graphs that can be compiled is refused only when it is out of memory
+pub compilable_not_refused : (alphabet : Letters) (graphs : List Drawn) (error : NetError) →
     IsCompilable alphabet graphs → Refuses alphabet graphs error → error ≡ NoMemory
 compilable_not_refused alphabet graphs (MissingGraph name) c r =
     absurd (r.missing (c.whole r.n name (

@@ -2,7 +2,7 @@
 use Rattle.std.proofs.Common.{arith, ◌≡◌, ℕ, zero, suc, ◌+◌, List, [], ◌∷◌, ◌++◌, refl, sym, ◌∙◌, ap, subst, map}
 use Rattle.std.specs.Prelude.{Contains}
 use Rattle.std.specs.List.{AllZip}
-use Rattle.ux_alphabet.specs.declared.line.Line.{Line}
+use Rattle.ux_alphabet.specs.Letters.{Letters}
 use Rattle.ux_tokens.specs.Tokens.{Token}
 use Rattle.ux_tokens.proofs.UniqueLemmas.{plain_unique}
 use Rattle.ux_grf.specs.declared.graph.GrfBox.{GrfBox}
@@ -11,7 +11,7 @@ use Rattle.ux_grf.specs.declared.item.Item.TheVariants.{Literal, Quoted, Mask, B
 use Rattle.ux_net.specs.declared.place.Place.{Place}
 use Rattle.ux_net.specs.declared.label.Label.{Label}
 use Rattle.ux_net.specs.declared.label.Label.TheVariants as label
-use Rattle.ux_tokens.specs.Numbers.{StandOnce}
+use Rattle.ux_base.specs.Distinct.{StandOnce}
 use Rattle.ux_net.specs.Words.{Step}
 use Rattle.ux_tokens.specs.declared.kind.Kind.{Kind}
 use Rattle.ux_net.specs.Boxes.{fold_label, exact_label, IsCut, IsSplit, IsSplitLine, lines_at, IsBoxStep}
@@ -39,7 +39,7 @@ module _ {A B : Type 0} (R : A → B → Type 0) where
       let r = partner_back xs ys y z.1 (k, omega (arith, lt), e) in
       (r.0, (suc r.1.0, omega (arith, r.1.1), r.1.2), r.2)
 
-module _ (alphabet : List Line) (names : List (List ℕ)) (once : StandOnce names) where
+module _ (alphabet : Letters) (names : List (List ℕ)) (once : StandOnce names) where
   cut_same : (label_of : Kind → List ℕ → Label) (text : List ℕ) (v w : List Label) →
       IsCut alphabet label_of text v → IsCut alphabet label_of text w → v ≡ w
   cut_same label_of text v w a b =
@@ -71,7 +71,7 @@ module _ (alphabet : List Line) (names : List (List ℕ)) (once : StandOnce name
       a.4 ∙ (ap (λ x. x ++ a.1) (split_same item a.0 b.0 a.2 b.2)
       ∙ (ap (λ x. b.0 ++ x) (split_line_same items a.1 b.1 a.3 b.3) ∙ sym b.4))
 
-module _ (alphabet : List Line) (names : List (List ℕ)) (boxes : List GrfBox)
+module _ (alphabet : Letters) (names : List (List ℕ)) (boxes : List GrfBox)
     (places : List Place) (once : StandOnce names) (are : ArePlaces alphabet names boxes places) where
   pub place_step : (s : Step) → IsBoxStep alphabet names boxes s → IsPlaceStep places s
   place_step s b =

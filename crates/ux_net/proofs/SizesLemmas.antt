@@ -6,8 +6,7 @@ use Rattle.std.proofs.lemmas.List.{length-map}
 use Rattle.std.proofs.lemmas.List.Elements.{All-tail}
 use Rattle.std.proofs.lemmas.List.Sums.{sum_by-cons}
 use Rattle.std.proofs.lemmas.Str.{length-encode, len_utf8_bounds}
-use Rattle.ux_alphabet.specs.declared.line.Line.{Line}
-use Rattle.ux_alphabet.specs.Letters.{is_separator}
+use Rattle.ux_alphabet.specs.Letters.{Letters, is_separator}
 use Rattle.ux_tokens.specs.declared.kind.Kind.{Kind}
 use Rattle.ux_tokens.specs.declared.kind.Kind.TheVariants as kind
 use Rattle.ux_tokens.specs.Tokens.{Token, IsTokenText, joined, with_single_spaces, begins_with_separator}
@@ -42,9 +41,9 @@ some_text : (text : List ℕ) → text ≢ [] → 0 < length text
 some_text [] h = absurd (h refl)
 some_text (b ∷ text) h = omega arith
 
-token_some : (alphabet : List Line) (k : Kind) (text : List ℕ) → IsTokenText alphabet k text →
+token_some : (alphabet : Letters) (k : Kind) (text : List ℕ) → IsTokenText alphabet k text →
     0 < length text
-token_some alphabet kind.Word text t = some_text text t.0
+token_some alphabet kind.Word text t = some_text text t.some
 token_some alphabet kind.Space text t = rw t (omega arith)
 token_some alphabet kind.Other text t =
     let len = ap (λ (l : List ℕ). length l) t.1 ∙ length-encode t.0 in
@@ -55,7 +54,7 @@ token_some alphabet kind.Stop text t = rw t (omega arith)
 token_some alphabet kind.Tag text (entry, (body, is, tag)) = rw is (omega arith)
 
 -- a text has no more tokens than bytes
-tokens_few : (alphabet : List Line) (tokens : List Token) →
+tokens_few : (alphabet : Letters) (tokens : List Token) →
     All (λ (token : Token). IsTokenText alphabet token.kind token.text) tokens →
     length tokens ≤ length (joined tokens)
 tokens_few alphabet [] each = omega arith
@@ -66,17 +65,17 @@ tokens_few alphabet (token ∷ tokens) each =
     let len = length-append token.text (joined tokens) in
     omega (arith, some, r, len)
 
-cut_few : (alphabet : List Line) (label_of : Kind → List ℕ → Label) (text : List ℕ)
+cut_few : (alphabet : Letters) (label_of : Kind → List ℕ → Label) (text : List ℕ)
     (labels : List Label) → IsCut alphabet label_of text labels → length labels ≤ length text
 cut_few alphabet label_of text labels (tokens, are, is) =
-    let few = tokens_few alphabet tokens are.each in
-    let whole = ap (λ (l : List ℕ). length l) are.whole in
+    let few = tokens_few alphabet tokens are.cut.each in
+    let whole = ap (λ (l : List ℕ). length l) are.cut.whole in
     let short = spaced text in
     let same = ap (λ (l : List Label). length l) is
     ∙ length-map tokens (λ (token : Token). label_of token.kind token.text) in
     omega (arith, few, whole, short, same)
 
-module _ (alphabet : List Line) (names : List (List ℕ)) where
+module _ (alphabet : Letters) (names : List (List ℕ)) where
   item_few : (x : Item) (labels : List Label) → IsSplit alphabet names x labels →
       length labels ≤ size_of_item x
   item_few (item.Literal text) labels s =
@@ -134,7 +133,7 @@ sums_few (p ∷ places) (b ∷ boxes) len each =
     let t = sum_by-cons size_of_box b boxes in
     omega (arith, one, r, s, t)
 
-module _ (alphabet : List Line) (names : List (List ℕ)) (graph : Graph) (places : List Place)
+module _ (alphabet : Letters) (names : List (List ℕ)) (graph : Graph) (places : List Place)
     (are : ArePlaces alphabet names graph.boxes places)
     (start : label_lines places 0 ≡ (Empty ∷ []) ∷ []) where
   abbrev later : List (List Label) → ℕ

@@ -2,9 +2,9 @@
 use Rattle.std.proofs.Common.{arith, ◌≡◌, ℕ, zero, suc, ◌<◌, List, [], refl, sym, ap, subst, inl, inr, length}
 use Rattle.std.specs.Prelude.{Contains}
 use Rattle.std.proofs.lemmas.Option.{slice_get_past}
-use Rattle.ux_alphabet.specs.declared.line.Line.{Line}
+use Rattle.ux_alphabet.specs.Letters.{Letters}
 use Rattle.ux_grf.specs.declared.graph.GrfBox.{GrfBox}
-use Rattle.ux_tokens.specs.Numbers.{StandOnce}
+use Rattle.ux_base.specs.Distinct.{StandOnce}
 use Rattle.ux_net.specs.declared.error.NetError.{NetError}
 use Rattle.ux_net.specs.declared.error.NetError.TheVariants.{MissingGraph, NotYet, EmptyLoop, LeftRecursion, NoMemory}
 use Rattle.ux_net.specs.declared.place.Place.{Place}
@@ -29,7 +29,7 @@ pub none_there : (places : List Place) (a : ℕ) → places ≡ [] → a < lengt
 none_there places a none h =
     let e = ap (λ (l : List Place). length l) none in absurd (omega (arith, e, h))
 
-module _ (alphabet : List Line) (names : List (List ℕ)) (boxes : List GrfBox)
+module _ (alphabet : Letters) (names : List (List ℕ)) (boxes : List GrfBox)
     (places : List Place) where
   none_to_places : boxes ≡ [] → IsWithin (box_graph alphabet names boxes) (place_graph places)
   none_to_places none = record {
@@ -61,7 +61,7 @@ module _ (alphabet : List Line) (names : List (List ℕ)) (boxes : List GrfBox)
     steps = box_step alphabet names boxes places once are;
   }
 
-module _ (alphabet : List Line) (graphs : List Drawn) (places : List (List Place))
+module _ (alphabet : Letters) (graphs : List Drawn) (places : List (List Place))
     (once : StandOnce (names_of graphs)) (are : AreSplit alphabet graphs places) where
   pub to_places : (g : ℕ) → IsWithin
       (box_graph alphabet (names_of graphs) (boxes_of graphs g)) (place_graph (places_of places g))

@@ -1,16 +1,13 @@
 -- Lines, lists of lines and literals are split one piece after another.
-use Rattle.std.proofs.Common.{◌≡◌, ℕ, ◌+◌, ◌<◌, List, [], ◌∷◌, ◌++◌, All, refl, sym, ◌∙◌, ap, subst, append_assoc, length, map, take, drop, get_or}
+use Rattle.std.proofs.Common.{◌≡◌, ℕ, ◌+◌, ◌<◌, List, [], ◌∷◌, ◌++◌, refl, sym, ◌∙◌, ap, subst, append_assoc, length, map, take, drop, get_or}
 use Rattle.std.specs.List.{AllZip}
-use Rattle.std.specs.Str.{IsCharBoundary, IsUtf8}
-use Rattle.std.proofs.lemmas.Str.{IsUtf8-take}
 use Rattle.std.proofs.lemmas.List.{append-nil, map-append, take-append-drop, take_more}
-use Rattle.std.proofs.lemmas.List.Elements.{All-nil, All-push}
-use Rattle.ux_alphabet.specs.declared.line.Line.{Line}
+use Rattle.ux_alphabet.specs.Letters.{Letters}
 use Rattle.ux_tokens.specs.declared.kind.Kind.{Kind}
-use Rattle.ux_tokens.specs.Tokens.{Token, IsPlain}
+use Rattle.ux_tokens.specs.Tokens.{Token, AreCutPlainly, IsPlain}
 use Rattle.ux_tokens.specs.First.{IsFirstToken}
-use Rattle.ux_tokens.specs.Cutting.{IsCut as IsCutUpTo}
-use Rattle.ux_tokens.proofs.CutLemmas.{cut_start, cut_more}
+use Rattle.ux_tokens.specs.Cutting.{ReachTo}
+use Rattle.ux_tokens.proofs.CutLemmas.{none_plainly, plain_more, reach_end, reach_more, reach_start}
 use Rattle.ux_grf.specs.declared.item.Item.{Item}
 use Rattle.ux_net.specs.declared.label.Label.{Label}
 use Rattle.ux_net.specs.declared.split.Comparison.{Comparison}
@@ -35,7 +32,7 @@ take-next {X} xs i x within is =
 abbrev pub labels_of : Comparison → List Token → List Label
 labels_of comparison tokens = map (λ token. label_by comparison token.kind token.text) tokens
 
-module _ (alphabet : List Line) (names : List (List ℕ)) where
+module _ (alphabet : Letters) (names : List (List ℕ)) where
   -- a line that goes on by an item
   IsSplitLine-push : (line : List Item) (item : Item) (front back : List Label) →
       IsSplitLine alphabet names line front → IsSplit alphabet names item back →
@@ -79,37 +76,35 @@ module _ (alphabet : List Line) (names : List (List ℕ)) where
       (take-next lines i line within is)
       (AllZip-grown (IsSplitLine alphabet names) (take i lines) split line labels so_far one)
 
-module _ (alphabet : List Line) (comparison : Comparison) (text : List ℕ) (before : List Label)
+module _ (alphabet : Letters) (comparison : Comparison) (text : List ℕ) (before : List Label)
   where
-    -- the text is cut up to its rest, and the tokens' labels stand behind what was there
+    -- tokens reach to the rest of the text, and their labels stand after what was there
     pub record IsCutInto (rest : List ℕ) (labels : List Label) : Type 0 where
       pub tokens : List Token
-      pub cut : IsCutUpTo alphabet text rest tokens
-      pub plain : All (λ token. IsPlain token.kind) tokens
+      pub cut : ReachTo (AreCutPlainly alphabet) text rest tokens
       pub are : labels ≡ before ++ labels_of comparison tokens
 
     pub cut_into_start : IsCutInto text before
     cut_into_start =
         record {
           tokens = [];
-          cut = cut_start alphabet text;
-          plain = All-nil (λ (token : Token). IsPlain token.kind);
+          cut = reach_start (AreCutPlainly alphabet) text;
           are = sym (append-nil before);
         }
 
     -- the token at the front of the rest is the next
     pub cut_into_more : (rest after : List ℕ) (labels : List Label) (kind : Kind) (len : ℕ) →
-        IsUtf8 rest → IsCharBoundary rest len → IsFirstToken alphabet rest kind len →
-        IsPlain kind → after ≡ drop len rest → IsCutInto rest labels →
+        IsFirstToken alphabet rest kind len → IsPlain kind → after ≡ drop len rest →
+        IsCutInto rest labels →
         IsCutInto after (labels ++ label_by comparison kind (take len rest) ∷ [])
-    cut_into_more rest after labels kind len utf8 boundary first plain is so_far = record {
+    cut_into_more rest after labels kind len first plain is so_far = record {
       tokens = so_far.tokens ++ token ∷ [];
-      cut = subst (λ (l : List ℕ). IsCutUpTo alphabet text l (so_far.tokens ++ token ∷ [])) (sym is)
-          (cut_more alphabet text rest (drop len rest) so_far.tokens token so_far.cut
-          (IsUtf8-take rest len utf8 boundary) (sym (take-append-drop len rest))
-          first.is first.longest);
-      plain =
-          All-push (λ (token : Token). IsPlain token.kind) so_far.tokens token so_far.plain plain;
+      cut =
+          subst (λ (l : List ℕ).
+          ReachTo (AreCutPlainly alphabet) text l (so_far.tokens ++ token ∷ [])) (sym is)
+          (reach_more (AreCutPlainly alphabet) text rest (drop len rest) so_far.tokens token
+          (plain_more alphabet rest (drop len rest) token (sym (take-append-drop len rest)) first.is
+          first.longest plain) so_far.cut);
       are =
           ap (λ (l : List Label). l ++ label_by comparison kind token.text ∷ []) so_far.are
           ∙ append_assoc before (labels_of comparison so_far.tokens) (label_by comparison kind
@@ -121,3 +116,13 @@ module _ (alphabet : List Line) (comparison : Comparison) (text : List ℕ) (bef
       where
         token : Token
         token = record { kind = kind; text = take len rest }
+
+    -- where nothing is left, the text is cut whole
+    pub cut_into_end : (labels : List Label) → IsCutInto [] labels →
+        (tokens : List Token) × AreCutPlainly alphabet text tokens
+        × (labels ≡ before ++ labels_of comparison tokens)
+    cut_into_end labels so_far = (
+      so_far.tokens,
+      reach_end (AreCutPlainly alphabet) text so_far.tokens so_far.cut (none_plainly alphabet),
+      so_far.are,
+    )

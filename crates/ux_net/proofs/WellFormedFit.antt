@@ -6,8 +6,7 @@ use Rattle.std.proofs.lemmas.List.{append-nil}
 use Rattle.std.proofs.lemmas.Bool.{lt-ltb}
 use Rattle.std.proofs.lemmas.List.Elements.{All-nil, All-cons, All-tail, All-append, All-contains}
 use Rattle.std.proofs.lemmas.Option.{slice_get_cases, slice_get_within, get_or_from_slice_get}
-use Rattle.ux_alphabet.specs.declared.line.Line.{Line}
-use Rattle.ux_alphabet.specs.Letters.{is_separator}
+use Rattle.ux_alphabet.specs.Letters.{Letters, is_separator}
 use Rattle.ux_tokens.specs.declared.kind.Kind.{Kind}
 use Rattle.ux_tokens.specs.declared.kind.Kind.TheVariants as kind
 use Rattle.ux_tokens.specs.Tokens.{Token, ArePlainTokens, with_single_spaces, begins_with_separator}
@@ -39,7 +38,7 @@ spaced (b ∷ c ∷ rest) h =
     (λ e. spaced (c ∷ rest) (omega arith))
 
 -- a text that isn't empty has a label
-cut_some : (alphabet : List Line) (label_of : Kind → List ℕ → Label) (text : List ℕ)
+cut_some : (alphabet : Letters) (label_of : Kind → List ℕ → Label) (text : List ℕ)
     (labels : List Label) → 0 < length text → IsCut alphabet label_of text labels →
     0 < length labels
 cut_some alphabet label_of text labels some (tokens, are, is) = go tokens are is
@@ -49,7 +48,7 @@ cut_some alphabet label_of text labels some (tokens, are, is) = go tokens are is
         0 < length labels
     go [] are is =
         let none = spaced text some in
-        let whole = ap (λ (l : List ℕ). length l) are.whole in
+        let whole = ap (λ (l : List ℕ). length l) are.cut.whole in
         absurd (omega (arith, none, whole))
     go (token ∷ tokens) are is = rw is (omega arith)
 
@@ -87,7 +86,7 @@ one_none : (x : Label) → is_call x ≡ false → NoCall (x ∷ [])
 one_none x h =
     All-cons (λ (x : Label). is_call x ≡ false) x [] h (All-nil (λ (x : Label). is_call x ≡ false))
 
-module _ (alphabet : List Line) (names : List (List ℕ)) where
+module _ (alphabet : Letters) (names : List (List ℕ)) where
   -- an item has a label
   item_some : (x : Item) (labels : List Label) → HasText x → IsSplit alphabet names x labels →
       0 < length labels
@@ -230,7 +229,7 @@ zip_none R [] (y ∷ ys) e z = absurd z
 zip_none R (x ∷ xs) ys e z = absurd (let l = ap (λ l. length l) e in omega (arith, l))
 
 -- box 0's one line has one empty label
-start_split : (alphabet : List Line) (names : List (List ℕ)) (split : List (List Label)) →
+start_split : (alphabet : Letters) (names : List (List ℕ)) (split : List (List Label)) →
     AllZip (IsSplitLine alphabet names) ((item.Empty ∷ []) ∷ []) split → split ≡ (Empty ∷ []) ∷ []
 start_split alphabet names [] z = absurd z
 start_split alphabet names (l ∷ m ∷ split) z = absurd z.1
@@ -238,7 +237,7 @@ start_split alphabet names (l ∷ []) z =
     ap (λ (x : List Label). x ∷ []) (z.0.4 ∙ (ap (λ (f : List Label). f ++ z.0.1) z.0.2
     ∙ ap (λ (b : List Label). Empty ∷ b) z.0.3))
 
-module _ (alphabet : List Line) (names : List (List ℕ)) (graph : Graph) (places : List Place)
+module _ (alphabet : Letters) (names : List (List ℕ)) (graph : Graph) (places : List Place)
     (wf : IsWellFormed graph) (are : ArePlaces alphabet names graph.boxes places) where
   -- a box that is there is a well formed one
   box_there : (n : ℕ) (b : GrfBox) → slice_get graph.boxes n ≡ Some b →

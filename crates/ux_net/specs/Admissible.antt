@@ -1,4 +1,5 @@
 -- Which grammars have a finite meaning: no loop takes nothing, and no graph begins with itself.
+-- Public: the crate's public contracts speak of it.
 use Rattle.std.specs.Prelude.{◌≡◌, ℕ, ◌<◌, ◌⊎◌, List, [], ◌∷◌, ◌++◌}
 use Rattle.ux_net.specs.declared.label.Label.{Label}
 use Rattle.ux_net.specs.declared.label.Label.TheVariants.{Glue, Call}

@@ -1,4 +1,5 @@
--- Ranks of places, by which no walk that takes nothing goes on for ever.
+-- Ranks of places, by which no walk that takes nothing goes on for ever. Inner: the crate's own
+-- functions alone speak of it.
 use Rattle.std.specs.Prelude.{◌≡◌, ℕ, ◌-◌, ◌<◌, ◌≤◌, List, [], ◌∷◌, length, get_or, Bool, true, false}
 use Rattle.ux_net.specs.declared.label.Label.TheVariants.{Call}
 use Rattle.ux_net.specs.declared.place.Place.{Place}

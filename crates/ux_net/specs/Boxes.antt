@@ -1,6 +1,7 @@
--- The boxes of graphs, seen as places and steps. The manual, on graphs.
+-- The boxes of graphs, seen as places and steps. The manual, on graphs. Public: the crate's public
+-- contracts speak of it.
 use Rattle.std.specs.Prelude.{◌≡◌, ◌≢◌, ℕ, zero, suc, ◌+◌, List, [], ◌∷◌, ◌++◌, Option, Some, None, slice_get, Contains, map, length}
-use Rattle.ux_alphabet.specs.declared.line.Line.{Line}
+use Rattle.ux_alphabet.specs.Letters.{Letters}
 use Rattle.ux_tokens.specs.declared.kind.Kind.{Kind}
 use Rattle.ux_tokens.specs.declared.kind.Kind.TheVariants as kind
 use Rattle.ux_tokens.specs.Tokens.{Token, ArePlainTokens}
@@ -35,13 +36,13 @@ exact_label kind.Stop text = Exact text
 exact_label kind.Tag text = Exact text
 
 -- a text is cut into tokens, in which a brace is a character as any other, and each is a label
-abbrev pub IsCut : List Line → (Kind → List ℕ → Label) → List ℕ → List Label → Type 0
+abbrev pub IsCut : Letters → (Kind → List ℕ → Label) → List ℕ → List Label → Type 0
 IsCut alphabet label_of text labels =
     (tokens : List Token) × ArePlainTokens alphabet text tokens
     × (labels ≡ map (λ token. label_of token.kind token.text) tokens)
 
 -- an item as labels; a call by the number of its graph; no labels are there yet for other items
-abbrev pub IsSplit : List Line → List (List ℕ) → Item → List Label → Type 0
+abbrev pub IsSplit : Letters → List (List ℕ) → Item → List Label → Type 0
 IsSplit alphabet names (item.Literal text) labels = IsCut alphabet fold_label text labels
 IsSplit alphabet names (item.Quoted text) labels = IsCut alphabet exact_label text labels
 IsSplit alphabet names item.Glue labels = labels ≡ Glue ∷ []
@@ -58,7 +59,7 @@ IsSplit alphabet names item.ContextEnd labels = ⊥
 IsSplit alphabet names item.Cut labels = ⊥
 
 -- a line of items as labels
-abbrev pub IsSplitLine : List Line → List (List ℕ) → List Item → List Label → Type 0
+abbrev pub IsSplitLine : Letters → List (List ℕ) → List Item → List Label → Type 0
 IsSplitLine alphabet names [] labels = labels ≡ []
 IsSplitLine alphabet names (item ∷ items) labels =
     (front back : List Label) × IsSplit alphabet names item front
@@ -85,7 +86,7 @@ abbrev pub targets_at : List GrfBox → ℕ → List ℕ
 targets_at boxes n = targets_in (slice_get boxes n)
 
 -- a step into a target, along one of its lines; nothing leads on from box 1, the end
-pub record IsBoxStep (alphabet : List Line) (names : List (List ℕ)) (boxes : List GrfBox)
+pub record IsBoxStep (alphabet : Letters) (names : List (List ℕ)) (boxes : List GrfBox)
     (step : Step) : Type 0 where
   pub before_end : step.from ≢ 1
   pub leads : Contains (targets_at boxes step.from) step.to
@@ -94,7 +95,7 @@ pub record IsBoxStep (alphabet : List Line) (names : List (List ℕ)) (boxes : L
   pub splits : IsSplitLine alphabet names line step.labels
 
 -- the boxes as places: box 0 is the start, and a run ends where box 1 is a target
-abbrev pub box_graph : List Line → List (List ℕ) → List GrfBox → StepGraph
+abbrev pub box_graph : Letters → List (List ℕ) → List GrfBox → StepGraph
 box_graph alphabet names boxes = record {
   start = 0;
   IsEnd = λ place. (place ≢ 1) × Contains (targets_at boxes place) 1;
@@ -115,7 +116,7 @@ boxes_of graphs zero = []
 boxes_of graphs (suc n) = boxes_in (slice_get graphs n)
 
 -- the graphs as they are drawn, in order, of which the first is the main graph
-abbrev pub box_grammar : List Line → List Drawn → Grammar
+abbrev pub box_grammar : Letters → List Drawn → Grammar
 box_grammar alphabet graphs = record {
   count = length graphs;
   graph = λ g. box_graph alphabet (names_of graphs) (boxes_of graphs g);

@@ -1,6 +1,7 @@
--- What the parts of compiling give: names that are there, places, refusals and a net.
+-- What the parts of compiling give: names that are there, places, refusals and a net. Public is
+-- `IsConstructed`; of the rest the crate's own functions alone speak.
 use Rattle.std.specs.Prelude.{◌≡◌, ℕ, suc, ◌<◌, List, Bool, Some, slice_get, length, map, Contains}
-use Rattle.ux_alphabet.specs.declared.line.Line.{Line}
+use Rattle.ux_alphabet.specs.Letters.{Letters}
 use Rattle.ux_net.specs.declared.error.NetError.{NetError}
 use Rattle.ux_net.specs.declared.error.NetError.TheVariants.{MissingGraph, NotYet, EmptyLoop, LeftRecursion, NoMemory}
 use Rattle.ux_net.specs.declared.net_graph.NetGraph.{NetGraph}
@@ -26,7 +27,7 @@ pub record IsFirstLacking (calls names : List (List ℕ)) (name : List ℕ) : Ty
   pub before : (j : ℕ) (other : List ℕ) → j < k → slice_get calls j ≡ Some other →
       Contains names other
 
--- a list of graphs is refused for the first name that is missing, or for want of memory
+-- a list of graphs is refused for the first name that is missing, or when it is out of memory
 abbrev pub RefusesCalls : List Drawn → NetError → Type 0
 RefusesCalls graphs (MissingGraph name) = IsFirstMissing graphs name
 RefusesCalls graphs (NotYet name node) = ⊥
@@ -35,13 +36,13 @@ RefusesCalls graphs (LeftRecursion name node) = ⊥
 RefusesCalls graphs NoMemory = Unit {0}
 
 -- the places of all graphs, each made of its boxes
-pub record AreSplit (alphabet : List Line) (graphs : List Drawn) (places : List (List Place)) :
+pub record AreSplit (alphabet : Letters) (graphs : List Drawn) (places : List (List Place)) :
     Type 0 where
   pub count : length places ≡ length graphs
   pub each : (n : ℕ) → n < length graphs →
       ArePlaces alphabet (names_of graphs) (boxes_of graphs (suc n)) (places_of places (suc n))
 
--- a list of graphs is refused for what its places show, or for want of memory
+-- a list of graphs is refused for what its places show, or when it is out of memory
 abbrev pub RefusesPlaces : List Drawn → List (List Place) → NetError → Type 0
 RefusesPlaces graphs places (MissingGraph name) = ⊥
 RefusesPlaces graphs places (NotYet name node) = ⊥
@@ -53,7 +54,7 @@ RefusesPlaces graphs places (LeftRecursion name node) =
 RefusesPlaces graphs places NoMemory = Unit {0}
 
 -- a compiled graph has the name of the drawn graph of this number, and the states of its places
-pub record IsConstructedOf (alphabet : List Line) (graphs : List Drawn) (g : ℕ)
+pub record IsConstructedOf (alphabet : Letters) (graphs : List Drawn) (g : ℕ)
     (graph : NetGraph) : Type 0 where
   pub name : is_named graphs g graph.name
   pub places : List Place
@@ -61,7 +62,7 @@ pub record IsConstructedOf (alphabet : List Line) (graphs : List Drawn) (g : ℕ
   pub states : graph.states ≡ states_of places
 
 -- a net has one compiled graph for each drawn one, in order
-pub record IsConstructed (alphabet : List Line) (graphs : List Drawn) (net : List NetGraph) :
+pub record IsConstructed (alphabet : Letters) (graphs : List Drawn) (net : List NetGraph) :
     Type 0 where
   pub count : length net ≡ length graphs
   pub each : (g : ℕ) (graph : NetGraph) → graph_at net g ≡ Some graph →

@@ -1,5 +1,6 @@
 -- The states that are made of the places of a graph: one for each place that is reached, and then
 -- those of chains, which stand between the labels of a line. The manual, on compiled graphs.
+-- Public: the crate's public contracts speak of it.
 use Rattle.std.specs.Prelude.{◌≡◌, ℕ, ◌+◌, ◌-◌, ◌<◌, List, [], ◌∷◌, ◌++◌, map, Option, Some, None, slice_get, get_or, length, sum_by, Contains, All, Bool, true, false, cond, nat_eq, ltb}
 use Rattle.std.specs.List.{range_with_len, flat_map, list_any, count_by}
 use Rattle.ux_net.specs.declared.label.Label.{Label}

@@ -1,4 +1,5 @@
--- What is asked of boxes whose lines are split, before states are made of them.
+-- What is asked of boxes whose lines are split, before states are made of them. Inner: the crate's
+-- own functions alone speak of it.
 use Rattle.std.specs.Prelude.{◌≡◌, ◌≢◌, ℕ, ◌<◌, ◌≤◌, ◌↔◌, ◌⊎◌, Bool, true, false, List, [], ◌∷◌, All, AllPairs, length, map, Contains}
 use Rattle.ux_grf.specs.Reached.{ways_of, Reached}
 use Rattle.ux_net.specs.declared.label.Label.{Label}

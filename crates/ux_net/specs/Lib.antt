@@ -19,5 +19,4 @@ pub mod Listed
 pub mod Spots
 pub mod Rows
 pub mod Refusals
-pub mod Fitness
 pub mod Compiling

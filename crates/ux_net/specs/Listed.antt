@@ -1,4 +1,5 @@
--- The ways of lines, targets, places and graphs, by their numbers.
+-- The ways of lines, targets, places and graphs, by their numbers. Inner: the crate's own functions
+-- alone speak of it.
 use Rattle.std.specs.Prelude.{◌≡◌, ◌≢◌, ℕ, ◌+◌, ◌-◌, List, [], ◌∷◌, Option, Some, None, get_or, length}
 use Rattle.ux_net.specs.declared.label.Label.{Label}
 use Rattle.ux_net.specs.declared.label.Label.TheVariants.{Call}

@@ -1,4 +1,5 @@
--- Why every walk through a net ends: ranks that fall along each edge that may take nothing.
+-- Why every walk through a net ends: ranks that fall along each edge that may take nothing. Public:
+-- the crate's public contracts speak of it.
 use Rattle.std.specs.Prelude.{◌≡◌, ℕ, ◌+◌, ◌*◌, ◌<◌, ◌≤◌, List, Option, Some, None, slice_get, Contains, Bool, false, cond, IsTrue, get_or, sum_by}
 use Rattle.ux_net.specs.declared.label.Label.{Label}
 use Rattle.ux_net.specs.declared.label.Label.TheVariants.{Empty, Fold, Exact, Space, Glue, Call}

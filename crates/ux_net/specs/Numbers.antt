@@ -1,4 +1,5 @@
--- One number for each place of all graphs: the graphs stand one after another.
+-- One number for each place of all graphs: the graphs stand one after another. Inner: the crate's
+-- own functions alone speak of it.
 use Rattle.std.specs.Prelude.{◌≡◌, ℕ, zero, suc, ◌+◌, ◌<◌, ◌≤◌, List, [], ◌∷◌, length, get_or}
 use Rattle.ux_net.specs.declared.place.Place.{Place}
 

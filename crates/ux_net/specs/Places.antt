@@ -1,7 +1,8 @@
--- Boxes whose lines are split into labels, as a graph.
+-- Boxes whose lines are split into labels, as a graph. Public: the crate's public contracts speak
+-- of it.
 use Rattle.std.specs.Prelude.{◌≡◌, ◌≢◌, ℕ, zero, suc, List, [], Option, Some, None, slice_get, Contains, length, Bool, false}
 use Rattle.std.specs.List.{AllZip}
-use Rattle.ux_alphabet.specs.declared.line.Line.{Line}
+use Rattle.ux_alphabet.specs.Letters.{Letters}
 use Rattle.ux_grf.specs.declared.graph.GrfBox.{GrfBox}
 use Rattle.ux_net.specs.declared.label.Label.{Label}
 use Rattle.ux_net.specs.declared.place.Place.{Place}
@@ -40,7 +41,7 @@ box_reached_in None = false
 box_reached_in (Some box) = box.reached
 
 -- the places are those of the boxes, each line split into its labels
-pub record ArePlaces (alphabet : List Line) (names : List (List ℕ)) (boxes : List GrfBox)
+pub record ArePlaces (alphabet : Letters) (names : List (List ℕ)) (boxes : List GrfBox)
     (places : List Place) : Type 0 where
   pub len : length places ≡ length boxes
   pub reached : (n : ℕ) → is_reached places n ≡ box_reached_in (slice_get boxes n)

@@ -1,4 +1,5 @@
 -- Ranks of the states that are made of places, from ranks of the places: why every walk ends.
+-- Inner: the crate's own functions alone speak of it.
 use Rattle.std.specs.Prelude.{◌≡◌, ℕ, zero, suc, ◌+◌, ◌<◌, ◌≤◌, List, [], ◌∷◌, Some, Contains, length, get_or, drop, Bool, true, false, cond}
 use Rattle.std.specs.List.{list_all, prefix_len}
 use Rattle.ux_net.specs.declared.label.Label.{Label}

@@ -1,4 +1,4 @@
--- What the refusal of a grammar tells.
+-- What the refusal of a grammar tells. Inner: the crate's own functions alone speak of it.
 use Rattle.std.specs.Prelude.{ℕ, List}
 use Rattle.ux_net.specs.declared.admissible.AdmissionError.{AdmissionError}
 use Rattle.ux_net.specs.declared.admissible.AdmissionError.TheVariants.{EmptyLoop, LeftRecursion, NoMemory}

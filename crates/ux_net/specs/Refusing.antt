@@ -1,8 +1,8 @@
--- Why a list of graphs isn't compiled.
+-- Why a list of graphs isn't compiled. Public: the crate's public contracts speak of it.
 use Rattle.std.specs.Prelude.{◌≡◌, ℕ, zero, suc, ◌<◌, Bool, true, false, ◌||◌, nat_lt, List, [], length, map, Option, Some, None, slice_get, string_bytes, String, Contains, All}
 use Rattle.std.specs.declared.alloc.Global.{Global}
 use Rattle.std.specs.List.{list_any}
-use Rattle.ux_alphabet.specs.declared.line.Line.{Line}
+use Rattle.ux_alphabet.specs.Letters.{Letters}
 use Rattle.ux_grf.specs.declared.graph.Graph.{Graph}
 use Rattle.ux_grf.specs.declared.graph.GrfBox.{GrfBox}
 use Rattle.ux_grf.specs.declared.item.Item.{Item}
@@ -109,7 +109,7 @@ pub record IsFirstMissing (graphs : List Drawn) (name : List ℕ) : Type 0 where
       slice_get (calls_in (slice_get graphs n)) j ≡ Some other → Contains (names_of graphs) other
 
 -- why a list of graphs isn't compiled: the tests in their order, each with its place
-abbrev pub Refuses : List Line → List Drawn → NetError → Type 0
+abbrev pub Refuses : Letters → List Drawn → NetError → Type 0
 Refuses alphabet graphs (MissingGraph name) = IsFirstMissing graphs name
 Refuses alphabet graphs (NotYet name node) =
     AreWhole graphs × IsFirstNamed graphs (IsBeyondAt graphs) name node
@@ -123,7 +123,7 @@ Refuses alphabet graphs (LeftRecursion name node) =
 Refuses alphabet graphs NoMemory = Unit {0}
 
 -- every call is of a graph that is there, every box is compiled, and the grammar is admissible
-pub record IsCompilable (alphabet : List Line) (graphs : List Drawn) : Type 0 where
+pub record IsCompilable (alphabet : Letters) (graphs : List Drawn) : Type 0 where
   pub whole : AreWhole graphs
   pub compiled : AreCompiled graphs
   pub admissible : IsAdmissible (box_grammar alphabet graphs)

@@ -1,4 +1,5 @@
--- A list with an entry for each place of all graphs, cut into rows.
+-- A list with an entry for each place of all graphs, cut into rows. Inner: the crate's own
+-- functions alone speak of it.
 use Rattle.std.specs.Prelude.{List, [], ◌∷◌, length, take, drop}
 use Rattle.ux_net.specs.declared.place.Place.{Place}
 

@@ -1,7 +1,8 @@
--- How a box's lines become those of a place, one item after another.
+-- How a box's lines become those of a place, one item after another. Inner: the crate's own
+-- functions alone speak of it.
 use Rattle.std.specs.Prelude.{◌≡◌, ℕ, zero, suc, ◌+◌, List, [], ◌∷◌, ◌++◌, All, Contains, Some, slice_get}
 use Rattle.std.specs.List.{AllZip}
-use Rattle.ux_alphabet.specs.declared.line.Line.{Line}
+use Rattle.ux_alphabet.specs.Letters.{Letters}
 use Rattle.ux_tokens.specs.declared.kind.Kind.{Kind}
 use Rattle.ux_grf.specs.declared.graph.GrfBox.{GrfBox}
 use Rattle.ux_grf.specs.declared.item.Item.{Item}
@@ -51,18 +52,18 @@ IsNumbered names name before after =
     (number : ℕ) × IsNumberOf names name number × (after ≡ before ++ label.Call number ∷ [])
 
 -- the labels of one item stand behind what was there
-abbrev pub IsBehind : List Line → List (List ℕ) → Item → (before after : List Label) → Type 0
+abbrev pub IsBehind : Letters → List (List ℕ) → Item → (before after : List Label) → Type 0
 IsBehind alphabet names item before after =
     (added : List Label) × IsSplit alphabet names item added × (after ≡ before ++ added)
 
 -- the labels of a text do
-abbrev pub IsCutBehind : List Line → Comparison → List ℕ → (before after : List Label) → Type 0
+abbrev pub IsCutBehind : Letters → Comparison → List ℕ → (before after : List Label) → Type 0
 IsCutBehind alphabet comparison text before after =
     (added : List Label) × IsCut alphabet (label_by comparison) text added
     × (after ≡ before ++ added)
 
 -- each line as labels
-abbrev pub AreSplitLines : List Line → List (List ℕ) → List (List Item) → List (List Label) →
+abbrev pub AreSplitLines : Letters → List (List ℕ) → List (List Item) → List (List Label) →
     Type 0
 AreSplitLines alphabet names lines split = AllZip (IsSplitLine alphabet names) lines split
 
@@ -76,7 +77,7 @@ numbered_lines zero grf_box = start_line ∷ []
 numbered_lines (suc zero) grf_box = []
 numbered_lines (suc (suc n)) grf_box = grf_box.lines
 
-module _ (alphabet : List Line) (names : List (List ℕ)) where
+module _ (alphabet : Letters) (names : List (List ℕ)) where
   -- the place of a box of this number
   pub record IsPlaceOf (number : ℕ) (grf_box : GrfBox) (place : Place) : Type 0 where
     pub reached : place.reached ≡ grf_box.reached

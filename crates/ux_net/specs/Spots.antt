@@ -1,4 +1,5 @@
--- The first place of the first graph of which something is so.
+-- The first place of the first graph of which something is so. Inner: the crate's own functions
+-- alone speak of it.
 use Rattle.std.specs.Prelude.{◌≡◌, ℕ, ◌<◌, ◌≤◌, ◌⊎◌, List, Option, Some, None, Contains, get_or, Bool}
 use Rattle.ux_net.specs.declared.spot.Spot.{Spot}
 use Rattle.ux_net.specs.declared.way.Way.{Way}

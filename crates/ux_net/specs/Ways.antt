@@ -1,4 +1,5 @@
--- The steps that may take nothing or enter a graph, as edges between numbered places.
+-- The steps that may take nothing or enter a graph, as edges between numbered places. Inner: the
+-- crate's own functions alone speak of it.
 use Rattle.std.specs.Prelude.{◌≡◌, ℕ, ◌<◌, unwrap_or, ◌↔◌, List, [], ◌∷◌, Option, Some, None, All, Bool, true, false, Contains, length, get_or}
 use Rattle.ux_digraph.specs.declared.closing.Rule.{Rule}
 use Rattle.ux_net.specs.declared.label.Label.{Label}

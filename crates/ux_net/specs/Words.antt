@@ -1,4 +1,5 @@
 -- The words of a graph: what stands along its runs, one label after another. The manual, on graphs.
+-- Public: the crate's public contracts speak of it.
 use Rattle.std.specs.Prelude.{ℕ, List, [], ◌∷◌, ◌++◌, ◌↔◌}
 use Rattle.ux_net.specs.declared.label.Label.{Label}
 use Rattle.ux_net.specs.declared.label.Label.TheVariants.{Empty, Fold, Exact, Space, Glue, Call}

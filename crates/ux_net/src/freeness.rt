@@ -98,7 +98,7 @@ fn is_end(places: &[Place], n: usize) -> bool
     n != 1 && targets_of(places, n).contains(&1)
 }
 
-/// The rules of the ways: a source is free where the target and the start that is called are.
+/// The rules of the ways: a source is nullable where the target and the start that is called are.
 fn rules_of(alloc: Global, ways: &[Way]) -> Mem<Vec<Rule>>
     ensures { IfOk result (λ rules. rules.items ≡ map rule_of ways.now) }
 {

@@ -111,13 +111,6 @@ impl Net {
         graph.states.as_slice().get(state as usize)
     }
 
-    /// How many different masks stand on edges: none does yet.
-    pub fn masks(&self) -> usize
-        ensures { result ≡ 0 }
-    {
-        0
-    }
-
     /// The states of a graph.
     fn states_in(&self, graph: u32) -> &[State]
         requires from { 1 ≤ graph }

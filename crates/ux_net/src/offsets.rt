@@ -7,8 +7,8 @@ use crate::place::Place;
 use std::alloc::Global;
 use ux_base::{Lst, Mem, NoMemory};
 
-/// How many places stand before each graph, and behind the last. More of them than `usize` counts
-/// are want of memory, since a list has an entry for each.
+/// How many places stand before each graph, and after the last. Where they are more than `usize`
+/// counts, it is out of memory, since a list has an entry for each.
 pub fn offsets_of(alloc: Global, graphs: &[Lst<Place>]) -> Mem<Vec<usize>>
     ensures { IfOk result (λ offsets. AreOffsets graphs.now offsets.items) }
 {

@@ -17,7 +17,7 @@ use crate::place::Place;
 use std::alloc::Global;
 use ux_base::Mem;
 
-/// The rank of each state that is made of the places, and whether it is marked as free, from the
+/// The rank of each state that is made of the places, and whether it is marked nullable, from the
 /// ranks and the marks of the places.
 pub fn ranks(
     alloc: Global,

@@ -1,4 +1,5 @@
--- The hit that the events of a derivation render. The manual, on Locate.
+-- The hit that the events of a derivation render. The manual, on Locate. Public: the crate's
+-- public contracts speak of it.
 use Rattle.std.specs.Prelude.{ℕ, ◌+◌, ◌-◌, List, [], ◌∷◌, ◌++◌, Option, Some, None, slice_get, take, drop, nat_lt, if◌then◌else◌}
 use Rattle.ux_tokens.specs.declared.kind.Kind.{Kind}
 use Rattle.ux_tokens.specs.declared.kind.Kind.TheVariants as kind

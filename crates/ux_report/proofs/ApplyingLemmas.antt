@@ -2,7 +2,7 @@
 use Rattle.std.proofs.Common.{arith, ◌≡◌, ℕ, List, [], ◌∷◌, refl, ap, subst}
 use Rattle.std.specs.Prelude.{Contains}
 use Rattle.std.proofs.lemmas.List.Elements.{Contains-get_or}
-use Rattle.ux_alphabet.specs.declared.line.Line.{Line}
+use Rattle.ux_alphabet.specs.Letters.{Letters}
 use Rattle.ux_dela.specs.declared.entry.Entry.{Entry}
 use Rattle.ux_dict.specs.Forms.{IsChosen, none, kept, left}
 use Rattle.ux_apply.specs.declared.priority.Priority.{Priority}
@@ -18,9 +18,9 @@ chosen-one (kept here rest) (left fails more) = absurd (fails here)
 chosen-one (left fails rest) (kept there more) = absurd (fails there)
 chosen-one (left fails rest) (left also more) = chosen-one rest more
 
-module _ (lines : List Line) (dics : List (Priority × List Entry)) (text : List ℕ) where
+module _ (alphabet : Letters) (dics : List (Priority × List Entry)) (text : List ℕ) where
   found-members : (priority : Priority) (xs ys : List Entry) →
-      AreFound lines dics text priority xs → AreFound lines dics text priority ys →
+      AreFound alphabet dics text priority xs → AreFound alphabet dics text priority ys →
       (e : Entry) → Contains xs e → Contains ys e
   found-members priority xs ys a b e has =
       (b.once.members e).1
@@ -28,14 +28,14 @@ module _ (lines : List Line) (dics : List (Priority × List Entry)) (text : List
       ((a.once.members e).0 has))
 
   found-nothing : (priority : Priority) (ys : List Entry) →
-      AreFound lines dics text priority [] → AreFound lines dics text priority ys → ys ≡ []
+      AreFound alphabet dics text priority [] → AreFound alphabet dics text priority ys → ys ≡ []
   found-nothing priority [] a b = refl
   found-nothing priority (y ∷ ys) a b =
       absurd (none-in y (found-members priority (y ∷ ys) [] b a y
       (Contains-get_or (y ∷ ys) 0 y (omega arith))))
 
-  pub applying-members : (xs ys : List Entry) → AreApplying lines dics text xs →
-      AreApplying lines dics text ys → (e : Entry) → Contains xs e → Contains ys e
+  pub applying-members : (xs ys : List Entry) → AreApplying alphabet dics text xs →
+      AreApplying alphabet dics text ys → (e : Entry) → Contains xs e → Contains ys e
   applying-members xs ys (high f some) (high g more) e has = found-members _ xs ys f g e has
   applying-members xs ys (high f some) (normal g h more) e has =
       absurd (some (found-nothing _ xs g f))

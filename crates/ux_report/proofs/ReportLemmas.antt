@@ -5,7 +5,7 @@ use Rattle.std.specs.List.Sorted.{IsStrictlySortedBy}
 use Rattle.std.specs.Ordering.{nat_cmp}
 use Rattle.std.specs.Cmp.Lexicographic.{slice_cmp}
 use Rattle.std.proofs.lemmas.Option.{same_Some, slice_get_within, slice_get-get_or, get_or_from_slice_get}
-use Rattle.ux_alphabet.specs.declared.line.Line.{Line}
+use Rattle.ux_alphabet.specs.Letters.{Letters}
 use Rattle.ux_dela.specs.declared.entry.Entry.{Entry}
 use Rattle.ux_tokens.specs.declared.kind.Kind.{Kind}
 use Rattle.ux_tokens.specs.declared.kind.Kind.TheVariants.{Word}
@@ -50,10 +50,10 @@ module _ (tokens : List Token) (tables : Tables) (places : List (Option ℕ))
       let word = words.sound number place at in
       slice_get_within tokens place word.token word.stands
 
-  module _ (lines : List Line) (dics : List (Priority × List Entry))
-      (applied : AreApplied lines dics tokens tables) where
+  module _ (alphabet : Letters) (dics : List (Priority × List Entry))
+      (applied : AreApplied alphabet dics tokens tables) where
     abbrev Simple : Token → List Entry → Type 0
-    Simple token entries = AreSimpleOf lines dics token.kind token.text entries
+    Simple token entries = AreSimpleOf alphabet dics token.kind token.text entries
 
     -- and in the table
     pub places-in_table : LieWithin places (length tables.simple)
@@ -65,12 +65,12 @@ module _ (tokens : List Token) (tables : Tables) (places : List (Option ℕ))
     -- a word has the entries that apply to its text
     row-of : (place : ℕ) (token : Token) → slice_get tokens place ≡ Some token →
         token.kind ≡ Word → (row : List Entry) × (slice_get tables.simple place ≡ Some row)
-        × AreApplying lines dics token.text row
+        × AreApplying alphabet dics token.text row
     row-of place token at word =
         let there = zip-at Simple tokens tables.simple place token applied.simple at in (
           there.0,
           there.1,
-          subst (λ (k : Kind). AreSimpleOf lines dics k token.text there.0) word
+          subst (λ (k : Kind). AreSimpleOf alphabet dics k token.text there.0) word
               there.2,
         )
 
@@ -105,8 +105,8 @@ module _ (tokens : List Token) (tables : Tables) (places : List (Option ℕ))
             let other = row-of kept.1 word.token word.stands word.word in
             let same : is.row ≡ own.0 = same_Some is.row own.0 (sym is.entries ∙ own.1) in
             let member : Contains other.0 is.entry =
-            applying-members lines dics word.token.text own.0 other.0
-            (subst (λ (t : List ℕ). AreApplying lines dics t own.0) text own.2) other.2 is.entry
+            applying-members alphabet dics word.token.text own.0 other.0
+            (subst (λ (t : List ℕ). AreApplying alphabet dics t own.0) text own.2) other.2 is.entry
             (subst (λ (l : List Entry). Contains l is.entry) same is.member) in (
               Some kept.1,
               member-at places (Some kept.1) kept.0 kept.2,

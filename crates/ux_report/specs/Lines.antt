@@ -1,4 +1,4 @@
--- How the lines of a section are collected.
+-- How the lines of a section are collected. Inner: the crate's own functions alone speak of it.
 use Rattle.std.specs.Prelude.{◌≡◌, ◌↔◌, ◌⊎◌, ℕ, ◌<◌, List, Option, None, Some, Contains, slice_get}
 use Rattle.ux_dela.specs.declared.entry.Entry.{Entry}
 use Rattle.ux_dela.specs.Printed.{printed}

@@ -1,10 +1,11 @@
 -- The report on the dictionaries that apply to a text. The manual, on applying dictionaries; that
--- the three parts stand in one file is this program's own.
+-- the three parts stand in one file is this program's own. Public: the crate's public contracts
+-- speak of it.
 use Rattle.std.specs.Prelude.{◌≡◌, ◌↔◌, ℕ, ◌<◌, List, ◌++◌, Contains, Some, codes, slice_get}
 use Rattle.std.specs.List.Sorted.{IsStrictlySortedBy}
 use Rattle.std.specs.Ordering.{nat_cmp}
 use Rattle.std.specs.Cmp.Lexicographic.{slice_cmp}
-use Rattle.ux_alphabet.specs.declared.line.Line.{Line}
+use Rattle.ux_alphabet.specs.Letters.{Letters}
 use Rattle.ux_dela.specs.declared.entry.Entry.{Entry}
 use Rattle.ux_dela.specs.Printed.{printed}
 use Rattle.ux_tokens.specs.declared.kind.Kind.TheVariants.{Word}
@@ -16,8 +17,8 @@ use Rattle.ux_apply.specs.Tables.{Tables, AreApplied}
 
 -- the tables are those of some dictionaries over the tokens, by some alphabet
 abbrev pub AreTablesOf : List Token → Tables → Type 0
-AreTablesOf tokens tables = (lines : List Line) × (dics : List (Priority × List Entry))
-    × AreApplied lines dics tokens tables
+AreTablesOf tokens tables = (alphabet : Letters) × (dics : List (Priority × List Entry))
+    × AreApplied alphabet dics tokens tables
 
 -- the lines are the texts that are such lines, each once and in order of their bytes
 pub record AreLinesOf (P : List ℕ → Type 0) (lines : List (List ℕ)) : Type 0 where

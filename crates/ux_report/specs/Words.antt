@@ -1,4 +1,5 @@
--- A place of each different word, by the number of the word.
+-- A place of each different word, by the number of the word. Inner: the crate's own functions alone
+-- speak of it.
 use Rattle.std.specs.Prelude.{◌≡◌, ℕ, ◌<◌, List, Option, Some, length, slice_get}
 use Rattle.ux_tokens.specs.declared.kind.Kind.TheVariants.{Word}
 use Rattle.ux_tokens.specs.Tokens.{Token}

@@ -58,8 +58,15 @@ fn check_none(rt: &impl Abort, none: &Alphabet) {
 
 #[test]
 fn reads_an_alphabet_and_answers(rt: HostRuntime) -> Result<(), Fail> {
-    check_pairs(&rt, &Alphabet::read(rt.alloc(), "Tt\nÉe\n")?);
-    check_none(&rt, &Alphabet::empty());
+    let words = Alphabet::read(rt.alloc(), "Tt\nÉe\n")?;
+    compare(&rt, "letters make words", words.single(), false);
+    check_pairs(&rt, &words);
+    let letters = words.by_character();
+    compare(&rt, "each letter is a word", letters.single(), true);
+    check_pairs(&rt, &letters);
+    let none = Alphabet::empty();
+    compare(&rt, "none is single", none.single(), false);
+    check_none(&rt, &none);
     Ok(())
 }
 

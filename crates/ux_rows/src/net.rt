@@ -76,8 +76,8 @@ fn told(alloc: Global, refusal: &NetError) -> Result<String, AllocError> {
 }
 
 /// The states of the graphs, or the refusal.
-fn shown(alloc: Global, graphs: &[&str]) -> Result<String, AllocError> {
-    match compiled(alloc, graphs, &Alphabet::empty()) {
+fn shown(alloc: Global, graphs: &[&str], alphabet: &Alphabet) -> Result<String, AllocError> {
+    match compiled(alloc, graphs, alphabet) {
         Ok(net) => show_net(alloc, &net),
         Err(refusal) => told(alloc, &refusal),
     }
@@ -86,12 +86,22 @@ fn shown(alloc: Global, graphs: &[&str]) -> Result<String, AllocError> {
 /// A name, the graphs, and what is shown.
 type Row = (&'static str, &'static [&'static str], &'static str);
 
-fn compare_nets(rt: &impl Abort, alloc: Global, rows: &[Row]) -> Result<(), Fail> {
+/// The rows, over one alphabet.
+fn compare_by(
+    rt: &impl Abort,
+    alloc: Global,
+    alphabet: &Alphabet,
+    rows: &[Row],
+) -> Result<(), Fail> {
     for row in rows {
-        let got = shown(alloc, row.1)?;
+        let got = shown(alloc, row.1, alphabet)?;
         compare(rt, row.0, got.as_str(), row.2);
     }
     Ok(())
+}
+
+fn compare_nets(rt: &impl Abort, alloc: Global, rows: &[Row]) -> Result<(), Fail> {
+    compare_by(rt, alloc, &Alphabet::empty(), rows)
 }
 
 #[test]
@@ -131,6 +141,19 @@ fn makes_states(rt: HostRuntime) -> Result<(), Fail> {
         ),
     ];
     compare_nets(&rt, rt.alloc(), ROWS)
+}
+
+#[test]
+fn a_literal_is_cut_by_the_alphabet(rt: HostRuntime) -> Result<(), Fail> {
+    const WORDS: &[Row] = &[("a word", &["E|2 | ab|1"], ":ab1t")];
+    const LETTERS: &[Row] = &[
+        ("two letters", &["E|2 | ab|1"], ":a2t:b1"),
+        ("quoted letters", &["E|2 | \\\"ab\\\"|1"], ":a2t:b1"),
+        ("one letter", &["E|2 | a|1"], ":a1t"),
+    ];
+    let words = Alphabet::read(rt.alloc(), "a\nb")?;
+    compare_by(&rt, rt.alloc(), &words, WORDS)?;
+    compare_by(&rt, rt.alloc(), &words.by_character(), LETTERS)
 }
 
 #[test]

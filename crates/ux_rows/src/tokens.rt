@@ -7,7 +7,7 @@ use std::test::Fail;
 use ux_alphabet::Alphabet;
 use ux_base::Mem;
 use ux_dela::print_delaf;
-use ux_tokens::{Text, TextError, print_tokens, token_file_of};
+use ux_tokens::{Kind, Text, TextError, first_token, print_tokens, token_file_of};
 
 /// Reads a text over the letters from a to z.
 fn read(alloc: Global, text: &str) -> Result<Result<Text, TextError>, Fail> {
@@ -151,6 +151,82 @@ fn cuts_many_protected_braces(rt: HostRuntime) -> Result<(), Fail> {
     Ok(())
 }
 
+/// The letters of the rows beside each other.
+const LETTERS: &str = "#AZ\n#az\né\n";
+
+/// A name, a text, and its tokens where words are runs of letters, and where each letter is one.
+type LettersRow = (&'static str, &'static str, &'static str, &'static str);
+
+/// Each token of a text, by an alphabet.
+fn cut_by(alloc: Global, text: &str, alphabet: &Alphabet) -> Result<String, Fail> {
+    let text = String::from_str(alloc, text)?;
+    Ok(listed(alloc, &Text::read(alloc, text, alphabet)?)?)
+}
+
+fn check_letters(rt: &impl Abort, alloc: Global, row: &LettersRow) -> Result<(), Fail> {
+    let runs = Alphabet::read(alloc, LETTERS)?;
+    compare(rt, row.0, cut_by(alloc, row.1, &runs)?.as_str(), row.2);
+    let single = runs.by_character();
+    compare(rt, row.0, cut_by(alloc, row.1, &single)?.as_str(), row.3);
+    Ok(())
+}
+
+#[test]
+fn cuts_runs_of_letters_or_single_ones(rt: HostRuntime) -> Result<(), Fail> {
+    const ROWS: &[LettersRow] = &[
+        ("a word", "the", "Word0[the]", "Word0[t]Word1[h]Word2[e]"),
+        (
+            "a letter again",
+            "aab",
+            "Word0[aab]",
+            "Word0[a]Word0[a]Word1[b]",
+        ),
+        (
+            "spaces and other characters",
+            "ab \tc,1d",
+            "Word0[ab]Space1[ ]Word2[c]Other3[,]Other4[1]Word5[d]",
+            "Word0[a]Word1[b]Space2[ ]Word3[c]Other4[,]Other5[1]Word6[d]",
+        ),
+        (
+            "marks, and a tag that stays one token",
+            "ab{S}a{am,be.V:P1s}b{S",
+            "Word0[ab]Sentence1[{S}]Word2[a]Tag3[{am,be.V:P1s}]Word4[b]Other5[{]Word6[S]",
+            "Word0[a]Word1[b]Sentence2[{S}]Word0[a]Tag3[{am,be.V:P1s}]Word1[b]Other4[{]Word5[S]",
+        ),
+        (
+            "a letter of several bytes",
+            "éaéè",
+            "Word0[éaé]Other1[è]",
+            "Word0[é]Word1[a]Word0[é]Other2[è]",
+        ),
+    ];
+    for row in ROWS {
+        check_letters(&rt, rt.alloc(), row)?;
+    }
+    Ok(())
+}
+
+#[test]
+fn takes_the_first_letters_or_the_first_one(rt: HostRuntime) -> Result<(), Fail> {
+    let runs = Alphabet::read(rt.alloc(), LETTERS)?;
+    compare(&rt, "a run", first_token(&runs, "he is"), (Kind::Word, 2));
+    let single = runs.by_character();
+    compare(
+        &rt,
+        "a letter",
+        first_token(&single, "he is"),
+        (Kind::Word, 1),
+    );
+    compare(
+        &rt,
+        "one of two bytes",
+        first_token(&single, "éh"),
+        (Kind::Word, 2),
+    );
+    compare(&rt, "a space", first_token(&single, " h"), (Kind::Space, 1));
+    Ok(())
+}
+
 /// The line of a tag's entry, or that the token is no tag.
 fn entry_of(alloc: Global, text: &Text, place: usize) -> Mem<String> {
     if place >= text.len() {
@@ -209,5 +285,21 @@ fn prints_the_token_file(rt: HostRuntime) -> Result<(), Fail> {
         printed_at_once(rt.alloc(), TEXT)?.as_str(),
         FILE,
     );
+    Ok(())
+}
+
+#[test]
+fn prints_the_token_file_of_single_letters(rt: HostRuntime) -> Result<(), Fail> {
+    let runs = Alphabet::read(rt.alloc(), LETTERS)?;
+    let file = token_file(rt.alloc(), "aab", &runs)?;
+    compare(&rt, "a run", file.as_str(), "1\naab\n");
+    let single = runs.by_character();
+    let file = token_file(rt.alloc(), "aab", &single)?;
+    compare(&rt, "single letters", file.as_str(), "2\na\nb\n");
+    let text = Text::read(rt.alloc(), String::from_str(rt.alloc(), "aab")?, &single)?;
+    compare(&rt, "the tokens", text.len(), 3);
+    compare(&rt, "the different ones", text.different(), 2);
+    let file = print_tokens(rt.alloc(), &text)?;
+    compare(&rt, "of tokens that are kept", file.as_str(), "2\na\nb\n");
     Ok(())
 }

@@ -74,8 +74,19 @@ fn read(alloc: Global, alphabet: &Alphabet) -> Result<Text, Fail> {
     Ok(Text::read(alloc, text, alphabet)?)
 }
 
+/// The letters of the rows.
+fn letters(alloc: Global) -> Result<Alphabet, Fail> {
+    Ok(Alphabet::read(alloc, "Tt\nHh\nEe\nNn\nCc\nAa\n")?)
+}
+
 fn compare_walks(rt: &impl Abort, alloc: Global, rows: &[Row]) -> Result<(), Fail> {
-    let alphabet = Alphabet::read(alloc, "Tt\nHh\nEe\nNn\nCc\nAa\n")?;
+    let alphabet = letters(alloc)?;
+    compare_rows(rt, alloc, &read(alloc, &alphabet)?, &alphabet, rows)
+}
+
+/// The rows, where each letter is a word of its own.
+fn compare_letters(rt: &impl Abort, alloc: Global, rows: &[Row]) -> Result<(), Fail> {
+    let alphabet = letters(alloc)?.by_character();
     compare_rows(rt, alloc, &read(alloc, &alphabet)?, &alphabet, rows)
 }
 
@@ -94,6 +105,20 @@ fn entries_fit_tokens(rt: HostRuntime) -> Result<(), Fail> {
         ("one of two", "cat+the", 0, "1 "),
     ];
     compare_walks(&rt, rt.alloc(), ROWS)
+}
+
+#[test]
+fn letters_are_words_where_the_alphabet_is_single(rt: HostRuntime) -> Result<(), Fail> {
+    const ROWS: &[Row] = &[
+        ("a part of a word", "he", 1, "3 "),
+        ("an upper-case letter of the text", "the", 0, "3 "),
+        ("the start of a word", "th", 0, "2 "),
+        ("a space is passed over", "cat", 3, "7 "),
+        ("more than the word", "then", 0, ""),
+        ("spaces between letters", "ec", 2, "5 "),
+        ("one letter of several", "cat+he", 1, "3 "),
+    ];
+    compare_letters(&rt, rt.alloc(), ROWS)
 }
 
 #[test]

@@ -44,43 +44,63 @@ fn reads_each_command(rt: HostRuntime) -> Result<(), Fail> {
     const ROWS: &[Asked] = &[
         (
             "locate|g|t|a",
-            "Locate(Search { graph: Txt { text: \"g\" }, text: Txt { text: \"t\" }, alphabet: Txt { text: \"a\" }, dics: Lst { items: [] }, mode: Ignore, policy: All, novar: Nothing })",
+            "Locate(Search { graph: Txt { text: \"g\" }, text: Txt { text: \"t\" }, alphabet: Txt { text: \"a\" }, dics: Lst { items: [] }, mode: Ignore, policy: All, novar: Nothing, chars: false })",
         ),
         (
             "locate|--novar|--mode=replace|g|t|--policy|shortest|a|d|e",
-            "Locate(Search { graph: Txt { text: \"g\" }, text: Txt { text: \"t\" }, alphabet: Txt { text: \"a\" }, dics: Lst { items: [Txt { text: \"d\" }, Txt { text: \"e\" }] }, mode: Replace, policy: Shortest, novar: Drop })",
+            "Locate(Search { graph: Txt { text: \"g\" }, text: Txt { text: \"t\" }, alphabet: Txt { text: \"a\" }, dics: Lst { items: [Txt { text: \"d\" }, Txt { text: \"e\" }] }, mode: Replace, policy: Shortest, novar: Drop, chars: false })",
         ),
         (
-            "concord|g|t|a|--right|0007|--sort=RL",
-            "Concord { search: Search { graph: Txt { text: \"g\" }, text: Txt { text: \"t\" }, alphabet: Txt { text: \"a\" }, dics: Lst { items: [] }, mode: Ignore, policy: All, novar: Nothing }, left: 40, right: 7, sort: RL }",
+            "concord|g|t|a|--right|0007|--chars|--sort=RL",
+            "Concord { search: Search { graph: Txt { text: \"g\" }, text: Txt { text: \"t\" }, alphabet: Txt { text: \"a\" }, dics: Lst { items: [] }, mode: Ignore, policy: All, novar: Nothing, chars: true }, left: 40, right: 7, sort: RL }",
         ),
         (
             "tokenize|t|a",
-            "Tokenize { text: Txt { text: \"t\" }, alphabet: Txt { text: \"a\" } }",
+            "Tokenize { text: Txt { text: \"t\" }, alphabet: Txt { text: \"a\" }, chars: false }",
+        ),
+        (
+            "tokenize|--|--chars|a",
+            "Tokenize { text: Txt { text: \"--chars\" }, alphabet: Txt { text: \"a\" }, chars: false }",
         ),
         (
             "check|d.udi|--delas",
             "Check { delas: true, file: Txt { text: \"d.udi\" } }",
         ),
         (
-            "dico|t|a|d",
-            "Dico { text: Txt { text: \"t\" }, alphabet: Txt { text: \"a\" }, dics: Lst { items: [Txt { text: \"d\" }] } }",
+            "dico|t|--chars|a|d",
+            "Dico { text: Txt { text: \"t\" }, alphabet: Txt { text: \"a\" }, dics: Lst { items: [Txt { text: \"d\" }] }, chars: true }",
         ),
         (
             "fst2|g|a",
-            "Fst2 { graph: Txt { text: \"g\" }, alphabet: Txt { text: \"a\" } }",
+            "Fst2 { graph: Txt { text: \"g\" }, alphabet: Txt { text: \"a\" }, chars: false }",
         ),
         ("inflect|s", "Inflect { stems: Txt { text: \"s\" } }"),
         ("compress|d", "Compress { dic: Txt { text: \"d\" } }"),
         (
-            "txt2tfst|t|a",
-            "Tfst { text: Txt { text: \"t\" }, alphabet: Txt { text: \"a\" }, dics: Lst { items: [] } }",
+            "txt2tfst|t|a|--chars",
+            "Tfst { text: Txt { text: \"t\" }, alphabet: Txt { text: \"a\" }, dics: Lst { items: [] }, chars: true }",
         ),
         (
             "elag|f|r|s",
             "Elag { tfst: Txt { text: \"f\" }, rules: Lst { items: [Txt { text: \"r\" }, Txt { text: \"s\" }] } }",
         ),
         ("bench|200000", "Bench { n: 200000 }"),
+        (
+            "cascade|--trace|t|a|dic:e|replace07:h:i|dic:d|merge:g",
+            "Cascade { text: Txt { text: \"t\" }, alphabet: Txt { text: \"a\" }, steps: Lst { items: [CascadeStep { graph: Txt { text: \"h:i\" }, mode: Replace, times: 7 }, CascadeStep { graph: Txt { text: \"g\" }, mode: Merge, times: 1 }] }, dics: Lst { items: [Txt { text: \"e\" }, Txt { text: \"d\" }] }, trace: true }",
+        ),
+        (
+            "flatten|g|a",
+            "Flatten { graph: Txt { text: \"g\" }, alphabet: Txt { text: \"a\" }, depth: 10 }",
+        ),
+        (
+            "tfind|g|f|a",
+            "Tfind { graph: Txt { text: \"g\" }, tfst: Txt { text: \"f\" }, alphabet: Txt { text: \"a\" } }",
+        ),
+        (
+            "morpho|g|t|a|d",
+            "Morpho { graph: Txt { text: \"g\" }, text: Txt { text: \"t\" }, alphabet: Txt { text: \"a\" }, dics: Lst { items: [Txt { text: \"d\" }] } }",
+        ),
         ("--help", "Help"),
         ("--version", "Version"),
     ];
@@ -168,6 +188,121 @@ fn reads_every_form_of_an_option(rt: HostRuntime) -> Result<(), Fail> {
         ("bench|0000005", ""),
         ("bench|x", ""),
         ("bench|--|5", "bench|5"),
+    ];
+    check(&rt, ROWS)
+}
+
+#[test]
+fn reads_single_letters(rt: HostRuntime) -> Result<(), Fail> {
+    const ROWS: &[Row] = &[
+        ("locate|--chars|g|t|a", "locate|g|t|a|--chars"),
+        ("concord|--chars|g|t|a", "concord|g|t|a|--chars"),
+        ("tokenize|--chars|t|a", "tokenize|t|a|--chars"),
+        ("dico|--chars|t|a|d", "dico|t|a|d|--chars"),
+        ("txt2tfst|--chars|t|a", "txt2tfst|t|a|--chars"),
+        ("fst2|--chars|g|a", "fst2|g|a|--chars"),
+        ("locate|--chars|--chars|g|t|a", ""),
+        ("tokenize|--chars|t|a|--chars", ""),
+        ("dico|--chars=|t|a", ""),
+        ("fst2|--chars=x|g|a", ""),
+        ("txt2tfst|--char|t|a", ""),
+        ("tokenize|-chars|t|a", ""),
+        // Commands that lack it.
+        ("check|--chars|d", ""),
+        ("inflect|--chars|s", ""),
+        ("compress|--chars|d", ""),
+        ("elag|--chars|f|r", ""),
+        ("bench|--chars|5", ""),
+        ("cascade|--chars|t|a|merge:g", ""),
+        ("flatten|--chars|g|a", ""),
+        ("tfind|--chars|g|f|a", ""),
+        ("morpho|--chars|g|t|a", ""),
+    ];
+    check(&rt, ROWS)
+}
+
+#[test]
+fn reads_the_steps_of_a_cascade(rt: HostRuntime) -> Result<(), Fail> {
+    const ROWS: &[Row] = &[
+        // How often a step is applied.
+        ("cascade|t|a|merge:g", "cascade|t|a|merge1:g"),
+        ("cascade|t|a|merge01:g", "cascade|t|a|merge:g"),
+        ("cascade|t|a|merge07:g", "cascade|t|a|merge7:g"),
+        ("cascade|t|a|replace99:g", "cascade|--|t|a|replace99:g"),
+        ("cascade|t|a|merge0:g", ""),
+        ("cascade|t|a|merge00:g", ""),
+        ("cascade|t|a|merge100:g", ""),
+        ("cascade|t|a|replace007:g", ""),
+        ("cascade|t|a|mergex:g", ""),
+        ("cascade|t|a|merge+1:g", ""),
+        ("cascade|t|a|replace 1:g", ""),
+        // Kinds of steps.
+        ("cascade|t|a|merge", ""),
+        ("cascade|t|a|merge:", ""),
+        ("cascade|t|a|merge7:", ""),
+        ("cascade|t|a|replace:", ""),
+        ("cascade|t|a|:g", ""),
+        ("cascade|t|a|Merge:g", ""),
+        ("cascade|t|a|ignore:g", ""),
+        ("cascade|t|a|remerge:g", ""),
+        ("cascade|t|a|merge:g|h", ""),
+        // Dictionaries, which stand among the steps.
+        ("cascade|t|a|dic:d|merge:g", "cascade|t|a|merge:g|dic:d"),
+        ("cascade|t|a|dic:f", ""),
+        ("cascade|t|a|merge:g|dic:", ""),
+        ("cascade|t|a|merge:g|dic2:f", ""),
+        ("cascade|t|a|merge:g|dics:f", ""),
+        // Counts and options.
+        ("cascade", ""),
+        ("cascade|t", ""),
+        ("cascade|t|a", ""),
+        ("cascade|merge:g|t|a", ""),
+        ("cascade|--trace|t|a|merge:g", "cascade|t|a|merge:g|--trace"),
+        ("cascade|--trace|--trace|t|a|merge:g", ""),
+        ("cascade|--trace=|t|a|merge:g", ""),
+        ("cascade|--trace=x|t|a|merge:g", ""),
+        ("cascade|t|a|merge:g|--|--trace", ""),
+        ("cascade|--mode=merge|t|a|merge:g", ""),
+    ];
+    check(&rt, ROWS)
+}
+
+#[test]
+fn reads_the_last_commands(rt: HostRuntime) -> Result<(), Fail> {
+    const ROWS: &[Row] = &[
+        // How deep calls are written out.
+        ("flatten|g|a|--depth=10", "flatten|g|a"),
+        ("flatten|--depth|010|g|a", "flatten|--|g|a"),
+        ("flatten|--depth=0|g|a", "flatten|g|a|--depth|000"),
+        ("flatten|--depth=100|g|a", "flatten|g|--depth|100|a"),
+        ("flatten|--depth=101|g|a", ""),
+        ("flatten|--depth=0010|g|a", ""),
+        ("flatten|--depth=|g|a", ""),
+        ("flatten|--depth||g|a", ""),
+        ("flatten|--depth=x|g|a", ""),
+        ("flatten|--depth=-1|g|a", ""),
+        ("flatten|--depth|-1|g|a", ""),
+        ("flatten|--depth|+1|g|a", ""),
+        ("flatten|--depth=1|--depth=1|g|a", ""),
+        ("flatten|g|a|--depth", ""),
+        ("flatten|g", ""),
+        ("flatten|g|a|x", ""),
+        ("fst2|--depth=1|g|a", ""),
+        // Searches in automata and inside words.
+        ("tfind|g|f|a", "tfind|--|g|f|a"),
+        ("tfind|g|f", ""),
+        ("tfind|g|f|a|d", ""),
+        ("tfind|--mode=merge|g|f|a", ""),
+        ("tfind|--depth=1|g|f|a", ""),
+        ("morpho|g|t|a", "morpho|--|g|t|a"),
+        ("morpho|g|t|a|d|e", "morpho|g|t|a|--|d|e"),
+        ("morpho|g|t", ""),
+        ("morpho|g.fst2|t|a", ""),
+        ("morpho|--|g.fst2|t|a|d", ""),
+        ("morpho|.fst2|t|a", ""),
+        ("morpho|g.fst2.grf|t|a", "morpho|--|g.fst2.grf|t|a"),
+        ("morpho|g|t.fst2|a", "morpho|--|g|t.fst2|a"),
+        ("morpho|--trace|g|t|a", ""),
     ];
     check(&rt, ROWS)
 }

@@ -1,16 +1,2 @@
-pub mod Answering
-pub mod Complete
-pub mod DelaRefusals
-pub mod DictionariesInOrder
-pub mod Explaining
-pub mod FileRefusals
-pub mod GrammarLemmas
-pub mod GraphRefusals
-pub mod IndexLemmas
-pub mod Indexing
-pub mod Listing
-pub mod NamingLemmas
-pub mod Rendering
-pub mod RunningExamples
-pub mod TableLemmas
-pub mod TextLemmas
+pub mod Ending
+mod RunningExamples

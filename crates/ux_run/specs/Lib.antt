@@ -1,10 +1,3 @@
-pub mod Entries
-pub mod Grammars
-pub mod Hits
-pub mod Index
-pub mod Reading
+pub mod Reasons
 pub mod Requests
 pub mod Running
-pub mod Searching
-pub mod Spans
-pub mod Statuses

@@ -1,5 +1,6 @@
--- Which requests the program answers: those that are built.
-use Rattle.std.specs.Prelude.{ℕ, ◌&&◌, ◌||◌, ◌==◌, nat_eq, Bool, true, false, not, List, length, codes, if◌then◌else◌, Option, Some, None, option_and_then}
+-- Which requests are built: the options that commands take today, and the kinds of files. Public,
+-- through `Running`.
+use Rattle.std.specs.Prelude.{ℕ, ◌&&◌, ◌==◌, nat_eq, Bool, true, false, not, List, length, codes}
 use Rattle.std.specs.List.{ends_with, list_all}
 use Rattle.ux_base.specs.declared.settings.Mode.{Mode}
 use Rattle.ux_base.specs.declared.settings.Mode.TheVariants.{Ignore}
@@ -7,9 +8,6 @@ use Rattle.ux_base.specs.declared.settings.NoVar.{NoVar}
 use Rattle.ux_base.specs.declared.settings.NoVar.TheVariants.{Nothing}
 use Rattle.ux_base.specs.declared.settings.Policy.{Policy}
 use Rattle.ux_base.specs.declared.settings.Policy.TheVariants.{All}
-use Rattle.ux_words.specs.Requests as asking
-use Rattle.ux_words.specs.declared.request.Request.{Request}
-use Rattle.ux_words.specs.declared.request.Request.TheVariants.{Locate, Tokenize, Check, Dico, Help, Version}
 use Rattle.ux_words.specs.declared.request.Search.{Search}
 
 -- outputs are ignored
@@ -44,19 +42,3 @@ is_text dic = not (ends_with nat_eq dic (codes ".udi"))
 -- each of the dictionaries is
 abbrev pub are_texts : List (List ℕ) → Bool
 are_texts dics = list_all is_text dics
-
-abbrev pub is_built : Request → Bool
-is_built (Locate asked) = is_built_search asked
-is_built (Tokenize text alphabet) = true
-is_built (Check delas file) = delas || is_text file
-is_built (Dico text alphabet dics) = are_texts dics
-is_built Help = true
-is_built Version = true
-is_built request = false
-
-abbrev pub if_built : Request → Option Request
-if_built request = if is_built request then Some request else None
-
--- what the words ask for, where that is built
-abbrev pub request_of : List (List ℕ) → Option Request
-request_of words = option_and_then if_built (asking.request_of words)

@@ -1,22 +1,16 @@
 //! The top call: the words of a command line in, the result and the status out.
 //!
 //! `top_call::run` does the work over a folder and two sinks; the program `unitex` gives it the real
-//! ones. Begin with `top_call`, then follow the files: `reading`, `graphs`, `searching`, `index`, and
-//! for dictionaries `checking` and `dictionaries`. What the result has to be stands in `specs/`:
-//! `Hits`, `Index`, `Grammars`, `Entries`, `Running`.
+//! ones. What is asked for is told by one table, `asked_of` in `specs/Running.antt`: for each request
+//! the command that answers it. Here `commands` has a line for each, and `built` which requests there
+//! are; reading and work stand in the crates of the commands. `stops` maps a command's reasons to those
+//! of a run.
 #![tactic(auto)]
 
-mod checking;
-mod dictionaries;
-mod graphs;
-mod index;
-mod naming;
-mod reading;
-mod request;
-mod searching;
-mod status;
-mod telling;
+mod built;
+mod commands;
+mod stops;
 mod top_call;
 
-pub use status::{Reason, Status};
 pub use top_call::run;
+pub use ux_status::{Reason, Status};

@@ -1,28 +1,19 @@
 //! The top call: the words, the folder and the sinks in, a status out.
 
-ghost use Rattle.std.specs.Prelude.{◌≡◌, ◌≢◌, ◌⊎◌, ℕ, ◌<◌, ◌≤◌, List, None, true, IfOk, IfErr, map, length, string_bytes};
-ghost use Rattle.ux_base.specs.Outside.{Rose, Appended, AppendedFront};
-ghost use Rattle.ux_net.specs.Nets.{net_grammar};
-ghost use Rattle.ux_run.specs.Hits.{IsHit};
-ghost use Rattle.ux_run.specs.Index.{IsIndex};
-ghost use Rattle.ux_run.specs.Statuses.{line_of};
-ghost use Rattle.ux_run.specs.Requests.{is_built, request_of};
-ghost use Rattle.ux_run.specs.Running.{counts_of, Answers, IsAnswer, IsAnswerable, IsIndexOf, Denies, EndsBy, Explains, ExplainsSearch, ExplainsTokens, NoneFell, WritesNothing};
+ghost use Rattle.std.specs.Prelude.{◌≡◌, ◌≢◌, ◌⊎◌, ℕ, ◌≤◌, List, IfOk, IfErr, map, string_bytes};
+ghost use Rattle.ux_base.specs.Outside.{Appended, AppendedFront, IsLater, Rose};
+ghost use Rattle.ux_status.specs.Statuses.{line_of};
+ghost use Rattle.ux_run.specs.Running.{asked_by, Denies, EndsBy, IsAnswer, IsAnswerable, IsAsked, WritesNothing};
 
-use crate::checking::{count_entries, count_stems};
-use crate::dictionaries::report_of;
-use crate::index::index_text;
-use crate::reading::{Files, read_files, read_token_file};
-use crate::request::read_request;
-use crate::searching::hits;
-use crate::status::Status;
-use crate::telling::tell;
+use crate::commands::answer_to;
 use std::alloc::Global;
-use ux_base::{Folder, Mem, Sink};
-use ux_words::{HELP, Request, Search, VERSION};
+use ux_base::{Folder, Sink};
+use ux_status::{Status, tell};
+use ux_words::{Request, WordsError};
 
 /// Does what the words ask for. The result is built whole, and then written to `out`; where there
 /// is none, one line on `err` says why.
+#[tactic(auto, using(crate::proofs::Ending::endings))]
 pub fn run<F: Folder, S: Sink, E: Sink>(
     alloc: Global,
     words: &[String],
@@ -32,42 +23,38 @@ pub fn run<F: Folder, S: Sink, E: Sink>(
 ) -> Status
     // The result was written whole.
     ensures done { result ≡ Status.Done → (answer : List ℕ)
-        × IsAnswer (request_of (map string_bytes words.now)) (F.files folder.old) answer
+        × IsAnswer (asked_by (map string_bytes words.now)) (F.seen folder.old).files answer
         × Appended (S.written out.old) (S.written out.new) answer }
     // Each other ending has its cause.
-    ensures causes { EndsBy (request_of (map string_bytes words.now)) (F.files folder.old)
-        (counts_of F.faults F.misses F.overlong folder.old)
-        (counts_of F.faults F.misses F.overlong folder.new)
-        (Rose (S.faults out.old) (S.faults out.new)
+    ensures causes { EndsBy (asked_by (map string_bytes words.now)) (F.seen folder.old)
+        (F.seen folder.new) (Rose (S.faults out.old) (S.faults out.new)
         ⊎ Rose (E.faults err.old) (E.faults err.new)) result }
-    ensures usage { request_of (map string_bytes words.now) ≡ None →
+    ensures usage { ¬ IsAsked (asked_by (map string_bytes words.now)) →
         (result ≡ Status.Usage) ⊎ (result ≡ Status.NoMemory)
         ⊎ ((result ≡ Status.WriteFault) × Rose (E.faults err.old) (E.faults err.new)) }
-    // What was written: nothing, or a front of the result; and the line of the ending on `err`.
+    // What was written: nothing, or a prefix of the result; and the line of the ending on `err`.
     ensures nothing { WritesNothing result → S.written out.new ≡ S.written out.old }
     ensures front { result ≡ Status.WriteFault → (S.written out.new ≡ S.written out.old)
         ⊎ ((answer : List ℕ)
-        × IsAnswer (request_of (map string_bytes words.now)) (F.files folder.old) answer
+        × IsAnswer (asked_by (map string_bytes words.now)) (F.seen folder.old).files answer
         × AppendedFront (S.written out.old) (S.written out.new) answer) }
     ensures line { WritesNothing result →
         Appended (E.written err.old) (E.written err.new) (line_of result) }
     ensures write_line { result ≡ Status.WriteFault →
         ¬ Rose (E.faults err.old) (E.faults err.new) →
         Appended (E.written err.old) (E.written err.new) (line_of result) }
-    // Where a write to `err` failed, a front of the line of the ending that would have come.
+    // Where a write to `err` failed, a prefix of the line of an ending that has its cause.
     ensures cut_line { result ≡ Status.WriteFault →
         Rose (E.faults err.old) (E.faults err.new) → (status : Status)
-        × EndsBy (request_of (map string_bytes words.now)) (F.files folder.old)
-        (counts_of F.faults F.misses F.overlong folder.old)
-        (counts_of F.faults F.misses F.overlong folder.new)
-        (Rose (S.faults out.old) (S.faults out.new)) status
+        × EndsBy (asked_by (map string_bytes words.now)) (F.seen folder.old)
+        (F.seen folder.new) (Rose (S.faults out.old) (S.faults out.new)) status
         × AppendedFront (E.written err.old) (E.written err.new) (line_of status) }
     ensures no_line { result ≡ Status.Done → E.written err.new ≡ E.written err.old }
-    ensures files { F.files folder.new ≡ F.files folder.old }
+    ensures files { IsLater (F.seen folder.old) (F.seen folder.new) }
     // A request whose files are all accepted is answered, unless a read or a write failed or memory
     // ran out.
-    ensures complete { IsAnswerable (request_of (map string_bytes words.now)) (F.files folder.old) →
-        ¬ Rose (F.faults folder.old) (F.faults folder.new) →
+    ensures complete { IsAnswerable (asked_by (map string_bytes words.now)) (F.seen folder.old) →
+        ¬ Rose (F.seen folder.old).faults (F.seen folder.new).faults →
         ¬ (Rose (S.faults out.old) (S.faults out.new)
         ⊎ Rose (E.faults err.old) (E.faults err.new)) →
         (result ≡ Status.Done) ⊎ (result ≡ Status.NoMemory) }
@@ -76,93 +63,26 @@ pub fn run<F: Folder, S: Sink, E: Sink>(
         Ok(result) => result,
         Err(status) => return ended(err, status),
     };
-    match out.write_all(result.as_bytes()) {
+    match out.write_all(result.as_slice()) {
         Ok(()) => Status::Done,
         Err(_) => ended(err, Status::WriteFault),
     }
 }
 
 /// The result that the words ask for, or how the run ends without one.
-fn answer<F: Folder>(alloc: Global, words: &[String], folder: &mut F) -> Result<String, Status>
+#[tactic(auto, using(crate::proofs::Ending::answering))]
+fn answer<F: Folder>(alloc: Global, words: &[String], folder: &mut F) -> Result<Vec<u8>, Status>
+    ensures later { IsLater (F.seen folder.old) (F.seen folder.new) }
     ensures ok { IfOk result (λ answer.
-        IsAnswer (request_of (map string_bytes words.now)) (F.files folder.old)
-        (string_bytes answer)) }
-    ensures err { IfErr result (Denies (request_of (map string_bytes words.now))
-        (F.files folder.old)
-        (counts_of F.faults F.misses F.overlong folder.old)
-        (counts_of F.faults F.misses F.overlong folder.new)) }
-    ensures kept { F.files folder.new ≡ F.files folder.old }
-    ensures counts { NoneFell (counts_of F.faults F.misses F.overlong folder.old)
-        (counts_of F.faults F.misses F.overlong folder.new) }
+        IsAnswer (asked_by (map string_bytes words.now)) (F.seen folder.old).files answer.items) }
+    ensures err { IfErr result (Denies (asked_by (map string_bytes words.now))
+        (F.seen folder.old) (F.seen folder.new)) }
 {
-    let request = read_request(alloc, words)?;
-    answer_to(alloc, &request, folder)
-}
-
-/// The answer to a request that is built, or how the run ends without one.
-fn answer_to<F: Folder>(alloc: Global, request: &Request, folder: &mut F) -> Result<String, Status>
-    requires { is_built request.now ≡ true }
-    ensures ok { IfOk result (λ answer.
-        Answers request.now (F.files folder.old) (string_bytes answer)) }
-    ensures err { IfErr result (Explains request.now (F.files folder.old)
-        (counts_of F.faults F.misses F.overlong folder.old)
-        (counts_of F.faults F.misses F.overlong folder.new)) }
-    ensures kept { F.files folder.new ≡ F.files folder.old }
-    ensures counts { NoneFell (counts_of F.faults F.misses F.overlong folder.old)
-        (counts_of F.faults F.misses F.overlong folder.new) }
-{
-    match request {
-        Request::Locate(search) => index(alloc, search, folder),
-        Request::Tokenize { text, alphabet } => {
-            read_token_file(alloc, text.as_str(), alphabet.as_str(), folder)
-        },
-        Request::Check { delas: false, file } => count_entries(alloc, file.as_str(), folder),
-        Request::Check { delas: true, file } => count_stems(alloc, file.as_str(), folder),
-        Request::Dico {
-            text,
-            alphabet,
-            dics,
-        } => {
-            let (text, alphabet) = (text.as_str(), alphabet.as_str());
-            report_of(alloc, text, alphabet, dics.as_slice(), folder)
-        },
-        Request::Help => Ok(String::from_str(alloc, HELP)?),
-        Request::Version => Ok(String::from_str(alloc, VERSION)?),
-        _ => unreachable!(),
+    match Request::of(alloc, words) {
+        Ok(request) => answer_to(alloc, &request, folder),
+        Err(WordsError::Usage) => Err(Status::Usage),
+        Err(WordsError::NoMemory) => Err(Status::NoMemory),
     }
-}
-
-/// The index of a search.
-#[tactic(auto, using(crate::proofs::Answering::answered))]
-fn index<F: Folder>(alloc: Global, search: &Search, folder: &mut F) -> Result<String, Status>
-    ensures ok { IfOk result (λ answer.
-        IsIndexOf search.now (F.files folder.old) (string_bytes answer)) }
-    ensures err { IfErr result (ExplainsSearch search.now (F.files folder.old)
-        (counts_of F.faults F.misses F.overlong folder.old)
-        (counts_of F.faults F.misses F.overlong folder.new)) }
-    ensures kept { F.files folder.new ≡ F.files folder.old }
-    ensures counts { NoneFell (counts_of F.faults F.misses F.overlong folder.old)
-        (counts_of F.faults F.misses F.overlong folder.new) }
-{
-    let files = read_files(alloc, search, folder)?;
-    match index_of(alloc, files) {
-        Ok(index) => Ok(index),
-        Err(_) => Err(Status::NoMemory),
-    }
-}
-
-/// The index of the grammar's hits in the text.
-fn index_of(alloc: Global, files: Files) -> Mem<String>
-    ensures { IfOk result (λ index.
-        IsIndex (IsHit files.alphabet files.text (net_grammar files.net)) (string_bytes index)) }
-{
-    let Files {
-        alphabet,
-        net,
-        text,
-    } = files;
-    let hits = hits(alloc, &net, &alphabet, &text)?;
-    index_text(alloc, &text, hits.as_slice())
 }
 
 /// The status, unless its line can't be written.

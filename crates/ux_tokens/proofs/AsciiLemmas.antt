@@ -5,15 +5,14 @@ use Rattle.std.proofs.lemmas.Str.{encode_ascii, len_utf8_ascii, IsUtf8-take, cha
 use Rattle.std.proofs.lemmas.List.{drop_more, drop_all}
 use Rattle.std.proofs.lemmas.List.Elements.{All-append, All-same}
 use Rattle.std.proofs.Math.Seq.{take-add}
-use Rattle.ux_alphabet.specs.declared.line.Line.{Line}
-use Rattle.ux_alphabet.specs.Letters.{IsLetter}
+use Rattle.ux_alphabet.specs.Letters.{Letters, IsLetter}
 use Rattle.ux_tokens.specs.First.{BeginsWithNoLetter}
 use Rattle.ux_tokens.proofs.FirstLemmas.{IsRun, run_more, run_ends}
 
--- nothing is behind the whole text
-pub no_letter_behind : (lines : List Line) (text : List ℕ) →
-    BeginsWithNoLetter lines (drop (length text) text)
-no_letter_behind lines text d more is letter =
+-- nothing is after the whole text
+pub no_letter_behind : (alphabet : Letters) (text : List ℕ) →
+    BeginsWithNoLetter alphabet (drop (length text) text)
+no_letter_behind alphabet text d more is letter =
     let nothing : chars (drop (length text) text) ≡ [] =
     ap chars (drop_all (length text) text (omega arith)) ∙ chars-nil in
     cc
@@ -26,25 +25,26 @@ ascii_first text place within ascii =
     drop_more text place 0 within
     ∙ ap (λ (l : List ℕ). l ++ drop (place + 1) text) (sym (encode_ascii _ ascii))
 
-module _ (lines : List Line) (text : List ℕ) (utf8 : IsUtf8 text) (place : ℕ)
-    (run : IsRun lines text place (drop place text)) where
+module _ (alphabet : Letters) (text : List ℕ) (utf8 : IsUtf8 text) (place : ℕ)
+    (run : IsRun alphabet text place (drop place text)) where
   pub run_more_ascii : place < length text → get_or text place 0 < 128 →
-      IsLetter lines (get_or text place 0) → IsRun lines text (place + 1) (drop (place + 1) text)
+      IsLetter alphabet (get_or text place 0) →
+      IsRun alphabet text (place + 1) (drop (place + 1) text)
   run_more_ascii within ascii letter =
-      subst (λ (n : ℕ). IsRun lines text (place + n) (drop (place + 1) text))
+      subst (λ (n : ℕ). IsRun alphabet text (place + n) (drop (place + 1) text))
       (len_utf8_ascii _ ascii)
-      (run_more lines text utf8 place _ _ _ run (ascii_first text place within ascii) letter)
+      (run_more alphabet text utf8 place _ _ _ run (ascii_first text place within ascii) letter)
 
   pub run_ends_ascii : place < length text → get_or text place 0 < 128 →
-      (IsLetter lines (get_or text place 0) → ⊥) → BeginsWithNoLetter lines (drop place text)
+      (IsLetter alphabet (get_or text place 0) → ⊥) → BeginsWithNoLetter alphabet (drop place text)
   run_ends_ascii within ascii other =
-      run_ends lines text utf8 place _ _ _ run (ascii_first text place within ascii) other
+      run_ends alphabet text utf8 place _ _ _ run (ascii_first text place within ascii) other
 
   -- the letters of the rest's front are letters of the text's
-  pub run_joined : (len : ℕ) → All (IsLetter lines) (chars (take len (drop place text))) →
-      All (IsLetter lines) (chars (take (place + len) text))
+  pub run_joined : (len : ℕ) → All (IsLetter alphabet) (chars (take len (drop place text))) →
+      All (IsLetter alphabet) (chars (take (place + len) text))
   run_joined len letters =
-      All-same (IsLetter lines) _ _
+      All-same (IsLetter alphabet) _ _
       (ap chars (take-add place len text)
       ∙ chars-append (take place text) _ (IsUtf8-take text place utf8 run.cut))
-      (All-append (IsLetter lines) _ _ run.letters letters)
+      (All-append (IsLetter alphabet) _ _ run.letters letters)

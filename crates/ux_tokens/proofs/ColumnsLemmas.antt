@@ -43,7 +43,7 @@ pieces_from-append (e ∷ ends) (n ∷ numbers) (k ∷ kinds) more_ends more mor
     (pieces_from-append ends numbers kinds more_ends more more_kinds (omega (arith, same))
     (omega (arith, same_kinds)))
 
--- places in four bytes go behind all others where no other has eight
+-- places in four bytes go after all others where no other has eight
 pub near_more : (near more far : List ℕ) → far ≡ [] →
     (near ++ more) ++ far ≡ (near ++ far) ++ more
 near_more near more far none =

@@ -1,19 +1,18 @@
--- A list of tokens of the front of a text grows by the token that stands behind it.
-use Rattle.std.proofs.Common.{◌≡◌, ◌≢◌, ◌⊎◌, inl, inr, ℕ, zero, suc, ◌+◌, ◌<◌, List, [], ◌∷◌, ◌++◌, All, length, drop, Some, refl, sym, ◌∙◌, ap, subst, append_assoc, arith}
+-- A list of tokens grows by the token before it, and so do tokens that reach to the rest of a text.
+use Rattle.std.proofs.Common.{◌≡◌, ◌≢◌, ◌⊎◌, inl, inr, ℕ, zero, suc, ◌+◌, ◌<◌, List, [], ◌∷◌, ◌++◌, All, length, drop, Some, false, refl, sym, ◌∙◌, ap, subst, append_assoc, arith}
 use Rattle.std.specs.List.{slice_get}
 use Rattle.std.specs.Str.{IsUtf8, chars}
 use Rattle.std.specs.Str.{encode_utf8_all}
 use Rattle.std.proofs.lemmas.Str.{chars-append, encodes-chars}
-use Rattle.std.proofs.lemmas.List.{append-nil, length-append, drop-append-le, drop_at}
-use Rattle.std.proofs.lemmas.List.Elements.{All-nil, All-push, All-head}
+use Rattle.std.proofs.lemmas.List.{append-nil}
+use Rattle.std.proofs.lemmas.List.Elements.{All-nil, All-cons, All-head}
 use Rattle.std.proofs.lemmas.Option.{none-some, same_Some}
-use Rattle.ux_alphabet.specs.declared.line.Line.{Line}
-use Rattle.ux_alphabet.specs.Letters.{IsLetter}
+use Rattle.ux_alphabet.specs.Letters.{Letters, IsLetter}
 use Rattle.ux_tokens.specs.declared.kind.Kind.{Kind}
 use Rattle.ux_tokens.specs.declared.kind.Kind.TheVariants.{Word}
-use Rattle.ux_tokens.specs.Tokens.{Token, IsTokenText, OPENING_BRACE, BeginsWithMark, joined}
+use Rattle.ux_tokens.specs.Tokens.{Token, IsWord, IsTokenText, OPENING_BRACE, BeginsWithMark, joined, AreCut, AreCutAtMarks, AreCutPlainly, IsPlain}
 use Rattle.ux_tokens.specs.First.{BeginsWithNoLetter}
-use Rattle.ux_tokens.specs.Cutting.{IsCut, IsMarkedCut}
+use Rattle.ux_tokens.specs.Cutting.{ReachTo}
 
 -- what stands at a place of a list with one more element
 pub slice_get-push_cases : {X : Type 0} (xs : List X) (y : X) (k : ℕ) (x : X) →
@@ -30,13 +29,6 @@ slice_get-push_cases {X} (z ∷ xs) y (suc k) x at = later (slice_get-push_cases
     later (inl old) = inl (omega (arith, old.0), old.1)
     later (inr new) = inr (omega (arith, new.0), new.1)
 
-pub joined-push : (tokens : List Token) (token : Token) →
-    joined (tokens ++ token ∷ []) ≡ joined tokens ++ token.text
-joined-push [] token = append-nil token.text
-joined-push (first ∷ tokens) token =
-    ap (λ (l : List ℕ). first.text ++ l) (joined-push tokens token)
-    ∙ sym (append_assoc first.text (joined tokens) token.text)
-
 -- a text that isn't empty has a first character
 pub first_char : (text : List ℕ) → IsUtf8 text → text ≢ [] →
     (c : ℕ) × (rest : List ℕ) × (chars text ≡ c ∷ rest)
@@ -46,109 +38,115 @@ first_char text utf8 some = by (chars text) refl
     by [] is = absurd (some (sym (encodes-chars text utf8) ∙ ap encode_utf8_all is))
     by (c ∷ cs) is = (c, cs, is)
 
-module _ (lines : List Line) where
+module _ (Are : List ℕ → List Token → Type 0) (text : List ℕ) where
+  -- no token reaches to the whole text
+  pub reach_start : ReachTo Are text text []
+  reach_start more are = are
+
+  -- with the token that stands there, tokens reach to what is after it
+  pub reach_more : (rest after : List ℕ) (tokens : List Token) (token : Token) →
+      ((more : List Token) → Are after more → Are rest (token ∷ more)) →
+      ReachTo Are text rest tokens → ReachTo Are text after (tokens ++ token ∷ [])
+  reach_more rest after tokens token next reach more are =
+      subst (Are text) (sym (append_assoc tokens (token ∷ []) more))
+      (reach (token ∷ more) (next more are))
+
+  -- tokens that reach to the end are those of the text
+  pub reach_end : (tokens : List Token) → ReachTo Are text [] tokens → Are [] [] → Are text tokens
+  reach_end tokens reach none = subst (Are text) (append-nil tokens) (reach [] none)
+
+module _ (alphabet : Letters) where
   -- a word begins with a letter
-  pub word_begins : (text after : List ℕ) → IsUtf8 text → IsTokenText lines Word text →
-      BeginsWithNoLetter lines (text ++ after) → ⊥
-  word_begins text after utf8 word none =
-      let first = first_char text utf8 word.0 in
+  word_begins : (text after : List ℕ) → IsWord alphabet text →
+      BeginsWithNoLetter alphabet (text ++ after) → ⊥
+  word_begins text after word none =
+      let first = first_char text word.utf8 word.some in
       let all : chars (text ++ after) ≡ first.0 ∷ (first.1 ++ chars after) =
-      chars-append text after utf8 ∙ ap (λ (l : List ℕ). l ++ chars after) first.2 in
+      chars-append text after word.utf8 ∙ ap (λ (l : List ℕ). l ++ chars after) first.2 in
       none first.0 (first.1 ++ chars after) all
-      (All-head (IsLetter lines) first.0 first.1
-      (subst (λ (l : List ℕ). All (IsLetter lines) l) first.2 word.2))
+      (All-head (IsLetter alphabet) first.0 first.1
+      (subst (λ (l : List ℕ). All (IsLetter alphabet) l) first.2 word.letters))
 
-  pub cut_start : (text : List ℕ) → IsCut lines text text []
-  cut_start text = record {
+  abbrev IsText : Token → Type 0
+  IsText token = IsTokenText alphabet token.kind token.text
+
+  -- no token is cut from no text
+  none_cut : AreCut alphabet [] []
+  none_cut = record {
     whole = refl;
-    each = All-nil (λ (token : Token). IsTokenText lines token.kind token.text);
-    apart = λ k a b at_a at_b is. absurd (none-some a at_a);
-    closed = λ k last at is_last word. absurd (none-some last at);
+    each = All-nil IsText;
+    apart = λ runs k a b at_a at_b word. absurd (none-some a at_a);
   }
 
-  pub cut_more : (text rest after : List ℕ) (tokens : List Token) (token : Token) →
-      IsCut lines text rest tokens → IsUtf8 token.text → rest ≡ token.text ++ after →
-      IsTokenText lines token.kind token.text →
-      (token.kind ≡ Word → BeginsWithNoLetter lines after) →
-      IsCut lines text after (tokens ++ token ∷ [])
-  cut_more text rest after tokens token cut utf8 next is longest = record {
-    whole =
-        ap (λ (l : List ℕ). l ++ after) (joined-push tokens token)
-        ∙ append_assoc (joined tokens) token.text after
-        ∙ ap (λ (l : List ℕ). joined tokens ++ l) (sym next)
-        ∙ cut.whole;
-    each =
-        All-push (λ (token : Token). IsTokenText lines token.kind token.text) tokens token cut.each
-        is;
-    apart = λ k a b at_a at_b word.
-        apart k a b (slice_get-push_cases tokens token k a at_a)
-        (slice_get-push_cases tokens token (k + 1) b at_b) word;
-    closed = λ k last at is_last word.
-        closed k last (slice_get-push_cases tokens token k last at) is_last word;
-  }
+  pub none_at_marks : AreCutAtMarks alphabet [] []
+  none_at_marks =
+      record { cut = none_cut; marks = λ k a at brace begins. absurd (none-some a at) }
+
+  pub none_plainly : AreCutPlainly alphabet [] []
+  none_plainly =
+      record { cut = none_cut; plain = All-nil (λ (token : Token). IsPlain token.kind) }
+
+  -- a token stands at the front of the text, and the rest is what is after it
+  module _ (text rest : List ℕ) (token : Token) (next : text ≡ token.text ++ rest)
+      (is : IsText token)
+      (longest : alphabet.single ≡ false → token.kind ≡ Word → BeginsWithNoLetter alphabet rest)
     where
-      apart : (k : ℕ) (a b : Token) →
-          ((k < length tokens) × (slice_get tokens k ≡ Some a)) ⊎
-          ((k ≡ length tokens) × (token ≡ a)) →
-          ((k + 1 < length tokens) × (slice_get tokens (k + 1) ≡ Some b)) ⊎
-          ((k + 1 ≡ length tokens) × (token ≡ b)) →
-          a.kind ≡ Word → b.kind ≢ Word
-      apart k a b (inl old_a) (inl old_b) word = cut.apart k a b old_a.1 old_b.1 word
-      apart k a b (inl old_a) (inr new_b) word = λ also.
-          let none : BeginsWithNoLetter lines rest = cut.closed k a old_a.1 new_b.0 word in
-          let kind : token.kind ≡ Word = ap (λ (t : Token). t.kind) new_b.1 ∙ also in
-          word_begins token.text after utf8 (subst
-          (λ (kind : Kind). IsTokenText lines kind token.text) kind is)
-          (subst (BeginsWithNoLetter lines) next none)
-      apart k a b (inr new_a) (inl old_b) word = absurd (omega (arith, new_a.0, old_b.0))
-      apart k a b (inr new_a) (inr new_b) word = absurd (omega (arith, new_a.0, new_b.0))
+      whole_is : (tokens : List Token) → joined tokens ≡ rest → joined (token ∷ tokens) ≡ text
+      whole_is tokens whole = ap (λ (l : List ℕ). token.text ++ l) whole ∙ sym next
 
-      closed : (k : ℕ) (last : Token) →
-          ((k < length tokens) × (slice_get tokens k ≡ Some last)) ⊎
-          ((k ≡ length tokens) × (token ≡ last)) →
-          k + 1 ≡ length (tokens ++ token ∷ []) → last.kind ≡ Word → BeginsWithNoLetter lines after
-      closed k last (inl old) is_last word =
-          absurd (omega (arith, old.0, length-append tokens (token ∷ [])))
-      closed k last (inr new) is_last word = longest (ap (λ (t : Token). t.kind) new.1 ∙ word)
+      cut_more : (tokens : List Token) → AreCut alphabet rest tokens →
+          AreCut alphabet text (token ∷ tokens)
+      cut_more tokens cut = record {
+        whole = whole_is tokens cut.whole;
+        each = All-cons IsText token tokens is cut.each;
+        apart = apart tokens cut;
+      }
+        where
+          -- the token and the first one after it
+          beside : (tokens : List Token) → AreCut alphabet rest tokens → (b : Token) →
+              alphabet.single ≡ false → slice_get tokens 0 ≡ Some b → token.kind ≡ Word →
+              b.kind ≢ Word
+          beside [] cut b runs at word = absurd (none-some b at)
+          beside (first ∷ tokens) cut b runs at word = λ also.
+              let kind : first.kind ≡ Word =
+              ap (λ (t : Token). t.kind) (same_Some first b at) ∙ also in
+              word_begins first.text (joined tokens)
+              (subst (λ (k : Kind). IsTokenText alphabet k first.text) kind
+              (All-head IsText first tokens cut.each))
+              (subst (BeginsWithNoLetter alphabet) (sym cut.whole) (longest runs word))
 
-  pub marked_start : (text : List ℕ) → IsMarkedCut lines text text []
-  marked_start text = record {
-    cut = cut_start text;
-    marks = λ k a at brace begins. absurd (none-some a at);
-  }
+          next_place : (k : ℕ) → suc k + 1 ≡ suc (k + 1)
+          next_place k = omega arith
 
-  -- where a mark begins, the token isn't its brace alone
-  pub marked_more : (text rest after : List ℕ) (tokens : List Token) (token : Token) →
-      IsMarkedCut lines text rest tokens → IsUtf8 token.text → rest ≡ token.text ++ after →
-      IsTokenText lines token.kind token.text →
-      (token.kind ≡ Word → BeginsWithNoLetter lines after) →
-      (BeginsWithMark rest → token.text ≢ OPENING_BRACE ∷ []) →
-      IsMarkedCut lines text after (tokens ++ token ∷ [])
-  marked_more text rest after tokens token before utf8 next is longest mark = record {
-    cut = cut_more text rest after tokens token before.cut utf8 next is longest;
-    marks = λ k a at brace begins.
-        marks k a (slice_get-push_cases tokens token k a at) brace begins;
-  }
-    where
-      marks : (k : ℕ) (a : Token) →
-          ((k < length tokens) × (slice_get tokens k ≡ Some a)) ⊎
-          ((k ≡ length tokens) × (token ≡ a)) → a.text ≡ OPENING_BRACE ∷ [] →
-          BeginsWithMark (joined (drop k (tokens ++ token ∷ [])) ++ after) → ⊥
-      marks k a (inl old) brace begins =
-          let from : drop k (tokens ++ token ∷ []) ≡ drop k tokens ++ token ∷ [] =
-          drop-append-le k tokens (token ∷ []) (omega (arith, old.0)) in
-          before.marks k a old.1 brace
-          (subst BeginsWithMark
-          (ap (λ (l : List Token). joined l ++ after) from
-          ∙ ap (λ (l : List ℕ). l ++ after) (joined-push (drop k tokens) token)
-          ∙ append_assoc (joined (drop k tokens)) token.text after
-          ∙ ap (λ (l : List ℕ). joined (drop k tokens) ++ l) (sym next)) begins)
-      marks k a (inr new) brace begins =
-          let from : drop k (tokens ++ token ∷ []) ≡ token ∷ [] =
-          drop_at tokens (token ∷ []) k (sym new.0) in
-          mark
-          (subst BeginsWithMark
-          (ap (λ (l : List Token). joined l ++ after) from
-          ∙ ap (λ (l : List ℕ). l ++ after) (append-nil token.text)
-          ∙ sym next) begins)
-          (ap (λ (t : Token). t.text) new.1 ∙ brace)
+          apart : (tokens : List Token) → AreCut alphabet rest tokens → alphabet.single ≡ false →
+              (k : ℕ) (a b : Token) → slice_get (token ∷ tokens) k ≡ Some a →
+              slice_get (token ∷ tokens) (k + 1) ≡ Some b → a.kind ≡ Word → b.kind ≢ Word
+          apart tokens cut runs zero a b at_a at_b word =
+              beside tokens cut b runs at_b
+              (ap (λ (t : Token). t.kind) (same_Some token a at_a) ∙ word)
+          apart tokens cut runs (suc k) a b at_a at_b word =
+              cut.apart runs k a b at_a
+              (subst (λ (n : ℕ). slice_get (token ∷ tokens) n ≡ Some b) (next_place k) at_b) word
+
+      -- where a mark begins, the token isn't its brace alone
+      pub marked_more : (BeginsWithMark text → token.text ≢ OPENING_BRACE ∷ []) →
+          (tokens : List Token) → AreCutAtMarks alphabet rest tokens →
+          AreCutAtMarks alphabet text (token ∷ tokens)
+      marked_more mark tokens are = record {
+        cut = cut_more tokens are.cut;
+        marks = marks;
+      }
+        where
+          marks : (k : ℕ) (a : Token) → slice_get (token ∷ tokens) k ≡ Some a →
+              a.text ≡ OPENING_BRACE ∷ [] → BeginsWithMark (joined (drop k (token ∷ tokens))) → ⊥
+          marks zero a at brace begins =
+              mark (subst BeginsWithMark (whole_is tokens are.cut.whole) begins)
+              (ap (λ (t : Token). t.text) (same_Some token a at) ∙ brace)
+          marks (suc k) a at brace begins = are.marks k a at brace begins
+
+      pub plain_more : IsPlain token.kind → (tokens : List Token) →
+          AreCutPlainly alphabet rest tokens → AreCutPlainly alphabet text (token ∷ tokens)
+      plain_more plain tokens are = record {
+        cut = cut_more tokens are.cut;
+        plain = All-cons (λ (t : Token). IsPlain t.kind) token tokens plain are.plain;
+      }

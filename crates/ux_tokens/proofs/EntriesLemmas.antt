@@ -13,7 +13,7 @@ use Rattle.std.specs.Str.{IsUtf8, IsCharBoundary}
 use Rattle.std.proofs.lemmas.Str.{IsCharBoundary-after_ascii}
 use denote.Ref.{Bor}
 use Rattle.ux_dela.specs.Tag.{IsTagBody}
-use Rattle.ux_alphabet.specs.declared.line.Line.{Line}
+use Rattle.ux_alphabet.specs.Letters.{Letters}
 use Rattle.ux_dela.specs.Sound.{IsSound}
 use Rattle.ux_dela.specs.declared.entry.Entry.{Entry}
 use Rattle.ux_tokens.specs.declared.kind.Kind.{Kind}
@@ -145,29 +145,29 @@ module _ (text : List ℕ) (pieces : List Piece) where
       ∙ ap (λ (e : ℕ). slice_range text (start_at pieces i) e) (end_from-take 0 pieces i piece at)
 
   -- the token of a piece that is a tag is a tag
-  pub tag_at : (lines : List Line) →
-      All (λ token. IsTokenText lines token.kind token.text) (tokens_from text 0 pieces) →
+  pub tag_at : (alphabet : Letters) →
+      All (λ token. IsTokenText alphabet token.kind token.text) (tokens_from text 0 pieces) →
       (i : ℕ) (piece : Piece) → slice_get pieces i ≡ Some piece → piece.kind ≡ Tag →
       (entry : Entry) × IsTag (text_at i piece.end) entry
-  tag_at lines each i piece at tag =
+  tag_at alphabet each i piece at tag =
       let token : Token = token_of text (start_at pieces i) piece in
       let there : slice_get (tokens_from text 0 pieces) i ≡ Some token =
       slice_get-tokens_from text 0 pieces i piece at in
-      let is : IsTokenText lines token.kind token.text =
-      subst (λ (t : Token). IsTokenText lines t.kind t.text)
+      let is : IsTokenText alphabet token.kind token.text =
+      subst (λ (t : Token). IsTokenText alphabet t.kind t.text)
       (get_or_from_slice_get (tokens_from text 0 pieces) i token token there)
       (each i token (slice_get_within (tokens_from text 0 pieces) i token there)) in
-      subst (λ (kind : Kind). IsTokenText lines kind token.text) tag is
+      subst (λ (kind : Kind). IsTokenText alphabet kind token.text) tag is
 
   -- a text with a tag has a brace, so that one without has no entries
-  pub no_tags : (lines : List Line) →
-      All (λ token. IsTokenText lines token.kind token.text) (tokens_from text 0 pieces) →
+  pub no_tags : (alphabet : Letters) →
+      All (λ token. IsTokenText alphabet token.kind token.text) (tokens_from text 0 pieces) →
       (Contains text OPENING_BRACE → ⊥) → (entries : BTreeMap ℕ Entry) → entries.entries ≡ [] →
       AreEntriesOf text pieces entries
-  no_tags lines each none entries empty = record {
+  no_tags alphabet each none entries empty = record {
     right = none_right (different_texts (tokens_from text 0 pieces)) entries empty;
     all = λ k piece below at tag.
-        let is = tag_at lines each k piece at tag in
+        let is = tag_at alphabet each k piece at tag in
         absurd (none (has_byte (piece.end - start_at pieces k) text (start_at pieces k)
         (is.1.0 ++ CLOSING_BRACE ∷ []) OPENING_BRACE is.1.1));
   }

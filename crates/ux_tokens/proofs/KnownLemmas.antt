@@ -7,8 +7,9 @@ use Rattle.std.proofs.lemmas.List.Elements.{All-weaker}
 use Rattle.ux_tokens.specs.declared.known.Known.{Known}
 use Rattle.ux_tokens.specs.declared.known.Slot.{Slot}
 use Rattle.ux_tokens.specs.Known.{AreKnown, HasNumber}
-use Rattle.ux_tokens.specs.Numbers.{IsSpaceNumber, with_text}
-use Rattle.ux_tokens.proofs.NumbersLemmas.{with_text-keeps}
+use Rattle.ux_base.specs.Distinct.{with_text}
+use Rattle.ux_tokens.specs.Numbers.{IsSpaceNumber}
+use Rattle.ux_base.proofs.DistinctLemmas.{with_text-keeps}
 
 pub pow_bytes : (k : ℕ) → 256 ^ k ≡ 2 ^ (8 * k)
 pow_bytes zero = refl

@@ -7,8 +7,7 @@ use Rattle.std.proofs.lemmas.Bool.{false≢true}
 use Rattle.std.proofs.lemmas.Str.{IsCharBoundary-after_ascii}
 use Rattle.std.proofs.lemmas.List.{length-append, length-take-le, take-append-drop, take_at, get_or_at}
 use Rattle.std.proofs.lemmas.List.Elements.{All-head}
-use Rattle.ux_alphabet.specs.declared.line.Line.{Line}
-use Rattle.ux_alphabet.specs.Letters.{IsLetter}
+use Rattle.ux_alphabet.specs.Letters.{Letters, IsLetter}
 use Rattle.ux_tokens.specs.declared.kind.Kind.{Kind}
 use Rattle.ux_tokens.specs.declared.kind.Kind.TheVariants.{Word, Space, Other, Sentence, Stop, Tag}
 use Rattle.ux_tokens.specs.Tokens.{IsTokenText, IsPlain, IsTag, IsMark, OPENING_BRACE, CLOSING_BRACE, SPACE, SENTENCE, STOP, BeginsWithMark, BeginsWithTag}
@@ -32,9 +31,9 @@ tag_begins text (tag, rest, entry, is, tagged) =
     mark_begins text (tag, rest, is, inr (inr (entry, tagged)))
 
 -- a brace is no letter
-pub brace_is_none : (lines : List Line) → IsLetter lines OPENING_BRACE → ⊥
-brace_is_none lines (inl upper) = false≢true (sym upper.0)
-brace_is_none lines (inr lower) = false≢true (sym lower.0)
+pub brace_is_none : (alphabet : Letters) → IsLetter alphabet OPENING_BRACE → ⊥
+brace_is_none alphabet (inl upper) = false≢true (sym upper.0)
+brace_is_none alphabet (inr lower) = false≢true (sym lower.0)
 
 brace_chars : chars (OPENING_BRACE ∷ []) ≡ OPENING_BRACE ∷ []
 unfolding chars
@@ -103,14 +102,14 @@ tag_cut text len utf8 (within, entry, (body, is, tag)) =
       omega (arith, long),
     )
 
-module _ (lines : List Line) where
+module _ (alphabet : Letters) where
   -- neither a word nor a space is a brace
   pub no_brace : (kind : Kind) (text : List ℕ) → IsPlain kind → kind ≢ Other →
-      IsTokenText lines kind text → text ≢ OPENING_BRACE ∷ []
+      IsTokenText alphabet kind text → text ≢ OPENING_BRACE ∷ []
   no_brace Word text plain other is = λ brace.
-      brace_is_none lines
-      (All-head (IsLetter lines) OPENING_BRACE []
-      (subst (All (IsLetter lines)) (ap chars brace ∙ brace_chars) is.2))
+      brace_is_none alphabet
+      (All-head (IsLetter alphabet) OPENING_BRACE []
+      (subst (All (IsLetter alphabet)) (ap chars brace ∙ brace_chars) is.letters))
   no_brace Space text plain other is = λ brace.
       let same : SPACE ≡ OPENING_BRACE = ap (λ (l : List ℕ). get_or l 0 0) (sym is ∙ brace) in
       omega (arith, same)
@@ -120,31 +119,31 @@ module _ (lines : List Line) where
   no_brace Tag text plain other is = absurd plain
 
   sentence_front : (rest : List ℕ) → IsUtf8 (SENTENCE ++ rest) →
-      IsFront lines (SENTENCE ++ rest) Sentence 3
+      IsFront alphabet (SENTENCE ++ rest) Sentence 3
   sentence_front rest utf8 = record {
     cut = IsCharBoundary-after_ascii (SENTENCE ++ rest) 2 utf8 (omega arith) (omega arith);
     some = omega arith;
-    first = record { is = refl; longest = λ word. cc };
+    first = record { is = refl; longest = λ runs word. cc };
     mark = λ begins brace. let short = ap length brace in omega (arith, short);
   }
 
-  stop_front : (rest : List ℕ) → IsUtf8 (STOP ++ rest) → IsFront lines (STOP ++ rest) Stop 6
+  stop_front : (rest : List ℕ) → IsUtf8 (STOP ++ rest) → IsFront alphabet (STOP ++ rest) Stop 6
   stop_front rest utf8 = record {
     cut = IsCharBoundary-after_ascii (STOP ++ rest) 5 utf8 (omega arith) (omega arith);
     some = omega arith;
-    first = record { is = refl; longest = λ word. cc };
+    first = record { is = refl; longest = λ runs word. cc };
     mark = λ begins brace. let short = ap length brace in omega (arith, short);
   }
 
   tag_front : (text : List ℕ) (len : ℕ) → IsUtf8 text → IsTagFront text len →
-      IsFront lines text Tag len
+      IsFront alphabet text Tag len
   tag_front text len utf8 tag =
       let cut = tag_cut text len utf8 tag in
       let long = cut.1 in
       record {
         cut = cut.0;
         some = omega (arith, long);
-        first = record { is = (tag.1, tag.2); longest = λ word. cc };
+        first = record { is = (tag.1, tag.2); longest = λ runs word. cc };
         mark = λ begins brace.
             let short : length (take len text) ≡ 1 = ap length brace in
             let taken = length-take-le len text tag.0 in
@@ -153,12 +152,12 @@ module _ (lines : List Line) where
 
   -- a mark that stands at the front is the token there
   pub mark_front : (text : List ℕ) (kind : Kind) (len : ℕ) → IsUtf8 text →
-      IsMarkFront text kind len → IsFront lines text kind len
+      IsMarkFront text kind len → IsFront alphabet text kind len
   mark_front text Sentence len utf8 (len_is, rest, is) =
-      rw len_is (subst (λ (l : List ℕ). IsFront lines l Sentence 3) (sym is)
+      rw len_is (subst (λ (l : List ℕ). IsFront alphabet l Sentence 3) (sym is)
       (sentence_front rest (subst IsUtf8 is utf8)))
   mark_front text Stop len utf8 (len_is, rest, is) =
-      rw len_is (subst (λ (l : List ℕ). IsFront lines l Stop 6) (sym is)
+      rw len_is (subst (λ (l : List ℕ). IsFront alphabet l Stop 6) (sym is)
       (stop_front rest (subst IsUtf8 is utf8)))
   mark_front text Tag len utf8 is = tag_front text len utf8 is
   mark_front text Word len utf8 is = absurd is
@@ -167,8 +166,8 @@ module _ (lines : List Line) where
 
   -- a token that the letters tell is the token at the front where it is no brace, or no mark begins
   pub plain_front : (text : List ℕ) (kind : Kind) (len : ℕ) → IsCharBoundary text len → 0 < len →
-      IsFirstToken lines text kind len → IsPlain kind →
-      (kind ≡ Other → BeginsWithMark text → ⊥) → IsFront lines text kind len
+      IsFirstToken alphabet text kind len → IsPlain kind →
+      (kind ≡ Other → BeginsWithMark text → ⊥) → IsFront alphabet text kind len
   plain_front text kind len cut some first plain none = record {
     cut = cut;
     some = some;
@@ -180,13 +179,13 @@ module _ (lines : List Line) where
   pub other_or_mark : (found : Option (Kind × ℕ)) (text : List ℕ) (kind : Kind) (len : ℕ) →
       IsUtf8 text →
       MatchOption found (BeginsWithMark text → ⊥) (λ (kind, len). IsMarkFront text kind len) →
-      ((BeginsWithMark text → ⊥) → IsFront lines text kind len) →
-      IsFront lines text (unwrap_or found (kind, len)).0 (unwrap_or found (kind, len)).1
+      ((BeginsWithMark text → ⊥) → IsFront alphabet text kind len) →
+      IsFront alphabet text (unwrap_or found (kind, len)).0 (unwrap_or found (kind, len)).1
   other_or_mark None text kind len utf8 none front = front none
   other_or_mark (Some (kind, len)) text other_kind other_len utf8 is front =
       mark_front text kind len utf8 is
 
--- behind a place that is free, the rest is free
+-- after a place that is free, the rest is free
 pub free_later : (text : List ℕ) (from later to : ℕ) → from ≤ later → IsFree text from to →
     IsFree text later to
 free_later text from later to in_order free k low high tag = free k (omega (arith, in_order, low))

@@ -5,7 +5,7 @@ use Rattle.std.proofs.lemmas.List.Edits.{length-paste, take-paste, drop-paste}
 use Rattle.std.proofs.Math.Seq.{paste, take-add}
 use Rattle.ux_tokens.specs.Spaces.{IsMoved}
 
--- what is put over a place from one behind it is moved
+-- what is put over a place from one after it is moved
 pub put_moved : (old new source : List ℕ) (from to len : ℕ) → to ≤ from →
     from + len ≤ length old → len ≤ length source →
     take len source ≡ take len (drop from old) → new ≡ paste old to source len →
@@ -39,7 +39,7 @@ moved_none old from to =
       behind = refl;
     }
 
--- the next ones are moved behind them
+-- the next ones are moved after them
 pub moved_on : (old mid new : List ℕ) (from to n m : ℕ) → IsMoved old mid from to n →
     IsMoved mid new (from + n) (to + n) m → IsMoved old new from to (n + m)
 moved_on old mid new from to n m first next =

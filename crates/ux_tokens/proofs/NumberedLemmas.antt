@@ -3,7 +3,7 @@ use Rattle.std.proofs.Common.{◌≡◌, ℕ, ◌+◌, ◌-◌, ◌<◌, ◌≤�
 use Rattle.std.specs.List.{slice_get, slice_range, list_any}
 use Rattle.std.specs.Str.{IsUtf8, bytes_eq}
 use Rattle.std.proofs.lemmas.List.{length-append, length-take-le, length_push, take_all, take_more, take_more_set}
-use Rattle.ux_alphabet.specs.declared.line.Line.{Line}
+use Rattle.ux_alphabet.specs.Letters.{Letters}
 use Rattle.ux_tokens.specs.declared.kind.Kind.{Kind}
 use Rattle.ux_tokens.specs.declared.kind.Kind.TheVariants.{Word, Space}
 use Rattle.ux_tokens.specs.declared.piece.Piece.{Piece}
@@ -11,12 +11,12 @@ use Rattle.ux_tokens.specs.declared.cutting.TheConstants.{MAX_TOKENS}
 use Rattle.ux_tokens.specs.Blocks.{AreFronts, IsTokenAt, last_from}
 use Rattle.ux_tokens.specs.Columns.{pieces_from}
 use Rattle.ux_tokens.specs.Cutting.{IsSoFar}
-use Rattle.ux_tokens.specs.Numbers.{with_text}
+use Rattle.ux_base.specs.Distinct.{with_text}
 use Rattle.ux_tokens.specs.Tokens.{IsTokenText, SPACE}
 use Rattle.ux_tokens.proofs.BlocksLemmas.{token_here}
 use Rattle.ux_tokens.proofs.ColumnsLemmas.{length-pieces_from, pieces_from-push}
 use Rattle.ux_tokens.proofs.CuttingLemmas.{so_far_next}
-use Rattle.ux_tokens.proofs.NumbersLemmas.{with_text-known, with_text-new}
+use Rattle.ux_base.proofs.DistinctLemmas.{with_text-known, with_text-new}
 
 -- a text more is one more at most
 pub length-with_text : (texts : List (List ℕ)) (text : List ℕ) →
@@ -31,10 +31,10 @@ length-with_text texts text = by (list_any (bytes_eq text) texts) refl
         let longer = length_push texts text in
         omega (arith, same, longer)
 
-pub space_text : (lines : List Line) (kind : Kind) (text : List ℕ) → IsTokenText lines kind text →
-    kind ≡ Space → text ≡ SPACE ∷ []
-space_text lines kind text is space =
-    subst (λ (k : Kind). IsTokenText lines k text) space is
+pub space_text : (alphabet : Letters) (kind : Kind) (text : List ℕ) →
+    IsTokenText alphabet kind text → kind ≡ Space → text ≡ SPACE ∷ []
+space_text alphabet kind text is space =
+    subst (λ (k : Kind). IsTokenText alphabet k text) space is
 
 -- the front of the rest of a text
 pub front_is : (front rest text : List ℕ) (from len : ℕ) → front ≡ slice_range rest 0 len →
@@ -52,25 +52,25 @@ all_taken i ends numbers kinds all all_numbers all_kinds =
     ∙ ap (λ (l : List ℕ). pieces_from ends l (take i kinds)) (take_all i numbers all_numbers)
     ∙ ap (λ (l : List Kind). pieces_from ends numbers l) (take_all i kinds all_kinds)
 
-module _ (lines : List Line) (text : List ℕ) (utf8 : IsUtf8 text) where
+module _ (alphabet : Letters) (text : List ℕ) (utf8 : IsUtf8 text) where
   -- the next token of the block is the next of the text
   pub number_more : (start i from number : ℕ) (ends given : List ℕ) (kinds : List Kind)
       (pieces : List Piece) (texts more : List (List ℕ)) →
-      AreFronts lines text start ends kinds → i < length ends → length given ≡ length ends →
+      AreFronts alphabet text start ends kinds → i < length ends → length given ≡ length ends →
       length pieces + length ends ≤ MAX_TOKENS → from ≡ last_from start (take i ends) →
-      IsSoFar lines text from
+      IsSoFar alphabet text from
       (pieces ++ pieces_from (take i ends) (take i given) (take i kinds)) texts →
       more ≡ with_text texts (take (get_or ends i 0 - from) (drop from text)) →
       slice_get more number ≡ Some (take (get_or ends i 0 - from) (drop from text)) →
-      IsSoFar lines text (get_or ends i 0)
+      IsSoFar alphabet text (get_or ends i 0)
       (pieces ++ pieces_from (take (i + 1) ends) (take (i + 1) (set given i number))
       (take (i + 1) kinds)) more
   number_more start i from number ends given kinds pieces texts more fronts within even few is
       so_far known place =
-      subst (λ (l : List Piece). IsSoFar lines text end l more) grown
-      (subst (λ (n : ℕ). IsSoFar lines text n
+      subst (λ (l : List Piece). IsSoFar alphabet text end l more) grown
+      (subst (λ (n : ℕ). IsSoFar alphabet text n
       (before ++ record { end = n; number = number; kind = kind } ∷ []) more) end_is
-      (so_far_next lines text utf8 from before texts more (drop from text)
+      (so_far_next alphabet text utf8 from before texts more (drop from text)
       (record { end = end - from; number = number; kind = kind }) so_far room refl token.1 known
       place))
     where
@@ -92,8 +92,8 @@ module _ (lines : List Line) (text : List ℕ) (utf8 : IsUtf8 text) where
       even_kinds : length kinds ≡ length ends
       even_kinds = fronts.even
 
-      token : IsTokenAt lines text from end kind
-      token = token_here lines text start i from ends kinds fronts within is
+      token : IsTokenAt alphabet text from end kind
+      token = token_here alphabet text start i from ends kinds fronts within is
 
       end_is : from + (end - from) ≡ end
       end_is = omega (arith, token.0)

@@ -6,10 +6,11 @@ use Rattle.std.proofs.lemmas.List.{map-append, take-append-le, take_at}
 use Rattle.std.proofs.lemmas.Option.{none-some, same_Some}
 use Rattle.ux_tokens.specs.declared.piece.Piece.{Piece}
 use Rattle.ux_tokens.specs.Tokens.{Token}
-use Rattle.ux_tokens.specs.Numbers.{each_once, different_texts, with_text}
+use Rattle.ux_base.specs.Distinct.{each_once, with_text}
+use Rattle.ux_tokens.specs.Numbers.{different_texts}
 use Rattle.ux_tokens.specs.Pieces.{ArePieces, token_of, tokens_from, end_from}
 use Rattle.ux_tokens.proofs.CutLemmas.{slice_get-push_cases}
-use Rattle.ux_tokens.proofs.NumbersLemmas.{each_once-push, with_text-keeps}
+use Rattle.ux_base.proofs.DistinctLemmas.{each_once-push, with_text-keeps}
 
 pub tokens_from-push : (text : List ℕ) (start : ℕ) (pieces : List Piece) (piece : Piece) →
     tokens_from text start (pieces ++ piece ∷ [])

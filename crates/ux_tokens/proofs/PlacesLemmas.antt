@@ -15,7 +15,7 @@ use Rattle.ux_tokens.proofs.PiecesLemmas.{slice_get-tokens_from, end_from-take, 
 abbrev pub start_at : List Piece → ℕ → ℕ
 start_at pieces i = end_from 0 (take i pieces)
 
--- behind the start it is the end of the piece before
+-- after the start it is the end of the piece before
 pub start_behind : (pieces : List Piece) (i : ℕ) (before : Piece) → 0 < i →
     slice_get pieces (i - 1) ≡ Some before → before.end ≡ start_at pieces i
 start_behind pieces i before later at =

@@ -9,10 +9,11 @@ use Rattle.std.proofs.lemmas.List.{append-nil, append_assoc, take-append-drop}
 use Rattle.std.proofs.lemmas.Option.{none-some, same_Some, slice_get_read, slice_get_within}
 use Rattle.indexmap.proofs.CallerLemmas.{Contains-list_any}
 use Rattle.ux_tokens.specs.Tokens.{Token}
-use Rattle.ux_tokens.specs.Numbers.{different_texts, with_text}
+use Rattle.ux_base.specs.Distinct.{with_text}
+use Rattle.ux_tokens.specs.Numbers.{different_texts}
 use Rattle.ux_tokens.specs.TokenFile.{line_of}
 use Rattle.ux_tokens.proofs.DistinctLemmas.{different_texts-once}
-use Rattle.ux_tokens.proofs.NumbersLemmas.{with_text-keeps, with_text-known, with_text-new}
+use Rattle.ux_base.proofs.DistinctLemmas.{with_text-keeps, with_text-known, with_text-new}
 use Rattle.ux_tokens.proofs.PiecesLemmas.{different_texts-push}
 
 -- the different texts of the first tokens

@@ -43,7 +43,7 @@ nothing_bare : (p : Bool) → has_bare is_brace (characters_from p []) ≡ false
 nothing_bare true = refl
 nothing_bare false = refl
 
--- the bytes behind a byte that isn't protected
+-- the bytes after a byte that isn't protected
 abbrev read : Bool → ℕ → List ℕ → List Written
 read true b text = characters_from true text
 read false b text = bare b ∷ characters_from false text
@@ -247,7 +247,7 @@ one_region false (b ∷ front) (c ∷ body) rest r is part feed e =
         (or_parts (is_feed c) _ feed).1 in
         (ap (λ (x : ℕ). x ∷ front) head ∙ ap (λ (t : List ℕ). c ∷ t) later.0, later.1)
 
--- a brace of a region is protected, so that behind it is the rest of the region
+-- a brace of a region is protected, so that after it is the rest of the region
 region_behind : (p : Bool) (u v rest : List ℕ) → IsFrom p (u ++ OPENING_BRACE ∷ v) rest →
     IsFrom false v rest
 region_behind true [] v rest is = behind_protected OPENING_BRACE v rest is
@@ -446,7 +446,7 @@ brace_in_front [] brace = absurd (none-some OPENING_BRACE brace)
 brace_in_front (b ∷ text) brace =
     ap (λ (x : ℕ). x ∷ text) (same_Some b OPENING_BRACE brace)
 
--- all of what stands behind a place
+-- all of what stands after a place
 pub all_behind_is : (text : List ℕ) (n : ℕ) →
     take (length text - n) (drop n text) ≡ drop n text
 all_behind_is text n =
@@ -551,7 +551,7 @@ module _ (text : List ℕ) (n : ℕ) (is : IsRegion (take n text) (drop n text))
           (subst (λ (r : List ℕ). IsRegion (take n text) r) closes.1 is) (tail_here none_free) in
           (tag.0, subst (λ (t : List ℕ). IsTag t tag.0) (sym part_is) tag.1)
 
--- what stands behind a brace, as it is read
+-- what stands after a brace, as it is read
 abbrev pub behind_of : List ℕ → ℕ → List ℕ
 behind_of text n = take (length text - n) (drop n text)
 

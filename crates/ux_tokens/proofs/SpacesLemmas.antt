@@ -1,5 +1,5 @@
 -- The text with single spaces, made front by front: what stays as it is is moved down, and then one
--- space stands for the white space behind it.
+-- space stands for the white space after it.
 use Rattle.std.proofs.Common.{◌≡◌, inl, inr, ℕ, ◌<◌, ◌+◌, zero, suc, true, false, List, [], ◌∷◌, ◌++◌, length, set, take, drop, refl, sym, ◌∙◌, ap, subst, append_assoc, arith}
 use Rattle.std.specs.List.{prefix_len, slice_index}
 use Rattle.std.proofs.lemmas.List.{length-drop, length-set, drop-drop, drop-set-lt, get_or-take, take_more_set}
@@ -101,7 +101,7 @@ first_stays (suc len) (byte ∷ text) within stay =
     subst (λ (n : ℕ). Stays (slice_index text k) (slice_index (byte ∷ text) n)) next
     (stay (suc k) (omega (arith, below)))))
 
--- a front that stays as it is, and a block behind it
+-- a prefix that stays as it is, and a block after it
 pub block_more : (text : List ℕ) (len block : ℕ) →
     with_single_spaces text ≡ take len text ++ with_single_spaces (drop len text) →
     len + block < length text → FirstStay block (drop len text) →
@@ -120,7 +120,7 @@ block_more text len block stays within stay =
     ∙ ap (λ (l : List ℕ). l ++ with_single_spaces (drop (len + block) text))
     (sym (take-add len block text))
 
--- it is enough to look at a block and the byte behind it
+-- it is enough to look at a block and the byte after it
 pub block_only : (len : ℕ) (text : List ℕ) → FirstStay len (take (len + 1) text) →
     FirstStay len text
 block_only len text stay = λ k below.

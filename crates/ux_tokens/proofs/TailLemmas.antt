@@ -24,7 +24,7 @@ not_on [] = refl
 not_on (bare b ∷ w) = not_on w
 not_on (protected b ∷ w) = not_on w
 
--- the rest of an inflection code, and those behind it
+-- the rest of an inflection code, and those after it
 record IsFeature (w : List Written) : Type 0 where
   pub own : List Written
   pub infl : List (List Written)
@@ -32,7 +32,7 @@ record IsFeature (w : List Written) : Type 0 where
   pub is_own : IsPart is_colon own
   pub are_infl : AreCodes is_colon infl
 
--- the rest of a code, and the codes behind it
+-- the rest of a code, and the codes after it
 record IsCodes (w : List Written) : Type 0 where
   pub own : List Written
   pub sem : List (List Written)

@@ -62,7 +62,7 @@ own_tails tails b w own h =
       is_feature = h.is_feature ∙ go feature;
     }
 
--- what stands behind a backslash is protected
+-- what stands after a backslash is protected
 pub behind_backslash : (tails : Tails) (b : ℕ) (text : List ℕ) → b ≡ BACKSLASH →
     AreTails tails (characters_from true text) → AreTails tails (characters (b ∷ text))
 behind_backslash tails b text is are =

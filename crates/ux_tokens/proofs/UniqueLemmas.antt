@@ -1,12 +1,11 @@
 -- A text has one list of tokens at most.
 use Rattle.std.proofs.Common.{arith, ◌≡◌, ◌≢◌, ◌⊎◌, ℕ, suc, ◌+◌, List, [], ◌∷◌, ◌++◌, refl, sym, ◌∙◌, ap, subst, append_assoc, get_or, drop, length, length-append, inl, inr}
-use Rattle.std.specs.Prelude.{All, Some, false, codes, slice_get, encode_utf8, encode_utf8_all}
+use Rattle.std.specs.Prelude.{All, Some, true, false, codes, slice_get, encode_utf8, encode_utf8_all}
 use Rattle.std.proofs.lemmas.Str.{encode_same, encode_ascii, length-encode, len_utf8_bounds, chars-encodes}
 use Rattle.std.specs.Str.{chars}
 use Rattle.std.proofs.lemmas.List.{append_cancel_left}
-use Rattle.std.proofs.lemmas.Bool.{false≢true, both_ways}
-use Rattle.ux_alphabet.specs.declared.line.Line.{Line}
-use Rattle.ux_alphabet.specs.Letters.{IsLetter}
+use Rattle.std.proofs.lemmas.Bool.{false≢true, both_ways, cases_Bool}
+use Rattle.ux_alphabet.specs.Letters.{Letters, IsLetter}
 use Rattle.ux_dela.specs.Signs.{is_brace}
 use Rattle.ux_dela.specs.Written.{IsPart}
 use Rattle.ux_dela.specs.Sound.{HasNoFeed}
@@ -20,7 +19,7 @@ use Rattle.ux_tokens.proofs.MarksLemmas.{brace_is_none}
 use Rattle.ux_tokens.proofs.BodyLemmas.{body_tail}
 use Rattle.ux_tokens.proofs.RegionLemmas.{body_part, body_same}
 
--- a tag and what stands behind it, from its body on
+-- a tag and what stands after it, from its body on
 tag_whole : (tag rest body : List ℕ) → tag ≡ OPENING_BRACE ∷ (body ++ CLOSING_BRACE ∷ []) →
     tag ++ rest ≡ OPENING_BRACE ∷ (body ++ CLOSING_BRACE ∷ rest)
 tag_whole tag rest body is =
@@ -41,16 +40,16 @@ no_comma word part feed none tag rest behind entry (body, is, tagged) e =
     (ap (λ (l : List ℕ). is_tail before_form (characters l)) same.0
     ∙ body_tail body entry tagged)
 
-module _ (lines : List Line) where
+module _ (alphabet : Letters) where
   -- a space is no letter
-  space_is_none : IsLetter lines SPACE → ⊥
+  space_is_none : IsLetter alphabet SPACE → ⊥
   space_is_none (inl upper) = false≢true (sym upper.0)
   space_is_none (inr lower) = false≢true (sym lower.0)
 
   -- no letter stands at the front
   abbrev pub BeginsWithNone : List ℕ → Type 0
-  BeginsWithNone text = (c : ℕ) (rest : List ℕ) → text ≡ encode_utf8 c ++ rest → IsLetter lines c →
-      ⊥
+  BeginsWithNone text =
+      (c : ℕ) (rest : List ℕ) → text ≡ encode_utf8 c ++ rest → IsLetter alphabet c → ⊥
 
   some_byte : (c : ℕ) (rest : List ℕ) → let none : List ℕ = [] in none ≡ encode_utf8 c ++ rest → ⊥
   some_byte c rest e = omega (
@@ -66,8 +65,8 @@ module _ (lines : List Line) where
   space_text : (rest : List ℕ) → SPACE ∷ rest ≡ encode_utf8 SPACE ++ rest
   space_text rest = ap (λ x. x ++ rest) (sym (encode_ascii SPACE (omega arith)))
 
-  -- the texts of two lists of letters, each with no letter behind it
-  letters_same : (cs ds r t : List ℕ) → All (IsLetter lines) cs → All (IsLetter lines) ds →
+  -- the texts of two lists of letters, each with no letter after it
+  letters_same : (cs ds r t : List ℕ) → All (IsLetter alphabet) cs → All (IsLetter alphabet) ds →
       BeginsWithNone r → BeginsWithNone t →
       encode_utf8_all cs ++ r ≡ encode_utf8_all ds ++ t → (cs ≡ ds) × (r ≡ t)
   letters_same [] [] r t a b n m e = (refl, e)
@@ -85,26 +84,63 @@ module _ (lines : List Line) where
       (λ k x lt. b (suc k) x (omega arith)) n m h.1 in
       (ap (λ x. x ∷ cs) h.0 ∙ ap (λ xs. d ∷ xs) rest.0, rest.1)
 
-  -- a word is the bytes of one or more letters
+  -- the texts of two lists of one letter
+  letter_same : (cs ds r t : List ℕ) → length cs ≡ 1 → length ds ≡ 1 →
+      encode_utf8_all cs ++ r ≡ encode_utf8_all ds ++ t → (cs ≡ ds) × (r ≡ t)
+  letter_same [] ds r t a b e = absurd (omega (arith, a))
+  letter_same (c ∷ cs) [] r t a b e = absurd (omega (arith, b))
+  letter_same (c ∷ c' ∷ cs) (d ∷ ds) r t a b e = absurd (omega (arith, a))
+  letter_same (c ∷ []) (d ∷ d' ∷ ds) r t a b e = absurd (omega (arith, b))
+  letter_same (c ∷ []) (d ∷ []) r t a b e =
+      let h = encode_same c d r t
+      (sym (append_assoc (encode_utf8 c) [] r) ∙ (e ∙ append_assoc (encode_utf8 d) [] t)) in
+      (ap (λ x. x ∷ []) h.0, h.1)
+
+  -- a word is the bytes of one or more letters, and of one where the alphabet is single
   pub record AreLetters (text letters : List ℕ) : Type 0 where
     pub bytes : text ≡ encode_utf8_all letters
     pub some : letters ≢ []
-    pub each : All (IsLetter lines) letters
+    pub each : All (IsLetter alphabet) letters
+    pub one : alphabet.single ≡ true → length letters ≡ 1
 
-  word_letters : (text : List ℕ) → IsTokenText lines Word text → (letters : List ℕ) × AreLetters
+  word_letters : (text : List ℕ) → IsTokenText alphabet Word text → (letters : List ℕ) × AreLetters
       text letters
   word_letters text is =
-      let same : chars text ≡ is.1.0 = ap chars (sym is.1.1.1) ∙ chars-encodes is.1.0 is.1.1.0 in (
-        is.1.0,
+      let bytes = is.utf8 in
+      let same : chars text ≡ bytes.0 =
+      ap chars (sym bytes.1.1) ∙ chars-encodes bytes.0 bytes.1.0 in (
+        bytes.0,
         record {
-          bytes = sym is.1.1.1;
-          some = λ none. is.0 (sym is.1.1.1 ∙ ap encode_utf8_all none);
-          each = subst (All (IsLetter lines)) same is.2;
+          bytes = sym bytes.1.1;
+          some = λ none. is.some (sym bytes.1.1 ∙ ap encode_utf8_all none);
+          each = subst (All (IsLetter alphabet)) same is.letters;
+          one = λ single. sym (ap length same) ∙ is.one single;
         },
       )
 
+  -- two words at the front of one text, of which neither is cut short
+  words_same : (x y r t : List ℕ) → IsTokenText alphabet Word x → IsTokenText alphabet Word y →
+      (alphabet.single ≡ false → BeginsWithNone r) →
+      (alphabet.single ≡ false → BeginsWithNone t) → x ++ r ≡ y ++ t → (x ≡ y) × (r ≡ t)
+  words_same x y r t a b n m e = (v.1.bytes ∙ (ap encode_utf8_all h.0 ∙ sym w.1.bytes), h.1)
+    where
+      v : (letters : List ℕ) × AreLetters x letters
+      v = word_letters x a
+
+      w : (letters : List ℕ) × AreLetters y letters
+      w = word_letters y b
+
+      bytes : encode_utf8_all v.0 ++ r ≡ encode_utf8_all w.0 ++ t
+      bytes = ap (λ z. z ++ r) (sym v.1.bytes) ∙ (e ∙ ap (λ z. z ++ t) w.1.bytes)
+
+      h : (v.0 ≡ w.0) × (r ≡ t)
+      h = elim (cases_Bool alphabet.single) [
+        | inl single ↦ letter_same v.0 w.0 r t (v.1.one single) (w.1.one single) bytes
+        | inr runs ↦ letters_same v.0 w.0 r t v.1.each w.1.each (n runs) (m runs) bytes
+      ]
+
   -- a list of letters begins with one
-  begins_with_letter : (cs r : List ℕ) → cs ≢ [] → All (IsLetter lines) cs → BeginsWithNone
+  begins_with_letter : (cs r : List ℕ) → cs ≢ [] → All (IsLetter alphabet) cs → BeginsWithNone
       (encode_utf8_all cs ++ r) → ⊥
   begins_with_letter [] r some all none = some refl
   begins_with_letter (c ∷ cs) r some all none =
@@ -115,18 +151,18 @@ module _ (lines : List Line) where
   behind_brace : (rest : List ℕ) → BeginsWithNone (OPENING_BRACE ∷ rest)
   behind_brace rest c more e letter =
       let h = encode_same OPENING_BRACE c rest more (sym (brace_text rest) ∙ e) in
-      brace_is_none lines (subst (IsLetter lines) (sym h.0) letter)
+      brace_is_none alphabet (subst (IsLetter alphabet) (sym h.0) letter)
 
   -- the front of a token that is no word
-  front_is_none : (kind : Kind) (text r : List ℕ) → kind ≢ Word → IsTokenText lines kind text →
+  front_is_none : (kind : Kind) (text r : List ℕ) → kind ≢ Word → IsTokenText alphabet kind text →
       BeginsWithNone (text ++ r)
   front_is_none Word text r other is = absurd (other refl)
   front_is_none Space text r other is = λ c rest e letter.
       let h = encode_same SPACE c r rest (sym (space_text r) ∙ (ap (λ x. x ++ r) (sym is) ∙ e)) in
-      space_is_none (subst (IsLetter lines) (sym h.0) letter)
+      space_is_none (subst (IsLetter alphabet) (sym h.0) letter)
   front_is_none Other text r other is = λ c rest e letter.
       let h = encode_same is.0 c r rest (ap (λ x. x ++ r) (sym is.1) ∙ e) in
-      is.2 (subst (IsLetter lines) (sym h.0) letter)
+      is.2 (subst (IsLetter alphabet) (sym h.0) letter)
   front_is_none Sentence text r other is = λ c rest e letter.
       behind_brace (83 ∷ 125 ∷ r) c rest (ap (λ x. x ++ r) (sym is) ∙ e) letter
   front_is_none Stop text r other is = λ c rest e letter.
@@ -135,8 +171,8 @@ module _ (lines : List Line) where
       behind_brace ((body ++ CLOSING_BRACE ∷ []) ++ r) c rest (ap (λ x. x ++ r) (sym is) ∙ e) letter
 
   -- no token is empty
-  token_some : (kind : Kind) (text r : List ℕ) → IsTokenText lines kind text → let none : List ℕ =
-      [] in none ≡ text ++ r → ⊥
+  token_some : (kind : Kind) (text r : List ℕ) → IsTokenText alphabet kind text →
+      let none : List ℕ = [] in none ≡ text ++ r → ⊥
   token_some Word text r is e = let v = word_letters text is in letters_some v.0 v.1.some
       (e ∙ ap (λ x. x ++ r) v.1.bytes)
     where
@@ -155,8 +191,8 @@ module _ (lines : List Line) where
       let short = ap length (e ∙ ap (λ x. x ++ r) is) in absurd (omega (arith, short))
 
   -- a word and another token
-  word_or_other : (l : Kind) (x y r t : List ℕ) → IsTokenText lines Word x → l ≢ Word →
-      IsTokenText lines l y → x ++ r ≡ y ++ t → ⊥
+  word_or_other : (l : Kind) (x y r t : List ℕ) → IsTokenText alphabet Word x → l ≢ Word →
+      IsTokenText alphabet l y → x ++ r ≡ y ++ t → ⊥
   word_or_other l x y r t a other b e =
       let v = word_letters x a in
       begins_with_letter v.0 r v.1.some v.1.each
@@ -164,36 +200,36 @@ module _ (lines : List Line) where
       (sym e ∙ (ap (λ z. z ++ r) v.1.bytes ∙ e')))
 
   -- a space and another character
-  space_or_other : (x y r t : List ℕ) → IsTokenText lines Space x → IsTokenText lines Other y →
-      x ++ r ≡ y ++ t → ⊥
+  space_or_other : (x y r t : List ℕ) → IsTokenText alphabet Space x →
+      IsTokenText alphabet Other y → x ++ r ≡ y ++ t → ⊥
   space_or_other x y r t a b e =
       let h = encode_same SPACE b.0 r t (sym (space_text r) ∙
       (ap (λ z. z ++ r) (sym a) ∙ (e ∙ ap (λ z. z ++ t) b.1))) in
       b.3 (sym h.0)
 
   -- another character at a brace is the brace
-  brace_alone : (y rest t : List ℕ) → IsTokenText lines Other y →
+  brace_alone : (y rest t : List ℕ) → IsTokenText alphabet Other y →
       OPENING_BRACE ∷ rest ≡ y ++ t → y ≡ OPENING_BRACE ∷ []
   brace_alone y rest t b e =
       let h = encode_same OPENING_BRACE b.0 rest t
       (sym (brace_text rest) ∙ (e ∙ ap (λ z. z ++ t) b.1)) in
       b.1 ∙ (ap encode_utf8 (sym h.0) ∙ encode_ascii OPENING_BRACE (omega arith))
 
-  -- a mark is not cut behind its brace
-  sentence_or_other : (x y r t : List ℕ) → IsTokenText lines Sentence x →
-      IsTokenText lines Other y →
+  -- a mark is not cut after its brace
+  sentence_or_other : (x y r t : List ℕ) → IsTokenText alphabet Sentence x →
+      IsTokenText alphabet Other y →
       (y ≡ OPENING_BRACE ∷ [] → BeginsWithMark (y ++ t) → ⊥) → x ++ r ≡ y ++ t → ⊥
   sentence_or_other x y r t a b marks e =
       let whole : SENTENCE ++ r ≡ y ++ t = ap (λ z. z ++ r) (sym a) ∙ e in
       marks (brace_alone y (drop 1 SENTENCE ++ r) t b whole) (SENTENCE, r, sym whole, inl refl)
 
-  stop_or_other : (x y r t : List ℕ) → IsTokenText lines Stop x → IsTokenText lines Other y →
+  stop_or_other : (x y r t : List ℕ) → IsTokenText alphabet Stop x → IsTokenText alphabet Other y →
       (y ≡ OPENING_BRACE ∷ [] → BeginsWithMark (y ++ t) → ⊥) → x ++ r ≡ y ++ t → ⊥
   stop_or_other x y r t a b marks e =
       let whole : STOP ++ r ≡ y ++ t = ap (λ z. z ++ r) (sym a) ∙ e in
       marks (brace_alone y (drop 1 STOP ++ r) t b whole) (STOP, r, sym whole, inr (inl refl))
 
-  tag_or_other : (x y r t : List ℕ) → IsTokenText lines Tag x → IsTokenText lines Other y →
+  tag_or_other : (x y r t : List ℕ) → IsTokenText alphabet Tag x → IsTokenText alphabet Other y →
       (y ≡ OPENING_BRACE ∷ [] → BeginsWithMark (y ++ t) → ⊥) → x ++ r ≡ y ++ t → ⊥
   tag_or_other x y r t (entry, (body, is, tag)) b marks e =
       let whole : OPENING_BRACE ∷ ((body ++ CLOSING_BRACE ∷ []) ++ r) ≡ y ++ t =
@@ -201,7 +237,7 @@ module _ (lines : List Line) where
       marks (brace_alone y ((body ++ CLOSING_BRACE ∷ []) ++ r) t b whole)
       (x, r, sym e, inr (inr (entry, (body, is, tag))))
 
-  space_or_tag : (x y r t : List ℕ) → IsTokenText lines Space x → IsTokenText lines Tag y →
+  space_or_tag : (x y r t : List ℕ) → IsTokenText alphabet Space x → IsTokenText alphabet Tag y →
       x ++ r ≡ y ++ t → ⊥
   space_or_tag x y r t a (entry, (body, is, tag)) e =
       let first : SPACE ≡ OPENING_BRACE =
@@ -210,19 +246,19 @@ module _ (lines : List Line) where
       omega (arith, first)
 
   -- the mark of a sentence's end is no tag, and nor is that which nothing matches
-  sentence_or_tag : (x y r t : List ℕ) → IsTokenText lines Sentence x → IsTokenText lines Tag y →
-      x ++ r ≡ y ++ t → ⊥
+  sentence_or_tag : (x y r t : List ℕ) → IsTokenText alphabet Sentence x →
+      IsTokenText alphabet Tag y → x ++ r ≡ y ++ t → ⊥
   sentence_or_tag x y r t a (entry, tag) e =
       no_comma (codes "S") (refl, tt) refl refl y t r entry tag
       (ap (λ z. z ++ r) (sym a) ∙ e)
 
-  stop_or_tag : (x y r t : List ℕ) → IsTokenText lines Stop x → IsTokenText lines Tag y →
+  stop_or_tag : (x y r t : List ℕ) → IsTokenText alphabet Stop x → IsTokenText alphabet Tag y →
       x ++ r ≡ y ++ t → ⊥
   stop_or_tag x y r t a (entry, tag) e =
       no_comma (codes "STOP") (refl, (refl, (refl, (refl, tt)))) refl refl y t r entry tag
       (ap (λ z. z ++ r) (sym a) ∙ e)
 
-  tags_same : (x y r t : List ℕ) → IsTokenText lines Tag x → IsTokenText lines Tag y →
+  tags_same : (x y r t : List ℕ) → IsTokenText alphabet Tag x → IsTokenText alphabet Tag y →
       x ++ r ≡ y ++ t → (x ≡ y) × (r ≡ t)
   tags_same x y r t (entry, (body, is, tag)) (other_entry, (other, other_is, other_tag)) e =
       let parts : body ++ CLOSING_BRACE ∷ r ≡ other ++ CLOSING_BRACE ∷ t =
@@ -241,25 +277,25 @@ module _ (lines : List Line) where
   byte_same i x y r t m n a b e =
       ap (λ (l : List ℕ). get_or l i 0) (ap (λ z. z ++ r) (sym a) ∙ (e ∙ ap (λ z. z ++ t) b))
 
-  sentence_or_stop : (x y r t : List ℕ) → IsTokenText lines Sentence x →
-      IsTokenText lines Stop y → x ++ r ≡ y ++ t → ⊥
+  sentence_or_stop : (x y r t : List ℕ) → IsTokenText alphabet Sentence x →
+      IsTokenText alphabet Stop y → x ++ r ≡ y ++ t → ⊥
   sentence_or_stop x y r t a b e =
       let third : 125 ≡ 84 = byte_same 2 x y r t SENTENCE STOP a b e in
       omega (arith, third)
 
-  space_or_sentence : (x y r t : List ℕ) → IsTokenText lines Space x →
-      IsTokenText lines Sentence y → x ++ r ≡ y ++ t → ⊥
+  space_or_sentence : (x y r t : List ℕ) → IsTokenText alphabet Space x →
+      IsTokenText alphabet Sentence y → x ++ r ≡ y ++ t → ⊥
   space_or_sentence x y r t a b e =
       let first : SPACE ≡ OPENING_BRACE = byte_same 0 x y r t (SPACE ∷ []) SENTENCE a b e in
       omega (arith, first)
 
-  space_or_stop : (x y r t : List ℕ) → IsTokenText lines Space x → IsTokenText lines Stop y →
+  space_or_stop : (x y r t : List ℕ) → IsTokenText alphabet Space x → IsTokenText alphabet Stop y →
       x ++ r ≡ y ++ t → ⊥
   space_or_stop x y r t a b e =
       let first : SPACE ≡ OPENING_BRACE = byte_same 0 x y r t (SPACE ∷ []) STOP a b e in
       omega (arith, first)
 
-  -- what stands behind one text is the same
+  -- what stands after one text is the same
   behind_same : (m x y r t : List ℕ) → x ≡ m → y ≡ m → x ++ r ≡ y ++ t → (x ≡ y) × (r ≡ t)
   behind_same m x y r t a b e = (
     a ∙ sym b,
@@ -267,17 +303,16 @@ module _ (lines : List Line) where
   )
 
   -- two tokens at the front of one text, of which none is a mark's brace where the other is a mark
-  first_same : (k l : Kind) (x y r t : List ℕ) → IsTokenText lines k x → IsTokenText lines l y →
-      (k ≡ Word → BeginsWithNone r) → (l ≡ Word → BeginsWithNone t) →
+  first_same : (k l : Kind) (x y r t : List ℕ) → IsTokenText alphabet k x →
+      IsTokenText alphabet l y →
+      (alphabet.single ≡ false → k ≡ Word → BeginsWithNone r) →
+      (alphabet.single ≡ false → l ≡ Word → BeginsWithNone t) →
       ((IsPlain l → ⊥) → x ≡ OPENING_BRACE ∷ [] → BeginsWithMark (x ++ r) → ⊥) →
       ((IsPlain k → ⊥) → y ≡ OPENING_BRACE ∷ [] → BeginsWithMark (y ++ t) → ⊥) → x ++ r ≡ y ++ t →
       (k ≡ l) × (x ≡ y) × (r ≡ t)
   first_same Word Word x y r t a b n m p q e =
-      let v = word_letters x a in
-      let w = word_letters y b in
-      let h = letters_same v.0 w.0 r t v.1.each w.1.each (n refl) (m refl)
-      (ap (λ z. z ++ r) (sym v.1.bytes) ∙ (e ∙ ap (λ z. z ++ t) w.1.bytes)) in
-      (refl, v.1.bytes ∙ (ap encode_utf8_all h.0 ∙ sym w.1.bytes), h.1)
+      let h = words_same x y r t a b (λ runs. n runs refl) (λ runs. m runs refl) e in
+      (refl, h.0, h.1)
   first_same Space Space x y r t a b n m p q e =
       let h = behind_same (SPACE ∷ []) x y r t a b e in (refl, h.0, h.1)
   first_same Sentence Sentence x y r t a b n m p q e =
@@ -342,20 +377,20 @@ module _ (lines : List Line) where
       (λ k. record { kind = k; text = t.text }) e in
       first ∙ ap (λ x. record { kind = u.kind; text = x }) f
 
-  -- where marks count, none is cut behind its brace, and where they don't, no token is one
+  -- where marks count, none is cut after its brace, and where they don't, no token is one
   module _ (MarksCount : Type 0) where
-    record AreCut (tokens : List Token) : Type 0 where
-      pub each : All (λ token. IsTokenText lines token.kind token.text) tokens
-      pub apart : (k : ℕ) (a b : Token) → slice_get tokens k ≡ Some a →
+    record AreCutBy (tokens : List Token) : Type 0 where
+      pub each : All (λ token. IsTokenText alphabet token.kind token.text) tokens
+      pub apart : alphabet.single ≡ false → (k : ℕ) (a b : Token) → slice_get tokens k ≡ Some a →
           slice_get tokens (k + 1) ≡ Some b → a.kind ≡ Word → b.kind ≢ Word
       pub marks : (k : ℕ) (a : Token) → slice_get tokens k ≡ Some a → a.text ≡ OPENING_BRACE ∷ [] →
           BeginsWithMark (joined (drop k tokens)) → MarksCount → ⊥
       pub kinds : All (λ token. IsPlain token.kind ⊎ MarksCount) tokens
 
-    rest_cut : (t : Token) (ts : List Token) → AreCut (t ∷ ts) → AreCut ts
+    rest_cut : (t : Token) (ts : List Token) → AreCutBy (t ∷ ts) → AreCutBy ts
     rest_cut t ts c = record {
       each = λ k d lt. c.each (suc k) d (omega arith);
-      apart = λ k a b first second. c.apart (suc k) a b first
+      apart = λ runs k a b first second. c.apart runs (suc k) a b first
           (subst (λ n. slice_get (t ∷ ts) n ≡ Some b) (next k) second);
       marks = λ k a at brace begins count. c.marks (suc k) a at brace begins count;
       kinds = λ k d lt. c.kinds (suc k) d (omega arith);
@@ -364,15 +399,15 @@ module _ (lines : List Line) where
         next : (k : ℕ) → suc (k + 1) ≡ suc k + 1
         next k = omega arith
 
-    -- behind a word no letter stands
-    behind_word : (t : Token) (ts : List Token) → AreCut (t ∷ ts) → t.kind ≡ Word → BeginsWithNone
-        (joined ts)
-    behind_word t [] c word = λ d rest e letter. some_byte d rest e
-    behind_word t (u ∷ ts) c word =
-        front_is_none u.kind u.text (joined ts) (c.apart 0 t u refl refl word)
+    -- after a word no letter stands, unless the alphabet is single
+    after_word : (t : Token) (ts : List Token) → AreCutBy (t ∷ ts) → alphabet.single ≡ false →
+        t.kind ≡ Word → BeginsWithNone (joined ts)
+    after_word t [] c runs word = λ d rest e letter. some_byte d rest e
+    after_word t (u ∷ ts) c runs word =
+        front_is_none u.kind u.text (joined ts) (c.apart runs 0 t u refl refl word)
         (c.each 1 u (omega arith))
 
-    no_empty : (t : Token) (ts : List Token) → AreCut (t ∷ ts) → let none : List ℕ = [] in none ≡
+    no_empty : (t : Token) (ts : List Token) → AreCutBy (t ∷ ts) → let none : List ℕ = [] in none ≡
         t.text ++ joined ts → ⊥
     no_empty t ts c e = token_some t.kind t.text (joined ts) (c.each 0 t (omega arith)) e
 
@@ -381,14 +416,14 @@ module _ (lines : List Line) where
     beside_mark kind (inl plain) mark = absurd (mark plain)
     beside_mark kind (inr count) mark = count
 
-    cut_same : (ts us : List Token) → AreCut ts → AreCut us → joined ts ≡ joined us → ts ≡ us
+    cut_same : (ts us : List Token) → AreCutBy ts → AreCutBy us → joined ts ≡ joined us → ts ≡ us
     cut_same [] [] a b e = refl
     cut_same [] (u ∷ us) a b e = absurd (no_empty u us b e)
     cut_same (t ∷ ts) [] a b e = absurd (no_empty t ts a (sym e))
     cut_same (t ∷ ts) (u ∷ us) a b e =
         let h = first_same t.kind u.kind t.text u.text (joined ts) (joined us)
         (a.each 0 t (omega arith)) (b.each 0 u (omega arith))
-        (behind_word t ts a) (behind_word u us b)
+        (after_word t ts a) (after_word u us b)
         (λ mark brace begins.
         a.marks 0 t refl brace begins (beside_mark u.kind (b.kinds 0 u (omega arith)) mark))
         (λ mark brace begins.
@@ -397,28 +432,29 @@ module _ (lines : List Line) where
         (cut_same ts us (rest_cut t ts a) (rest_cut u us b) h.2)
 
   -- the list of tokens of a text is the only one
-  pub tokens_unique : (text : List ℕ) (ts us : List Token) → AreTokens lines text ts → AreTokens
-      lines text us → ts ≡ us
+  pub tokens_unique : (text : List ℕ) (ts us : List Token) → AreTokens alphabet text ts →
+      AreTokens alphabet text us → ts ≡ us
   tokens_unique text ts us a b =
-      cut_same (Unit {0}) ts us (cut ts a) (cut us b) (a.whole ∙ sym b.whole)
+      cut_same (Unit {0}) ts us (cut ts a) (cut us b) (a.cut.whole ∙ sym b.cut.whole)
     where
-      cut : (tokens : List Token) → AreTokens lines text tokens → AreCut (Unit {0}) tokens
+      cut : (tokens : List Token) → AreTokens alphabet text tokens → AreCutBy (Unit {0}) tokens
       cut tokens are = record {
-        each = are.each;
-        apart = are.apart;
+        each = are.cut.each;
+        apart = are.cut.apart;
         marks = λ k a at brace begins count. are.marks k a at brace begins;
         kinds = λ k d lt. inr tt;
       }
 
   -- and so is its list where a brace is a character as any other
-  pub plain_unique : (text : List ℕ) (ts us : List Token) → ArePlainTokens lines text ts →
-      ArePlainTokens lines text us → ts ≡ us
-  plain_unique text ts us a b = cut_same ⊥ ts us (cut ts a) (cut us b) (a.whole ∙ sym b.whole)
+  pub plain_unique : (text : List ℕ) (ts us : List Token) → ArePlainTokens alphabet text ts →
+      ArePlainTokens alphabet text us → ts ≡ us
+  plain_unique text ts us a b =
+      cut_same ⊥ ts us (cut ts a) (cut us b) (a.cut.whole ∙ sym b.cut.whole)
     where
-      cut : (tokens : List Token) → ArePlainTokens lines text tokens → AreCut ⊥ tokens
+      cut : (tokens : List Token) → ArePlainTokens alphabet text tokens → AreCutBy ⊥ tokens
       cut tokens are = record {
-        each = are.each;
-        apart = are.apart;
+        each = are.cut.each;
+        apart = are.cut.apart;
         marks = λ k a at brace begins count. count;
         kinds = λ k d lt. inl (are.plain k d lt);
       }

@@ -1,4 +1,4 @@
--- Each text has a list of tokens: what is cut so far can be cut to its end.
+-- Each text has a list of tokens, so tokens that reach to a rest can go on.
 use Rattle.std.proofs.Common.{◌≡◌, ◌≢◌, take, drop, ◌⊎◌, inl, inr, ℕ, zero, suc, ◌+◌, ◌<◌, ◌≤◌, Bool, true, false, ◌&&◌, List, [], ◌∷◌, ◌++◌, All, length, get_or, encode_utf8, refl, sym, ◌∙◌, ap, subst, append_assoc, arith}
 use Rattle.std.specs.List.{Any}
 use Rattle.std.specs.Char.{IsScalar}
@@ -6,21 +6,22 @@ use lib.Utf8.{scalar}
 use Rattle.std.specs.Str.{IsUtf8, chars, encode_utf8_all, all_scalars}
 use Rattle.std.proofs.lemmas.Bool.{cases_eq, cases_lt, cases_Bool, both_ways}
 use Rattle.std.proofs.lemmas.Str.{IsUtf8-take, IsUtf8-drop, IsUtf8-encode, encodes-append, encode_ascii, encodes-chars, scalars-chars, chars-encodes, length-le-encodes, length-encode, len_utf8_bounds}
-use Rattle.std.proofs.lemmas.List.{length-append, length_push, length-take-le, take-append-drop}
+use Rattle.std.proofs.lemmas.List.{length-append, length-take-le, take-append-drop}
 use Rattle.std.proofs.lemmas.List.Elements.{All-nil, All-cons}
+use Rattle.ux_alphabet.specs.Letters.{Letters, never_letter, NamesUpper, NamesLower, IsLetter}
 use Rattle.ux_alphabet.specs.declared.line.Line.{Line}
 use Rattle.ux_alphabet.specs.declared.line.Line.TheVariants.{Single, Pair, Range}
-use Rattle.ux_alphabet.specs.Letters.{never_letter, NamesUpper, NamesLower, IsLetter}
 use Rattle.ux_tokens.specs.declared.kind.Kind.{Kind}
 use Rattle.ux_tokens.specs.declared.kind.Kind.TheVariants.{Word, Space, Other}
-use Rattle.ux_tokens.specs.Tokens.{Token, IsTokenText, SPACE, OPENING_BRACE, SENTENCE, STOP, CLOSING_BRACE, BeginsWithMark, BeginsWithTag}
+use Rattle.ux_tokens.specs.Tokens.{Token, IsTokenText, AreCutAtMarks, AreTokens, with_single_spaces, SPACE, OPENING_BRACE, SENTENCE, STOP, CLOSING_BRACE, BeginsWithMark, BeginsWithTag}
 use Rattle.ux_dela.specs.Reading.{characters}
 use Rattle.ux_tokens.specs.Tails.{before_form, is_tail}
 use Rattle.ux_tokens.specs.Regions.{IsRegion, Closes, IsTagPlace}
 use Rattle.ux_tokens.specs.First.{BeginsWithNoLetter, IsFront}
-use Rattle.ux_tokens.specs.Cutting.{IsMarkedCut}
-use Rattle.ux_tokens.proofs.CutLemmas.{marked_more}
+use Rattle.ux_tokens.specs.Cutting.{ReachTo}
+use Rattle.ux_tokens.proofs.CutLemmas.{marked_more, none_at_marks}
 use Rattle.ux_tokens.proofs.MarksLemmas.{mark_front, mark_kind, no_mark, tag_begins}
+use Rattle.ux_tokens.proofs.SpacedLemmas.{spaced_utf8}
 use Rattle.ux_tokens.proofs.RegionLemmas.{region, region_is, tag_place, place_tag}
 
 -- a fact holds or it doesn't
@@ -156,15 +157,18 @@ scalars_parts (x ∷ xs) ys all =
     let later = scalars_parts xs ys here.1 in
     (ap (λ (b : Bool). b && all_scalars xs) here.0 ∙ later.0, later.1)
 
-module _ (lines : List Line) where
-  letter_settled : (c : ℕ) → Settled (IsLetter lines c)
+module _ (alphabet : Letters) where
+  letter_settled : (c : ℕ) → Settled (IsLetter alphabet c)
   letter_settled c = by (never_letter c) refl
-      (any_settled (λ (line : Line). NamesUpper line c) (λ line. names_upper line c) lines)
-      (any_settled (λ (line : Line). NamesLower line c) (λ line. names_lower line c) lines)
+      (any_settled (λ (line : Line). NamesUpper line c) (λ line. names_upper line c)
+      alphabet.lines)
+      (any_settled (λ (line : Line). NamesLower line c) (λ line. names_lower line c)
+      alphabet.lines)
     where
       by : (never : Bool) → never_letter c ≡ never →
-          Settled (Any (λ (line : Line). NamesUpper line c) lines) →
-          Settled (Any (λ (line : Line). NamesLower line c) lines) → Settled (IsLetter lines c)
+          Settled (Any (λ (line : Line). NamesUpper line c) alphabet.lines) →
+          Settled (Any (λ (line : Line). NamesLower line c) alphabet.lines) →
+          Settled (IsLetter alphabet c)
       by true is upper lower =
           inr (λ letter. elim letter [
             | inl up ↦ (let no = up.0 in cc)
@@ -181,35 +185,94 @@ module _ (lines : List Line) where
     pub front : List ℕ
     pub back : List ℕ
     pub parts : cs ≡ front ++ back
-    pub letters : All (IsLetter lines) front
-    pub ends : (c : ℕ) (rest : List ℕ) → back ≡ c ∷ rest → IsLetter lines c → ⊥
+    pub letters : All (IsLetter alphabet) front
+    pub ends : (c : ℕ) (rest : List ℕ) → back ≡ c ∷ rest → IsLetter alphabet c → ⊥
 
   run : (cs : List ℕ) → Run cs
   run [] = record {
     front = [];
     back = [];
     parts = refl;
-    letters = All-nil (IsLetter lines);
+    letters = All-nil (IsLetter alphabet);
     ends = λ c rest is. cc;
   }
   run (c ∷ cs) = by (letter_settled c) (run cs)
     where
-      by : Settled (IsLetter lines c) → Run cs → Run (c ∷ cs)
+      by : Settled (IsLetter alphabet c) → Run cs → Run (c ∷ cs)
       by (inl letter) later = record {
         front = c ∷ later.front;
         back = later.back;
         parts = ap (λ (l : List ℕ). c ∷ l) later.parts;
-        letters = All-cons (IsLetter lines) c later.front letter later.letters;
+        letters = All-cons (IsLetter alphabet) c later.front letter later.letters;
         ends = later.ends;
       }
       by (inr other) later = record {
         front = [];
         back = c ∷ cs;
         parts = refl;
-        letters = All-nil (IsLetter lines);
+        letters = All-nil (IsLetter alphabet);
         ends = λ d rest is letter.
-            let same : c ≡ d = cc in other (subst (IsLetter lines) (sym same) letter);
+            let same : c ≡ d = cc in other (subst (IsLetter alphabet) (sym same) letter);
       }
+
+  -- the word at the front of some characters: a longest run of letters, or one where the alphabet
+  -- is single
+  record Front (cs : List ℕ) : Type 0 where
+    pub front : List ℕ
+    pub back : List ℕ
+    pub parts : cs ≡ front ++ back
+    pub letters : All (IsLetter alphabet) front
+    pub one : alphabet.single ≡ true → length front ≤ 1
+    pub ends : (alphabet.single ≡ false) ⊎ (front ≡ []) → (c : ℕ) (rest : List ℕ) →
+        back ≡ c ∷ rest → IsLetter alphabet c → ⊥
+
+  front_of : (cs : List ℕ) → Front cs
+  front_of cs = by (cases_Bool alphabet.single) cs
+    where
+      alone : alphabet.single ≡ true → (c : ℕ) (cs : List ℕ) → Settled (IsLetter alphabet c) →
+          Front (c ∷ cs)
+      alone single c cs (inl letter) = record {
+        front = c ∷ [];
+        back = cs;
+        parts = refl;
+        letters =
+            All-cons (IsLetter alphabet) c [] letter (All-nil (IsLetter alphabet));
+        one = λ _. omega arith;
+        ends = λ either d rest is. elim either [
+          | inl runs ↦ absurd (both_ways alphabet.single runs single)
+          | inr none ↦ absurd cc
+        ];
+      }
+      alone single c cs (inr other) = record {
+        front = [];
+        back = c ∷ cs;
+        parts = refl;
+        letters = All-nil (IsLetter alphabet);
+        one = λ _. omega arith;
+        ends = λ either d rest is letter.
+            let same : c ≡ d = cc in other (subst (IsLetter alphabet) (sym same) letter);
+      }
+
+      by : (alphabet.single ≡ true) ⊎ (alphabet.single ≡ false) → (cs : List ℕ) → Front cs
+      by (inl single) [] = record {
+        front = [];
+        back = [];
+        parts = refl;
+        letters = All-nil (IsLetter alphabet);
+        one = λ _. omega arith;
+        ends = λ either c rest is. cc;
+      }
+      by (inl single) (c ∷ cs) = alone single c cs (letter_settled c)
+      by (inr runs) cs =
+          let longest = run cs in
+          record {
+            front = longest.front;
+            back = longest.back;
+            parts = longest.parts;
+            letters = longest.letters;
+            one = λ single. absurd (both_ways alphabet.single runs single);
+            ends = λ either. longest.ends;
+          }
 
   -- some token stands at the front of a text
   pub record HasFirst (text : List ℕ) : Type 0 where
@@ -218,15 +281,16 @@ module _ (lines : List Line) where
     pub parts : text ≡ token.text ++ after
     pub token_utf8 : IsUtf8 token.text
     pub after_utf8 : IsUtf8 after
-    pub is : IsTokenText lines token.kind token.text
-    pub longest : token.kind ≡ Word → BeginsWithNoLetter lines after
+    pub is : IsTokenText alphabet token.kind token.text
+    pub longest : alphabet.single ≡ false → token.kind ≡ Word →
+        BeginsWithNoLetter alphabet after
     pub some : 0 < length token.text
     pub mark : BeginsWithMark text → token.text ≢ OPENING_BRACE ∷ []
 
   -- a first character that is no letter
   char_first : (cs : List ℕ) (c : ℕ) (rest : List ℕ) → cs ≡ c ∷ rest → IsScalar c →
       all_scalars rest ≡ true →
-      (IsLetter lines c → ⊥) → (BeginsWithMark (encode_utf8_all cs) → ⊥) → Settled (c ≡ SPACE) →
+      (IsLetter alphabet c → ⊥) → (BeginsWithMark (encode_utf8_all cs) → ⊥) → Settled (c ≡ SPACE) →
       HasFirst (encode_utf8_all cs)
   char_first cs c rest parts scalar scalars other none (inl space) = record {
     token = record { kind = Space; text = encode_utf8 c };
@@ -235,7 +299,7 @@ module _ (lines : List Line) where
     token_utf8 = IsUtf8-encode c scalar;
     after_utf8 = (rest, (scalars, refl));
     is = encode_ascii c (omega arith) ∙ ap (λ (d : ℕ). d ∷ []) space;
-    longest = λ word. cc;
+    longest = λ runs word. cc;
     some = omega (arith, length-encode c, (len_utf8_bounds c).0);
     mark = λ begins. absurd (none begins);
   }
@@ -246,40 +310,51 @@ module _ (lines : List Line) where
     token_utf8 = IsUtf8-encode c scalar;
     after_utf8 = (rest, (scalars, refl));
     is = (c, refl, other, no_space);
-    longest = λ word. cc;
+    longest = λ runs word. cc;
     some = omega (arith, length-encode c, (len_utf8_bounds c).0);
     mark = λ begins. absurd (none begins);
   }
 
-  -- of characters that are cut behind their first run of letters
-  of_run : (cs front back : List ℕ) → all_scalars cs ≡ true → cs ≡ front ++ back → 0 < length cs →
-      All (IsLetter lines) front → (BeginsWithMark (encode_utf8_all cs) → ⊥) →
-      ((c : ℕ) (rest : List ℕ) → back ≡ c ∷ rest → IsLetter lines c → ⊥) →
+  -- of characters that are cut after their first word
+  of_front : (cs front back : List ℕ) → all_scalars cs ≡ true → cs ≡ front ++ back →
+      0 < length cs → All (IsLetter alphabet) front →
+      (alphabet.single ≡ true → length front ≤ 1) →
+      (BeginsWithMark (encode_utf8_all cs) → ⊥) →
+      ((alphabet.single ≡ false) ⊎ (front ≡ []) → (c : ℕ) (rest : List ℕ) → back ≡ c ∷ rest →
+      IsLetter alphabet c → ⊥) →
       HasFirst (encode_utf8_all cs)
-  of_run cs [] [] scalars parts some letters none ends =
+  of_front cs [] [] scalars parts some letters one none ends =
       let empty : length cs ≡ 0 = ap length parts in absurd (omega arith)
-  of_run cs [] (c ∷ rest) scalars parts some letters none ends =
+  of_front cs [] (c ∷ rest) scalars parts some letters one none ends =
       let each = and_parts (scalar c) (all_scalars rest) (ap all_scalars (sym parts) ∙ scalars) in
-      char_first cs c rest parts each.0 each.1 (ends c rest refl) none (cases_eq c SPACE)
-  of_run cs (c ∷ front) back scalars parts some letters none ends =
+      char_first cs c rest parts each.0 each.1 (ends (inr refl) c rest refl) none
+      (cases_eq c SPACE)
+  of_front cs (c ∷ front) back scalars parts some letters one none ends =
       let each = scalars_parts (c ∷ front) back (ap all_scalars (sym parts) ∙ scalars) in
+      let same : chars (encode_utf8_all (c ∷ front)) ≡ c ∷ front = chars-encodes (c ∷ front) each.0
+      in
       record {
         token = record { kind = Word; text = encode_utf8_all (c ∷ front) };
         after = encode_utf8_all back;
         parts = ap encode_utf8_all parts ∙ encodes-append (c ∷ front) back;
         token_utf8 = (c ∷ front, (each.0, refl));
         after_utf8 = (back, (each.1, refl));
-        is = (
-          λ empty.
+        is = record {
+          some = λ empty.
               let short : length (encode_utf8_all (c ∷ front)) ≡ 0 = ap length empty in
               let long : length (c ∷ front) ≤ length (encode_utf8_all (c ∷ front)) =
               length-le-encodes (c ∷ front) in
-              omega arith,
-          (c ∷ front, (each.0, refl)),
-          subst (All (IsLetter lines)) (sym (chars-encodes (c ∷ front) each.0)) letters,
-        );
-        longest = λ word d more is letter.
-            ends d more (sym (chars-encodes back each.1) ∙ is) letter;
+              omega arith;
+          utf8 = (c ∷ front, (each.0, refl));
+          letters = subst (All (IsLetter alphabet)) (sym same) letters;
+          one = λ single.
+              let few : length (c ∷ front) ≤ 1 = one single in
+              let all : length (chars (encode_utf8_all (c ∷ front))) ≡ length (c ∷ front) =
+              ap length same in
+              omega arith;
+        };
+        longest = λ runs word d more is letter.
+            ends (inl runs) d more (sym (chars-encodes back each.1) ∙ is) letter;
         some =
             let long : length (c ∷ front) ≤ length (encode_utf8_all (c ∷ front)) =
             length-le-encodes (c ∷ front) in
@@ -292,11 +367,12 @@ module _ (lines : List Line) where
       (BeginsWithMark text → ⊥) → HasFirst text
   unmarked_first text utf8 some none =
       let cs : List ℕ = chars text in
-      let found = run cs in
+      let found = front_of cs in
       let whole : encode_utf8_all cs ≡ text = encodes-chars text utf8 in
       subst HasFirst whole
-      (of_run cs found.front found.back (scalars-chars text utf8) found.parts
-      (by cs whole) found.letters (λ begins. none (subst BeginsWithMark whole begins)) found.ends)
+      (of_front cs found.front found.back (scalars-chars text utf8) found.parts
+      (by cs whole) found.letters found.one
+      (λ begins. none (subst BeginsWithMark whole begins)) found.ends)
     where
       by : (cs : List ℕ) → encode_utf8_all cs ≡ text → 0 < length cs
       by [] whole = let empty : 0 ≡ length text = ap length whole in absurd (omega arith)
@@ -304,7 +380,7 @@ module _ (lines : List Line) where
 
   -- of a mark at the front
   front_first : (text : List ℕ) (kind : Kind) (len : ℕ) → IsUtf8 text →
-      IsFront lines text kind len → HasFirst text
+      IsFront alphabet text kind len → HasFirst text
   front_first text kind len utf8 front = record {
     token = record { kind = kind; text = take len text };
     after = drop len text;
@@ -326,64 +402,48 @@ module _ (lines : List Line) where
       by : Settled (BeginsWithMark text) → HasFirst text
       by (inl begins) =
           let mark = mark_kind text begins in
-          front_first text mark.0 mark.1 utf8 (mark_front lines text mark.0 mark.1 utf8 mark.2)
+          front_first text mark.0 mark.1 utf8 (mark_front alphabet text mark.0 mark.1 utf8 mark.2)
       by (inr none) = unmarked_first text utf8 some none
 
-  -- a token stands behind the tokens so far
-  record HasNext (text rest : List ℕ) (tokens : List Token) : Type 0 where
-    pub token : Token
-    pub after : List ℕ
-    pub after_utf8 : IsUtf8 after
-    pub shorter : length after < length rest
-    pub cut : IsMarkedCut lines text after (tokens ++ token ∷ [])
+  -- each text with single spaces is cut into tokens
+  tokens_of : (steps : ℕ) (text : List ℕ) → length text ≤ steps → IsUtf8 text →
+      (tokens : List Token) × AreCutAtMarks alphabet text tokens
+  tokens_of steps [] enough utf8 = ([], none_at_marks alphabet)
+  tokens_of zero (b ∷ text) enough utf8 = absurd (omega arith)
+  tokens_of (suc steps) (b ∷ text) enough utf8 =
+      let first = first_of (b ∷ text) utf8 (omega arith) in
+      let longer : length (b ∷ text) ≡ length first.token.text + length first.after =
+      ap length first.parts ∙ length-append first.token.text first.after in
+      let some : 0 < length first.token.text = first.some in
+      let later = tokens_of steps first.after (omega arith) first.after_utf8 in (
+        first.token ∷ later.0,
+        marked_more alphabet (b ∷ text) first.after first.token first.parts first.is first.longest
+            first.mark later.0 later.1,
+      )
 
-  module _ (text : List ℕ) where
-    next_of : (rest : List ℕ) (tokens : List Token) → IsUtf8 rest → 0 < length rest →
-        IsMarkedCut lines text rest tokens → HasNext text rest tokens
-    next_of rest tokens utf8 some cut =
-        let first = first_of rest utf8 some in
-        let longer : length rest ≡ length first.token.text + length first.after =
-        ap length first.parts ∙ length-append first.token.text first.after in
-        let token_some : 0 < length first.token.text = first.some in
-        record {
-          token = first.token;
-          after = first.after;
-          after_utf8 = first.after_utf8;
-          shorter = omega arith;
-          cut = marked_more lines text rest first.after tokens first.token cut first.token_utf8
-              first.parts first.is first.longest first.mark;
-        }
+  -- so each text has tokens
+  pub has_tokens : (text : List ℕ) → IsUtf8 text →
+      (tokens : List Token) × AreTokens alphabet text tokens
+  has_tokens text utf8 =
+      let spaced = with_single_spaces text in
+      tokens_of (length spaced) spaced (omega arith) (spaced_utf8 text utf8)
 
-    -- the tokens of a text of which some are known
-    pub record Goes (least : ℕ) : Type 0 where
-      pub all : List Token
-      pub cut : IsMarkedCut lines text [] all
-      pub more : least ≤ length all
-
-    pub finish : (steps : ℕ) (rest : List ℕ) (tokens : List Token) → length rest ≤ steps →
-        IsUtf8 rest → IsMarkedCut lines text rest tokens → Goes (length tokens)
-    finish steps [] tokens enough utf8 cut =
-        record { all = tokens; cut = cut; more = omega arith }
-    finish zero (b ∷ rest) tokens enough utf8 cut = absurd (omega arith)
-    finish (suc steps) (b ∷ rest) tokens enough utf8 cut =
-        let next = next_of (b ∷ rest) tokens utf8 (omega arith) cut in
-        let shorter : length next.after < length (b ∷ rest) = next.shorter in
-        let later = finish steps next.after (tokens ++ next.token ∷ []) (omega arith)
-        next.after_utf8 next.cut in
-        let grown : length (tokens ++ next.token ∷ []) ≡ length tokens + 1 =
-        length_push tokens next.token in
-        let more : length (tokens ++ next.token ∷ []) ≤ length later.all = later.more in
-        record { all = later.all; cut = later.cut; more = omega arith }
-
-    -- where something stands behind the tokens, the text has more of them
-    pub has_more : (rest : List ℕ) (tokens : List Token) → IsUtf8 rest → 0 < length rest →
-        IsMarkedCut lines text rest tokens →
-        (all : List Token) × IsMarkedCut lines text [] all × (length tokens < length all)
-    has_more rest tokens utf8 some cut =
-        let next = next_of rest tokens utf8 some cut in
-        let later = finish (length next.after) next.after (tokens ++ next.token ∷ []) (omega arith)
-        next.after_utf8 next.cut in
-        let grown : length (tokens ++ next.token ∷ []) ≡ length tokens + 1 =
-        length_push tokens next.token in
-        let more : length (tokens ++ next.token ∷ []) ≤ length later.all = later.more in
-        (later.all, later.cut, omega arith)
+  -- where tokens reach to a rest that isn't empty, the text has more of them
+  pub has_more : (text rest : List ℕ) (tokens : List Token) → IsUtf8 rest → 0 < length rest →
+      ReachTo (AreCutAtMarks alphabet) text rest tokens →
+      (all : List Token) × AreCutAtMarks alphabet text all × (length tokens < length all)
+  has_more text rest tokens utf8 some reach =
+      let later = tokens_of (length rest) rest (omega arith) utf8 in (
+        tokens ++ later.0,
+        reach later.0 later.1,
+        longer later.0 later.1,
+      )
+    where
+      longer : (more : List Token) → AreCutAtMarks alphabet rest more →
+          length tokens < length (tokens ++ more)
+      longer [] are =
+          let none : 0 ≡ length rest = ap length are.cut.whole in absurd (omega arith)
+      longer (token ∷ more) are =
+          let both : length (tokens ++ token ∷ more) ≡ length tokens + length (token ∷ more) =
+          length-append tokens (token ∷ more) in
+          omega arith

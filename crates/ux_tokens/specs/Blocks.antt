@@ -1,25 +1,25 @@
--- Blocks of plain bytes, which are cut into tokens byte by byte.
+-- Blocks of plain bytes, which are cut into tokens byte by byte: for inner functions alone.
 use Rattle.std.specs.Prelude.{◌≡◌, ◌≢◌, ℕ, ◌-◌, ◌<◌, List, [], ◌∷◌, Some, length, take, drop, slice_get, slice_index}
-use Rattle.ux_alphabet.specs.declared.line.Line.{Line}
-use Rattle.ux_alphabet.specs.Letters.{IsLetter}
+use Rattle.ux_alphabet.specs.Letters.{Letters, IsLetter}
 use Rattle.ux_tokens.specs.declared.kind.Kind.{Kind}
 use Rattle.ux_tokens.specs.declared.kind.Kind.TheVariants.{Word, Space, Other, Sentence, Stop, Tag}
 use Rattle.ux_tokens.specs.Tokens.{SPACE, OPENING_BRACE}
 use Rattle.ux_tokens.specs.First.{IsFront}
 
 -- the byte is a token of this kind, or a letter of a word
-abbrev pub IsClass : List Line → ℕ → Kind → Type 0
-IsClass lines byte Word = IsLetter lines byte
-IsClass lines byte Space = byte ≡ SPACE
-IsClass lines byte Other = (IsLetter lines byte → ⊥) × (byte ≢ SPACE)
-IsClass lines byte Sentence = ⊥
-IsClass lines byte Stop = ⊥
-IsClass lines byte Tag = ⊥
+abbrev pub IsClass : Letters → ℕ → Kind → Type 0
+IsClass alphabet byte Word = IsLetter alphabet byte
+IsClass alphabet byte Space = byte ≡ SPACE
+IsClass alphabet byte Other = (IsLetter alphabet byte → ⊥) × (byte ≢ SPACE)
+IsClass alphabet byte Sentence = ⊥
+IsClass alphabet byte Stop = ⊥
+IsClass alphabet byte Tag = ⊥
 
 -- the kinds are those of the ASCII bytes
-pub record AreClasses (lines : List Line) (kinds : List Kind) : Type 0 where
+pub record AreClasses (alphabet : Letters) (kinds : List Kind) : Type 0 where
   pub all : length kinds ≡ 128
-  pub each : (byte : ℕ) (kind : Kind) → slice_get kinds byte ≡ Some kind → IsClass lines byte kind
+  pub each : (byte : ℕ) (kind : Kind) → slice_get kinds byte ≡ Some kind →
+      IsClass alphabet byte kind
 
 -- the byte is ASCII, and begins no mark
 abbrev pub IsPlainByte : ℕ → Type 0
@@ -35,12 +35,14 @@ last_from start [] = start
 last_from start (end ∷ ends) = last_from end ends
 
 -- the token at the front of what begins at a place ends at another one
-abbrev pub IsTokenAt : List Line → List ℕ → (from end : ℕ) → Kind → Type 0
-IsTokenAt lines text from end kind = (from < end) × IsFront lines (drop from text) kind (end - from)
+abbrev pub IsTokenAt : Letters → List ℕ → (from end : ℕ) → Kind → Type 0
+IsTokenAt alphabet text from end kind =
+    (from < end) × IsFront alphabet (drop from text) kind (end - from)
 
--- tokens stand at the front of what begins at the start, one behind the other
-pub record AreFronts (lines : List Line) (text : List ℕ) (start : ℕ) (ends : List ℕ)
+-- tokens stand at the front of what begins at the start, one after the other
+pub record AreFronts (alphabet : Letters) (text : List ℕ) (start : ℕ) (ends : List ℕ)
     (kinds : List Kind) : Type 0 where
   pub even : length kinds ≡ length ends
   pub each : (i end : ℕ) (kind : Kind) → slice_get ends i ≡ Some end →
-      slice_get kinds i ≡ Some kind → IsTokenAt lines text (last_from start (take i ends)) end kind
+      slice_get kinds i ≡ Some kind →
+      IsTokenAt alphabet text (last_from start (take i ends)) end kind

@@ -1,4 +1,4 @@
--- Pieces in columns: their ends, numbers and kinds, each in a list of its own.
+-- Pieces in columns, their ends, numbers and kinds each in a list: for inner functions alone.
 use Rattle.std.specs.Prelude.{◌≡◌, ℕ, List, [], ◌∷◌, ◌++◌, length}
 use Rattle.ux_tokens.specs.declared.kind.Kind.{Kind}
 use Rattle.ux_tokens.specs.declared.piece.Piece.{Piece}

@@ -1,4 +1,4 @@
--- The entries of a text's tags, by the numbers of their tokens.
+-- The entries of a text's tags, by the numbers of their tokens: for inner functions alone.
 use Rattle.std.specs.Prelude.{◌≡◌, ◌⊎◌, ℕ, ◌<◌, List, Some, length, slice_get}
 use Rattle.std.specs.BTreeMap.{BTreeMap, get}
 use Rattle.std.specs.Ordering.{nat_cmp}

@@ -1,4 +1,4 @@
--- What a text keeps of its tokens.
+-- What a text keeps of its tokens: for inner functions alone.
 use Rattle.std.specs.Prelude.{◌≡◌, ℕ, List, length}
 use Rattle.std.specs.BTreeMap.{BTreeMap}
 use Rattle.ux_dela.specs.declared.entry.Entry.{Entry}

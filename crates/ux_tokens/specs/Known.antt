@@ -1,4 +1,4 @@
--- Numbers that are known without the table of different texts.
+-- Numbers that are known without the table of different texts: for inner functions alone.
 use Rattle.std.specs.Prelude.{◌≡◌, ℕ, ◌<◌, List, All, Some, slice_get}
 use Rattle.std.specs.Int.{bytes_high_first}
 use Rattle.ux_tokens.specs.Numbers.{IsSpaceNumber}

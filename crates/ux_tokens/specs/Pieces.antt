@@ -1,4 +1,4 @@
--- How a text keeps its tokens: by the places where they end.
+-- How a text keeps its tokens, by the places where they end: for inner functions alone.
 use Rattle.std.specs.Prelude.{◌≡◌, ℕ, ◌≤◌, List, [], ◌∷◌, Some, take, slice_get, slice_range}
 use Rattle.std.specs.Str.{IsCharBoundary}
 use Rattle.ux_tokens.specs.declared.piece.Piece.{Piece}
@@ -15,7 +15,7 @@ tokens_from text start [] = []
 tokens_from text start (piece ∷ pieces) =
     token_of text start piece ∷ tokens_from text piece.end pieces
 
--- the place behind the last piece
+-- the place after the last piece
 abbrev pub end_from : ℕ → List Piece → ℕ
 end_from start [] = start
 end_from start (piece ∷ pieces) = end_from piece.end pieces

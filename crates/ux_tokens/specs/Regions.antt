@@ -1,4 +1,4 @@
--- Regions: what stands behind a brace, up to what ends the body of a tag.
+-- Regions, what stands after a brace up to what ends a tag's body: for inner functions alone.
 use Rattle.std.specs.Prelude.{◌≡◌, ◌⊎◌, ℕ, suc, Bool, not, ◌||◌, ◌&&◌, ◌≤◌, ◌<◌, true, false, Option, None, Some, List, [], ◌∷◌, length, take, drop, slice_get}
 use Rattle.ux_dela.specs.Signs.{is_brace}
 use Rattle.ux_dela.specs.Written.{IsPart, has_bare}

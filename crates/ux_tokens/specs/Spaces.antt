@@ -1,4 +1,5 @@
--- How white space is joined where a text lies: front by front that stays as it is.
+-- How white space is joined where a text lies, by prefixes that stay as they are: for inner
+-- functions alone.
 use Rattle.std.specs.Prelude.{◌≡◌, ◌⊎◌, ℕ, ◌+◌, ◌<◌, ◌≤◌, false, List, ◌++◌, length, take, drop, slice_index}
 use Rattle.ux_alphabet.specs.Letters.{is_separator}
 use Rattle.ux_tokens.specs.Tokens.{with_single_spaces, SPACE}
@@ -10,7 +11,7 @@ pub record IsJoined (text bytes : List ℕ) (joined place : ℕ) : Type 0 where
   pub spaced : with_single_spaces text
       ≡ take joined bytes ++ with_single_spaces (drop place bytes)
 
--- so many bytes are moved from a place to another one, and what is before and behind stays
+-- so many bytes are moved from a place to another one, and what is before and after stays
 pub record IsMoved (old new : List ℕ) (from to len : ℕ) : Type 0 where
   pub same_len : length new ≡ length old
   pub front : take (to + len) new ≡ take to old ++ take len (drop from old)

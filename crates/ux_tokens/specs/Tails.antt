@@ -1,4 +1,4 @@
--- Which texts stand in a tag's body from a part of it on to the body's end.
+-- Which texts stand in a tag's body from a part of it on to its end: for inner functions alone.
 use Rattle.std.specs.Prelude.{◌≡◌, ℕ, Bool, true, false, ◌||◌, List, [], ◌∷◌, if◌then◌else◌}
 use Rattle.ux_dela.specs.Signs.{is_comma, is_dot, is_slash, is_plus, is_colon, is_equals}
 use Rattle.ux_dela.specs.Written.{Written, bare, protected}
@@ -15,7 +15,7 @@ pub data Part : Type 0 where
   before_feature : Part
   feature : Part
 
--- the part behind a character of its own
+-- the part after a character of its own
 abbrev pub inside : Part → Part
 inside no_part = no_part
 inside before_form = form
@@ -26,7 +26,7 @@ inside code = code
 inside before_feature = feature
 inside feature = feature
 
--- the part behind a bare character
+-- the part after a bare character
 abbrev pub behind : Part → ℕ → Part
 behind no_part b = no_part
 behind before_form b = if is_comma b || (is_equals b || is_slash b) then no_part else form

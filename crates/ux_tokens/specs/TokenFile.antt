@@ -1,8 +1,9 @@
--- The token file of a text. The manual, on tokenising; the layout is this program's own.
+-- The token file of a text: the crate's public meaning. The manual, on tokenising; the layout is
+-- this program's own.
 use Rattle.std.specs.Prelude.{◌≡◌, ℕ, ◌≤◌, List, [], ◌∷◌, ◌++◌, length}
 use Rattle.std.specs.List.{flat_map}
 use Rattle.std.specs.Fmt.{decimal}
-use Rattle.ux_alphabet.specs.declared.line.Line.{Line}
+use Rattle.ux_alphabet.specs.Letters.{Letters}
 use Rattle.ux_tokens.specs.declared.cutting.TheConstants.{MAX_TOKENS}
 use Rattle.ux_tokens.specs.Tokens.{Token, AreTokens}
 use Rattle.ux_tokens.specs.Numbers.{different_texts}
@@ -23,7 +24,7 @@ abbrev pub token_file : List Token → List ℕ
 token_file tokens = file_of (different_texts tokens)
 
 -- the file is that of the text's tokens, of which there are not too many
-abbrev pub IsTokenFileOf : List Line → (text file : List ℕ) → Type 0
-IsTokenFileOf lines text file =
-    (tokens : List Token) × AreTokens lines text tokens × (length tokens ≤ MAX_TOKENS)
+abbrev pub IsTokenFileOf : Letters → (text file : List ℕ) → Type 0
+IsTokenFileOf alphabet text file =
+    (tokens : List Token) × AreTokens alphabet text tokens × (length tokens ≤ MAX_TOKENS)
     × (file ≡ token_file tokens)

@@ -1,8 +1,7 @@
--- Which list of tokens a text has. The manual, on tokenising.
-use Rattle.std.specs.Prelude.{◌≡◌, ◌≢◌, ◌⊎◌, ℕ, ◌+◌, List, [], ◌∷◌, ◌++◌, Bool, false, if◌then◌else◌, All, Some, codes, drop, slice_get, encode_utf8}
+-- Which list of tokens a text has: the crate's public meaning. The manual, on tokenising.
+use Rattle.std.specs.Prelude.{◌≡◌, ◌≢◌, ◌⊎◌, ℕ, ◌+◌, List, [], ◌∷◌, ◌++◌, Bool, true, false, if◌then◌else◌, All, Some, codes, length, drop, slice_get, encode_utf8}
 use Rattle.std.specs.Str.{IsUtf8, chars}
-use Rattle.ux_alphabet.specs.declared.line.Line.{Line}
-use Rattle.ux_alphabet.specs.Letters.{is_separator, IsLetter}
+use Rattle.ux_alphabet.specs.Letters.{Letters, is_separator, IsLetter}
 use Rattle.ux_dela.specs.Tag.{IsTagBody}
 use Rattle.ux_dela.specs.declared.entry.Entry.{Entry}
 use Rattle.ux_tokens.specs.declared.kind.Kind.{Kind}
@@ -62,30 +61,44 @@ with_single_spaces (b ∷ rest) =
     else SPACE ∷ with_single_spaces rest)
     else b ∷ with_single_spaces rest
 
--- what may stand as a token of each kind, by the alphabet's lines
-abbrev pub IsTokenText : List Line → Kind → List ℕ → Type 0
-IsTokenText lines Word text = (text ≢ []) × IsUtf8 text × All (IsLetter lines) (chars text)
-IsTokenText lines Space text = text ≡ SPACE ∷ []
-IsTokenText lines Other text =
-    (c : ℕ) × (text ≡ encode_utf8 c) × (IsLetter lines c → ⊥) × (c ≢ SPACE)
-IsTokenText lines Sentence text = text ≡ SENTENCE
-IsTokenText lines Stop text = text ≡ STOP
-IsTokenText lines Tag text = (entry : Entry) × IsTag text entry
+-- a word: letters, one or more, and only one where the alphabet is single
+pub record IsWord (alphabet : Letters) (text : List ℕ) : Type 0 where
+  pub some : text ≢ []
+  pub utf8 : IsUtf8 text
+  pub letters : All (IsLetter alphabet) (chars text)
+  pub one : alphabet.single ≡ true → length (chars text) ≡ 1
 
--- the texts of the tokens, one behind the other
+-- what may stand as a token of each kind, by the letters of the alphabet
+abbrev pub IsTokenText : Letters → Kind → List ℕ → Type 0
+IsTokenText alphabet Word text = IsWord alphabet text
+IsTokenText alphabet Space text = text ≡ SPACE ∷ []
+IsTokenText alphabet Other text =
+    (c : ℕ) × (text ≡ encode_utf8 c) × (IsLetter alphabet c → ⊥) × (c ≢ SPACE)
+IsTokenText alphabet Sentence text = text ≡ SENTENCE
+IsTokenText alphabet Stop text = text ≡ STOP
+IsTokenText alphabet Tag text = (entry : Entry) × IsTag text entry
+
+-- the texts of the tokens, one after the other
 abbrev pub joined : List Token → List ℕ
 joined [] = []
 joined (token ∷ tokens) = token.text ++ joined tokens
 
--- the tokens are those of the text
-pub record AreTokens (lines : List Line) (text : List ℕ) (tokens : List Token) : Type 0 where
-  pub whole : joined tokens ≡ with_single_spaces text
-  pub each : All (λ token. IsTokenText lines token.kind token.text) tokens
-  pub apart : (k : ℕ) (a b : Token) → slice_get tokens k ≡ Some a →
+-- the text is cut into these tokens, and no word is cut in two, unless the alphabet is single
+pub record AreCut (alphabet : Letters) (text : List ℕ) (tokens : List Token) : Type 0 where
+  pub whole : joined tokens ≡ text
+  pub each : All (λ token. IsTokenText alphabet token.kind token.text) tokens
+  pub apart : alphabet.single ≡ false → (k : ℕ) (a b : Token) → slice_get tokens k ≡ Some a →
       slice_get tokens (k + 1) ≡ Some b → a.kind ≡ Word → b.kind ≢ Word
-  -- no mark is cut behind its brace
+
+-- the same, and no mark is cut after its brace
+pub record AreCutAtMarks (alphabet : Letters) (text : List ℕ) (tokens : List Token) : Type 0 where
+  pub cut : AreCut alphabet text tokens
   pub marks : (k : ℕ) (a : Token) → slice_get tokens k ≡ Some a → a.text ≡ OPENING_BRACE ∷ [] →
       BeginsWithMark (joined (drop k tokens)) → ⊥
+
+-- the tokens are those of the text
+abbrev pub AreTokens : Letters → List ℕ → List Token → Type 0
+AreTokens alphabet text tokens = AreCutAtMarks alphabet (with_single_spaces text) tokens
 
 -- the kinds of tokens of a text in which a brace is a character as any other
 abbrev pub IsPlain : Kind → Type 0
@@ -96,10 +109,11 @@ IsPlain Sentence = ⊥
 IsPlain Stop = ⊥
 IsPlain Tag = ⊥
 
--- the tokens are those of the text, of which no part is a mark
-pub record ArePlainTokens (lines : List Line) (text : List ℕ) (tokens : List Token) : Type 0 where
-  pub whole : joined tokens ≡ with_single_spaces text
-  pub each : All (λ token. IsTokenText lines token.kind token.text) tokens
-  pub apart : (k : ℕ) (a b : Token) → slice_get tokens k ≡ Some a →
-      slice_get tokens (k + 1) ≡ Some b → a.kind ≡ Word → b.kind ≢ Word
+-- the text is cut into these tokens, of which none is a mark
+pub record AreCutPlainly (alphabet : Letters) (text : List ℕ) (tokens : List Token) : Type 0 where
+  pub cut : AreCut alphabet text tokens
   pub plain : All (λ token. IsPlain token.kind) tokens
+
+-- the tokens are those of a text of a graph, in which a brace is a character as any other
+abbrev pub ArePlainTokens : Letters → List ℕ → List Token → Type 0
+ArePlainTokens alphabet text tokens = AreCutPlainly alphabet (with_single_spaces text) tokens

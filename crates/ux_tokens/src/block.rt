@@ -2,11 +2,12 @@
 //!
 //! The length of a word isn't foreseen by a processor, so a loop that ends with each word costs
 //! more than its steps. Here each byte writes where a token may end, and only where it does the
-//! next byte writes behind it. Bytes that aren't ASCII, and braces, are left to `front`.
+//! next byte writes after it. Bytes that aren't ASCII, and braces, are left to `front`, and so is
+//! all of a text whose alphabet is single, since there each letter ends a token.
 
-ghost use Rattle.std.specs.Prelude.{◌≡◌, ◌≢◌, ◌+◌, ◌<◌, ◌≤◌, List, IsTrue, length, take, drop};
+ghost use Rattle.std.specs.Prelude.{◌≡◌, ◌≢◌, ◌+◌, ◌<◌, ◌≤◌, IsTrue, false, length, take, drop};
 ghost use Rattle.std.specs.Str.{IsCharBoundary};
-ghost use Rattle.ux_alphabet.specs.declared.line.Line.{Line};
+ghost use Rattle.ux_alphabet.specs.Letters.{Letters};
 ghost use Rattle.ux_tokens.specs.Blocks.{AreClasses, AreFronts, BeginsPlain, IsPlainByte};
 ghost use Rattle.ux_tokens.specs.declared.kind.Kind.TheVariants.{Word};
 
@@ -18,7 +19,7 @@ pub(crate) const BLOCK: usize = 256;
 /// Room for the tokens of a block, in columns.
 #[derive(Drop)]
 pub(crate) struct Block {
-    /// The places behind the tokens.
+    /// The places after the tokens.
     pub(crate) ends: [u32; BLOCK],
     /// Their kinds.
     pub(crate) kinds: [Kind; BLOCK],
@@ -86,7 +87,8 @@ fn is_plain(byte: u8) -> bool
     (byte < 128) & (byte != b'{')
 }
 
-/// Cuts so many plain bytes. Answers how many tokens there are whose end is known.
+/// Cuts so many plain bytes, by an alphabet that isn't single. Answers how many tokens there are
+/// whose end is known.
 pub(crate) fn cut_plain(
     classes: &[Kind],
     text: &str,
@@ -105,8 +107,9 @@ pub(crate) fn cut_plain(
     ensures len { length ends.new ≡ length ends.old }
     ensures kinds_len { length kinds.new ≡ length kinds.old }
     ensures within { result ≤ len }
-    ensures fronts { (lines : List Line) → AreClasses lines classes.now →
-        AreFronts lines text.now start (take result ends.new) (take result kinds.new) }
+    ensures fronts { (alphabet : Letters) → alphabet.single ≡ false →
+        AreClasses alphabet classes.now →
+        AreFronts alphabet text.now start (take result ends.new) (take result kinds.new) }
 {
     let bytes = text.as_bytes();
     let mut count = 0;

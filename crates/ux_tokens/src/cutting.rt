@@ -1,8 +1,8 @@
 //! The loop that cuts a text into tokens and numbers them, in blocks where it can.
 
-ghost use Rattle.std.specs.Prelude.{◌≡◌, ◌+◌, ◌<◌, ◌≤◌, ◌++◌, List, [], IfOk, IfErr, OnOk, length, drop};
+ghost use Rattle.std.specs.Prelude.{◌≡◌, ◌+◌, ◌<◌, ◌≤◌, ◌++◌, List, false, [], IfOk, IfErr, OnOk, length, drop};
 ghost use Rattle.std.specs.Str.{IsCharBoundary};
-ghost use Rattle.ux_alphabet.specs.declared.line.Line.{Line};
+ghost use Rattle.ux_alphabet.specs.Letters.{Letters};
 ghost use Rattle.indexmap.specs.IndexSet.{index_set_len};
 ghost use Rattle.ux_tokens.specs.Blocks.{AreClasses, AreFronts, BeginsPlain};
 ghost use Rattle.ux_tokens.specs.Columns.{AreEven, pieces_from, pieces_of};
@@ -94,9 +94,11 @@ fn push_tokens<'a>(
     let mut free = 0;
     let mut end = 0;
     while end < text.len() {
-        let behind = push_block(classes, &mut block, numbers, known, pieces, text, end)?;
-        end = if behind > end {
-            behind
+        let after = push_block(
+            alphabet, classes, &mut block, numbers, known, pieces, text, end,
+        )?;
+        end = if after > end {
+            after
         } else {
             push_front(alphabet, numbers, known, pieces, &mut free, text, end)?
         };
@@ -104,7 +106,7 @@ fn push_tokens<'a>(
     Ok(())
 }
 
-/// Puts the token last that begins at a place. Answers the place behind it.
+/// Puts the token last that begins at a place. Answers the place after it.
 fn push_front<'a>(
     alphabet: &Alphabet,
     numbers: &mut IndexSet<&'a str>,
@@ -141,9 +143,10 @@ fn push_front<'a>(
     Ok(end)
 }
 
-/// Puts the tokens of a block last that begins at a place. Answers the place behind them, which is
+/// Puts the tokens of a block last that begins at a place. Answers the place after them, which is
 /// that of the start where there is no block.
 fn push_block<'a>(
+    alphabet: &Alphabet,
     classes: &[Kind],
     block: &mut Block,
     numbers: &mut IndexSet<&'a str>,
@@ -152,20 +155,18 @@ fn push_block<'a>(
     text: &'a str,
     start: usize,
 ) -> Result<usize, AllocError>
-    requires classes { length classes.now ≡ 128 }
-    requires boundary { IsCharBoundary text.now start }
-    requires so_far { (lines : List Line) × AreClasses lines classes.now
-        × IsSoFar lines text.now start (pieces_of pieces.old) (texts_in numbers.old) }
+    requires classes { AreClasses alphabet.now classes.now }
+    requires so_far { IsSoFar alphabet.now text.now start (pieces_of pieces.old)
+        (texts_in numbers.old) }
     requires known { AreKnown (texts_in numbers.old) known.old }
     requires even { AreEven pieces.old }
-    ensures so_far { IfOk result (λ end. (lines : List Line) → AreClasses lines classes.now →
-        IsSoFar lines text.now start (pieces_of pieces.old) (texts_in numbers.old) →
-        IsSoFar lines text.now end (pieces_of pieces.new) (texts_in numbers.new)) }
+    ensures so_far { IfOk result (λ end. IsSoFar alphabet.now text.now end (pieces_of pieces.new)
+        (texts_in numbers.new)) }
     ensures known { OnOk result (AreKnown (texts_in numbers.new) known.new) }
     ensures even { OnOk result (AreEven pieces.new) }
     ensures in_order { IfOk result (λ end. start ≤ end) }
 {
-    let len = block_len(pieces, text, start);
+    let len = block_len(alphabet, pieces, text, start);
     if len == 0 {
         return Ok(start);
     }
@@ -179,17 +180,22 @@ fn push_block<'a>(
 }
 
 /// How many bytes can be cut together at a place. A block needs places in four bytes, and room for
-/// as many tokens as bytes.
-fn block_len(pieces: &Pieces, text: &str, start: usize) -> usize
+/// as many tokens as bytes. Where the alphabet is single there is no block, since few of the texts
+/// that are cut so are ASCII.
+fn block_len(alphabet: &Alphabet, pieces: &Pieces, text: &str, start: usize) -> usize
     requires even { AreEven pieces.now }
     requires within { start ≤ length text.now }
     ensures block { result ≤ BLOCK }
+    ensures runs { 0 < result → alphabet.now.single ≡ false }
     ensures near { 0 < result → pieces.now.ends.far.items ≡ [] }
     ensures room { 0 < result → length (pieces_of pieces.now) + BLOCK ≤ MAX_TOKENS }
     ensures fits { 0 < result → start + BLOCK < 4294967296 }
     ensures within { 0 < result → start + result < length text.now }
     ensures plain { 0 < result → BeginsPlain (drop start text.now) (result + 1) }
 {
+    if alphabet.single() {
+        return 0;
+    }
     let fits = start < u32::MAX as usize - BLOCK && pieces.len() <= MAX_TOKENS - BLOCK;
     if fits && pieces.ends.far.is_empty() {
         return plain_len(&text.as_bytes()[start..]);
@@ -197,7 +203,7 @@ fn block_len(pieces: &Pieces, text: &str, start: usize) -> usize
     0
 }
 
-/// The numbers of neighbouring tokens. Answers the place behind them.
+/// The numbers of neighbouring tokens. Answers the place after them.
 fn number_all<'a>(
     numbers: &mut IndexSet<&'a str>,
     known: &mut Known,
@@ -208,16 +214,16 @@ fn number_all<'a>(
     given: &mut [u32],
 ) -> Result<usize, AllocError>
     requires boundary { IsCharBoundary text.now start }
-    requires fronts { (lines : List Line) × AreFronts lines text.now start ends.now kinds.now }
+    requires fronts { (alphabet : Letters) × AreFronts alphabet text.now start ends.now kinds.now }
     requires room { index_set_len numbers.old + length ends.now ≤ MAX_TOKENS }
     requires known { AreKnown (texts_in numbers.old) known.old }
     requires given { length given.old ≡ length ends.now }
     ensures given { length given.new ≡ length ends.now }
-    ensures so_far { IfOk result (λ end. (lines : List Line) (pieces : List Piece) →
-        AreFronts lines text.now start ends.now kinds.now →
+    ensures so_far { IfOk result (λ end. (alphabet : Letters) (pieces : List Piece) →
+        AreFronts alphabet text.now start ends.now kinds.now →
         length pieces + length ends.now ≤ MAX_TOKENS →
-        IsSoFar lines text.now start pieces (texts_in numbers.old) →
-        IsSoFar lines text.now end (pieces ++ pieces_from ends.now given.new kinds.now)
+        IsSoFar alphabet text.now start pieces (texts_in numbers.old) →
+        IsSoFar alphabet text.now end (pieces ++ pieces_from ends.now given.new kinds.now)
         (texts_in numbers.new)) }
     ensures known { OnOk result (AreKnown (texts_in numbers.new) known.new) }
     ensures in_order { IfOk result (λ end. start ≤ end) }

@@ -1,7 +1,7 @@
 //! The entries of a text's tags, each read once.
 
 ghost use Rattle.std.specs.Prelude.{◌≡◌, ◌↔◌, Contains, List, IfOk, IsTrue, OnOk};
-ghost use Rattle.ux_alphabet.specs.declared.line.Line.{Line};
+ghost use Rattle.ux_alphabet.specs.Letters.{Letters};
 ghost use Rattle.ux_dela.specs.declared.entry.Entry.{Entry};
 ghost use Rattle.ux_tokens.specs.Columns.{pieces_of};
 ghost use Rattle.ux_tokens.specs.Cutting.{IsCutting};
@@ -23,7 +23,7 @@ pub(crate) type Entries = BTreeMap<u32, Entry>;
 
 /// The entries of the tags of a text that is cut so. Takes a step a token, if there is a brace.
 pub(crate) fn tag_entries(alloc: Global, text: &str, cut: &Cut) -> Mem<Entries>
-    requires { (lines : List Line) × IsCutting lines text.now cut.now }
+    requires { (alphabet : Letters) × IsCutting alphabet text.now cut.now }
     ensures { IfOk result (AreEntriesOf text.now (pieces_of cut.now.pieces)) }
 {
     // Most texts have no brace, and a search for one byte is faster than a look at each token.
@@ -42,7 +42,7 @@ fn has_brace(text: &str) -> bool
 
 /// The same by a look at each token.
 fn read_entries(alloc: Global, text: &str, cut: &Cut) -> Mem<Entries>
-    requires { (lines : List Line) × IsCutting lines text.now cut.now }
+    requires { (alphabet : Letters) × IsCutting alphabet text.now cut.now }
     ensures { IfOk result (AreEntriesOf text.now (pieces_of cut.now.pieces)) }
 {
     let mut entries = BTreeMap::new(alloc);

@@ -5,7 +5,8 @@ ghost use Rattle.std.specs.Str.{IsCharBoundary};
 ghost use Rattle.indexmap.specs.IndexSet.{index_set_len};
 ghost use Rattle.ux_tokens.specs.First.{IsFront};
 ghost use Rattle.ux_tokens.specs.Known.{AreKnown};
-ghost use Rattle.ux_tokens.specs.Numbers.{with_text, texts_in};
+ghost use Rattle.ux_base.specs.Distinct.{with_text};
+ghost use Rattle.ux_tokens.specs.Numbers.{texts_in};
 ghost use Rattle.ux_tokens.specs.Regions.{IsFree};
 
 use crate::first::first_token;

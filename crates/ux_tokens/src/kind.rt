@@ -3,7 +3,7 @@
 /// What a token is. The manual, on tokenising.
 #[derive(Clone, Copy, Debug, PartialEq, Eq)]
 pub enum Kind {
-    /// A longest run of letters.
+    /// A longest run of letters, or one letter where the alphabet is single.
     Word,
     /// One space, in place of a run of white space.
     Space,

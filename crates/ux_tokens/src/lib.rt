@@ -1,8 +1,9 @@
 //! The tokens of a text.
 //!
-//! `Text::read` cuts a text into words, spaces, the marks `{S}` and `{STOP}`, tags and other characters.
-//! Which list of tokens a text has stands in `specs/Tokens.antt`, as a condition on the finished
-//! list. `token_file_of` writes the different tokens without keeping that list.
+//! `Text::read` cuts a text into words, spaces, the marks `{S}` and `{STOP}`, tags and other
+//! characters. A word is a longest run of letters, or one letter where the alphabet is single. Which
+//! list of tokens a text has stands in `specs/Tokens.antt`, as a condition on the finished list.
+//! `token_file_of` writes the different tokens without keeping that list.
 #![tactic(auto)]
 
 mod block;

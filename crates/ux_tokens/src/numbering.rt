@@ -4,7 +4,8 @@ ghost use Rattle.std.specs.Prelude.{◌≡◌, ◌^◌, ◌<◌, ◌∷◌, [], 
 ghost use Rattle.std.specs.Int.{bytes_high_first};
 ghost use Rattle.indexmap.specs.IndexSet.{index_set_len};
 ghost use Rattle.ux_tokens.specs.Known.{AreKnown};
-ghost use Rattle.ux_tokens.specs.Numbers.{with_text, texts_in};
+ghost use Rattle.ux_base.specs.Distinct.{with_text};
+ghost use Rattle.ux_tokens.specs.Numbers.{texts_in};
 ghost use Rattle.ux_tokens.specs.Tokens.{SPACE};
 ghost use Rattle.ux_tokens.specs.declared.kind.Kind.TheVariants.{Space};
 
@@ -23,7 +24,7 @@ pub fn number_of<'a>(numbers: &mut IndexSet<&'a str>, token: &'a str) -> Result<
     Ok(number as u32)
 }
 
-/// The number of a token of this kind, behind which the text goes on. Nearly every second token is a
+/// The number of a token of this kind, after which the text goes on. Nearly every second token is a
 /// space, and most others are short: what was given to them is kept, so that few are looked up.
 #[inline(always)]
 pub(crate) fn number_of_kind<'a>(

@@ -5,7 +5,7 @@ use crate::kind::Kind;
 /// A token, by where it ends in the text. It begins where the one before it ends.
 #[derive(Clone, Copy)]
 pub struct Piece {
-    /// The place behind the token, in bytes.
+    /// The place after the token, in bytes.
     pub end: usize,
     /// The token's number.
     pub number: u32,

@@ -13,7 +13,7 @@ use std::alloc::{AllocError, Global};
 /// Tokens, in columns. Takes nine bytes a token.
 #[derive(Drop)]
 pub struct Pieces {
-    /// The places behind the tokens.
+    /// The places after the tokens.
     pub ends: Ends,
     /// The tokens' numbers.
     pub numbers: Vec<u32>,

@@ -1,7 +1,7 @@
 //! White space: each longest run of it becomes one space before tokens are cut.
 //!
 //! Nearly all white space of a text is a space alone, which stays as it is. So white space is
-//! joined where the text lies, by fronts that end only at other runs, and not word by word. A front
+//! joined where the text lies, by prefixes that end only at other runs, and not word by word. A prefix
 //! is looked at in blocks, and moved only once what is before it became shorter.
 
 ghost use Rattle.std.specs.Prelude.{◌≡◌, ℕ, ◌<◌, ◌≤◌, ◌+◌, List, ◌++◌, ◌∷◌, IfOk, IsTrue, false, true, length, take, drop, slice_index, string_bytes};
@@ -59,7 +59,7 @@ fn join_white_space(bytes: &mut [u8]) -> usize
     joined
 }
 
-/// Puts the front of the rest that stays as it is behind what is joined. Answers its length.
+/// Puts the prefix of the rest that stays as it is after what is joined. Answers its length.
 fn join_front(bytes: &mut [u8], place: usize, joined: usize) -> usize
     requires in_order { joined ≤ place }
     requires within { place ≤ length bytes.old }
@@ -75,7 +75,7 @@ fn join_front(bytes: &mut [u8], place: usize, joined: usize) -> usize
     front
 }
 
-/// Puts one space for the white space at the place behind what is joined. Answers the length of
+/// Puts one space for the white space at the place after what is joined. Answers the length of
 /// that white space.
 fn join_run(bytes: &mut [u8], place: usize, joined: usize) -> usize
     requires in_order { joined ≤ place }
@@ -125,7 +125,7 @@ fn move_block(bytes: &mut [u8], from: usize, to: usize)
     }
 }
 
-/// The length of the front that stays as it is. Behind it stands white space, or nothing.
+/// The length of the prefix that stays as it is. After it stands white space, or nothing.
 fn front_len(text: &[u8]) -> usize
     ensures within { result ≤ length text.now }
     ensures stays { with_single_spaces text.now
@@ -184,7 +184,7 @@ fn stays_before(byte: u8, next: u8) -> bool
 }
 
 /// Whether the byte at a place stays as it is: it is no white space, or a space with no white space
-/// behind it.
+/// after it.
 fn stays(text: &[u8], place: usize) -> bool
     requires { place < length text.now }
     ensures yes { IsTrue result → with_single_spaces (drop place text.now)

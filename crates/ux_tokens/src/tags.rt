@@ -1,8 +1,8 @@
 //! Tags: entries of a dictionary in braces.
 //!
 //! Where a brace begins no tag, the next one may, and so a text of braces could be looked at as often
-//! as it has braces. But a body has no bare brace: what stands behind a brace, up to the first bare
-//! one, is a region, and all tags that begin in it end where it ends. It is read once from behind,
+//! as it has braces. But a body has no bare brace: what stands after a brace, up to the first bare
+//! one, is a region, and all tags that begin in it end where it ends. It is read once from its end,
 //! and no brace of it is looked at again before the first that begins a tag.
 
 ghost use Rattle.std.specs.Prelude.{◌≡◌, ◌↔◌, ◌≤◌, Some, IsTrue, MatchOption, length, take, drop, slice_get};
@@ -44,7 +44,7 @@ pub struct Found {
 /// What is known of the tags of a text that begins with a brace.
 ///
 /// A body has no bare brace, so all that begin in a region can only end where it ends. One look at
-/// it from behind tells which of its braces begins a tag first.
+/// it from its end tells which of its braces begins a tag first.
 fn find_tag(text: &[u8]) -> Found
     requires { slice_get text.now 0 ≡ Some OPENING_BRACE }
     ensures { IsFound text.now result }
@@ -99,7 +99,7 @@ fn ends_region(byte: u8, protected: bool) -> bool
     byte == b'\n' || (!protected && (byte == b'{' || byte == b'}'))
 }
 
-/// The first place of a region at which a tag begins that ends behind it.
+/// The first place of a region at which a tag begins that ends after it.
 fn first_place(region: &[u8]) -> Option<usize>
     ensures { IsFirstPlace region.now 0 result }
 {

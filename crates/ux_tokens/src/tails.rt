@@ -1,6 +1,6 @@
 //! From which parts of a tag's body on a text goes to the body's end.
 //!
-//! A body is read from behind, byte by byte, so that one look at a text tells of each of its places
+//! A body is read from its end, byte by byte, so that one look at a text tells of each of its places
 //! whether the rest from there on is a body.
 
 ghost use Rattle.std.specs.Prelude.{◌≡◌, ◌↔◌, ◌∷◌, [], List, ℕ, IsTrue, true};

@@ -7,7 +7,8 @@ ghost use Rattle.std.specs.Prelude.{◌≡◌, ◌≢◌, IfSome, MatchOption, �
 ghost use Rattle.ux_tokens.specs.Tokens.{AreTokens, IsTag, joined};
 ghost use Rattle.ux_tokens.specs.declared.kind.Kind.TheVariants.{Tag};
 ghost use Rattle.ux_dela.specs.Sound.{IsSound};
-ghost use Rattle.ux_tokens.specs.Numbers.{StandOnce, different_texts};
+ghost use Rattle.ux_base.specs.Distinct.{StandOnce};
+ghost use Rattle.ux_tokens.specs.Numbers.{different_texts};
 ghost use Rattle.ux_tokens.specs.Reading.{HasTooManyTokens, Refuses};
 
 use crate::cutting::{Cut, MAX_TOKENS, cut_text};

@@ -5,8 +5,7 @@ use Rattle.std.specs.List.{AllZip}
 use Rattle.std.specs.Option.{option_map}
 use Rattle.std.specs.Str.{chars}
 use Rattle.std.proofs.lemmas.Option.{slice_get-map}
-use Rattle.ux_alphabet.specs.declared.line.Line.{Line}
-use Rattle.ux_alphabet.specs.Letters.{Fits}
+use Rattle.ux_alphabet.specs.Letters.{Letters, Fits}
 use Rattle.ux_net.specs.declared.label.Label.{Label}
 use Rattle.ux_net.specs.declared.label.Label.TheVariants.{Empty, Fold, Exact, Space, Glue, Call}
 use Rattle.ux_walk.specs.Fronts.{AreCounted, FitsText, IsFitted, count_of}
@@ -18,7 +17,7 @@ zip_length R (x ∷ xs) [] z = absurd z
 zip_length R (x ∷ xs) (y ∷ ys) z = ap suc (zip_length R xs ys z.1)
 
 -- the texts that it fits
-pub fitted_count : (alphabet : List Line) (label : Label) (text : List ℕ) →
+pub fitted_count : (alphabet : Letters) (label : Label) (text : List ℕ) →
     FitsText alphabet label text → length (chars text) ≡ count_of label
 fitted_count alphabet (Fold entry) text fits =
     zip_length (Fits alphabet) (chars entry) (chars text) fits
@@ -29,7 +28,7 @@ fitted_count alphabet Glue text fits = absurd fits
 fitted_count alphabet (Call h) text fits = absurd fits
 
 -- and so the tokens
-pub fitted_counted : (alphabet : List Line) (texts : List (List ℕ)) (counts : List ℕ) →
+pub fitted_counted : (alphabet : Letters) (texts : List (List ℕ)) (counts : List ℕ) →
     AreCounted texts counts → (label : Label) (count n : ℕ) → count ≡ count_of label →
     IsFitted alphabet texts label n → slice_get counts n ≡ Some count
 fitted_counted alphabet texts counts counted label count n is (text, at, fits) =

@@ -4,7 +4,7 @@ use Rattle.std.specs.Prelude.{Contains, Some, slice_get, IsSomeAnd}
 use Rattle.std.specs.List.Sorted.{IsStrictlyIncreasing}
 use Rattle.std.proofs.lemmas.List.{append-nil}
 use Rattle.std.proofs.lemmas.List.Elements.{Contains-append_left, Contains-push, Contains-push_cases}
-use Rattle.ux_alphabet.specs.declared.line.Line.{Line}
+use Rattle.ux_alphabet.specs.Letters.{Letters}
 use Rattle.ux_tokens.specs.Tokens.{Token}
 use Rattle.ux_tokens.specs.Numbers.{different_texts}
 use Rattle.ux_net.specs.declared.net_graph.NetGraph.{NetGraph}
@@ -134,7 +134,7 @@ noted_more Final start at es found old new next further notes are = elim notes [
       (sym not.1) (noted_not start at es found old are next further not.0)
 ]
 
-module _ (alphabet : List Line) (tokens : List Token) (net : List NetGraph) (start : ℕ) where
+module _ (alphabet : Letters) (tokens : List Token) (net : List NetGraph) (start : ℕ) where
   abbrev texts : List (List ℕ)
   texts = different_texts tokens
 

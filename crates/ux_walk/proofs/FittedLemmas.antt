@@ -6,11 +6,11 @@ use Rattle.std.specs.Str.{IsUtf8, chars}
 use Rattle.std.proofs.Math.Utf8.{encodes}
 use Rattle.std.proofs.lemmas.Str.{chars_past_char, encodes-chars}
 use Rattle.std.proofs.lemmas.List.Elements.{All-cons, All-head, All-tail}
-use Rattle.ux_alphabet.specs.declared.line.Line.{Line}
-use Rattle.ux_alphabet.specs.Letters.{Fits}
+use Rattle.ux_alphabet.specs.Letters.{Letters, Fits}
 use Rattle.ux_net.specs.declared.label.Label.{Label}
 use Rattle.ux_net.specs.declared.label.Label.TheVariants.{Empty, Fold, Exact, Space, Glue, Call}
-use Rattle.ux_tokens.specs.Numbers.{StandOnce, texts_in}
+use Rattle.ux_base.specs.Distinct.{StandOnce}
+use Rattle.ux_tokens.specs.Numbers.{texts_in}
 use Rattle.ux_walk.specs.declared.words.Words.{Words}
 use Rattle.ux_walk.specs.Fronts.{AreReady, FitsText, IsFitted, IsFixed, IsOf, IsPlainChar}
 
@@ -21,7 +21,7 @@ all_turn P Whole text rest c utf8 is this whole others =
     whole (subst (All P) (sym (chars_past_char text rest c utf8 is))
     (All-cons P c (chars rest) this others))
 
-module _ (alphabet : List Line) where
+module _ (alphabet : Letters) where
   -- characters that fit plain ones are these
   plain_same : (entry text : List ℕ) → AllZip (Fits alphabet) entry text →
       All (IsPlainChar alphabet) text → entry ≡ text

@@ -1,6 +1,6 @@
 -- The events of a derivation follow each other from its start, inside the text.
 use Rattle.std.proofs.Common.{ℕ, ◌≤◌, List, [], ◌∷◌, ◌++◌, refl, sym, subst, length}
-use Rattle.ux_alphabet.specs.declared.line.Line.{Line}
+use Rattle.ux_alphabet.specs.Letters.{Letters}
 use Rattle.ux_tokens.specs.Tokens.{Token}
 use Rattle.ux_net.specs.declared.label.Label.{Label}
 use Rattle.ux_net.specs.Words.{Grammar}
@@ -16,7 +16,7 @@ follows_append [] ys i k j first second = subst (λ n. Follows n j ys) (sym firs
 follows_append (Take from to ∷ xs) ys i k j first second =
     (first.0, first.1, follows_append xs ys to k j first.2 second)
 
-module _ (alphabet : List Line) (tokens : List Token) (grammar : Grammar) where
+module _ (alphabet : Letters) (tokens : List Token) (grammar : Grammar) where
   word_follows : {word : List Label} {i j : ℕ} {events : List Event} →
       Seq alphabet tokens grammar word i j events → i ≤ length tokens →
       Follows i j events × (j ≤ length tokens)

@@ -3,7 +3,7 @@ use Rattle.std.proofs.Common.{◌≡◌, ℕ, List, [], ◌∷◌, ◌++◌, ◌
 use Rattle.std.specs.Prelude.{Contains, Some, slice_get}
 use Rattle.std.proofs.lemmas.List.{reverse-append}
 use Rattle.std.proofs.lemmas.List.Elements.{Contains-append_left, Contains-append_right, Contains-append_cases}
-use Rattle.ux_alphabet.specs.declared.line.Line.{Line}
+use Rattle.ux_alphabet.specs.Letters.{Letters}
 use Rattle.ux_net.specs.declared.state.Edge.{Edge}
 use Rattle.ux_net.specs.declared.state.State.{State}
 use Rattle.ux_net.specs.declared.net_graph.NetGraph.{NetGraph}
@@ -65,7 +65,7 @@ spelled_once links front states items listed keys once named is same has are s =
       λ h. subst (λ (l : List ℕ). Contains l s) (sym are) ((has s).1 (all.1 h)),
     )
 
-module _ (alphabet : List Line) (texts : List (List ℕ)) (net : List NetGraph) where
+module _ (alphabet : Letters) (texts : List (List ℕ)) (net : List NetGraph) where
   module _ (old new : Fronts) (front : ℕ) (items : List ℕ)
       (gains : Gains (λ number to.
       (from : ℕ) × Contains items from × Leads alphabet texts net from number to) front old new)

@@ -5,7 +5,7 @@ use Rattle.std.proofs.Math.Nat.{pow-le-pow_right}
 use Rattle.std.proofs.lemmas.Grind.{pow_more}
 use Rattle.std.proofs.lemmas.List.Sums.{get_or-le-sum_by, sum_by-cons}
 use Rattle.std.proofs.lemmas.Option.{slice_get_within, get_or_from_slice_get}
-use Rattle.ux_alphabet.specs.declared.line.Line.{Line}
+use Rattle.ux_alphabet.specs.Letters.{Letters}
 use Rattle.ux_tokens.specs.Tokens.{Token}
 use Rattle.ux_tokens.specs.declared.kind.Kind.{Kind}
 use Rattle.ux_tokens.specs.declared.kind.Kind.TheVariants as kind
@@ -62,7 +62,7 @@ space_within tokens p is = go (slice_get tokens p) refl is
     go None at h = cc
     go (Some token) at h = slice_get_within tokens p token at
 
-pub takes_forward : (alphabet : List Line) (tokens : List Token) (x : Label) (p k : ℕ) →
+pub takes_forward : (alphabet : Letters) (tokens : List Token) (x : Label) (p k : ℕ) →
     Takes alphabet tokens x p k → (p < k) × (k ≤ length tokens)
 takes_forward alphabet tokens (Fold text) p k t =
     let within = slice_get_within tokens (skip tokens p) t.0 t.1 in
@@ -219,7 +219,7 @@ module _ (graphs : List NetGraph) where
   abbrev weight_at : ℕ → Course → ℕ
   weight_at len w = weight_of graphs ((len - w.at) + 1) w.frames
 
-  module _ (alphabet : List Line) (tokens : List Token) (measured : IsMeasured graphs) (f : Frame)
+  module _ (alphabet : Letters) (tokens : List Token) (measured : IsMeasured graphs) (f : Frame)
       (fs : List Frame) (i : ℕ) (before : List Event) (inside : i ≤ length tokens) where
     -- inside the text, and lighter than the frames at the position
     abbrev IsLighter : Course → Type 0

@@ -5,7 +5,7 @@ use Rattle.std.specs.Map.{lookup}
 use Rattle.std.proofs.lemmas.Option.{same_Some, slice_get_within, slice_get-get_or, get_or_from_slice_get}
 use Rattle.std.proofs.lemmas.List.Elements.{Contains-get_or, Contains-append_left, Contains-push}
 use Rattle.indexmap.specs.IndexMap.{insert_entry}
-use Rattle.ux_alphabet.specs.declared.line.Line.{Line}
+use Rattle.ux_alphabet.specs.Letters.{Letters}
 use Rattle.ux_tokens.specs.Tokens.{Token}
 use Rattle.ux_net.specs.declared.label.Label.{Label}
 use Rattle.ux_net.specs.declared.label.Label.TheVariants.{Empty, Fold, Exact, Space, Glue, Call}
@@ -96,11 +96,11 @@ module _ {K V : Type 0} (eq : K → K → Bool) (key : K)
       inl (subst (λ (l : List (K × V)). Contains l (k, v)) is h)
 
 -- each edge before the place stands at one of the places, or its label refuses the text
-abbrev pub AreEnoughBefore : List Line → List ℕ → List Edge → ℕ → List ℕ → Type 0
+abbrev pub AreEnoughBefore : Letters → List ℕ → List Edge → ℕ → List ℕ → Type 0
 AreEnoughBefore alphabet text edges m places = (n : ℕ) (edge : Edge) → n < m →
     slice_get edges n ≡ Some edge → Contains places n ⊎ Refuses alphabet edge.label text
 
-module _ (alphabet : List Line) (text : List ℕ) (edges : List Edge) where
+module _ (alphabet : Letters) (text : List ℕ) (edges : List Edge) where
   abbrev Enough : ℕ → List ℕ → Type 0
   Enough m places = AreEnoughBefore alphabet text edges m places
 
@@ -134,7 +134,7 @@ module _ (alphabet : List Line) (text : List ℕ) (edges : List Edge) where
       let within = slice_get_within edges n edge at in
       before n edge (omega (arith, within, past)) at
 
-module _ (alphabet : List Line) (tokens : List Token) (fs : List Frame) (i : ℕ)
+module _ (alphabet : Letters) (tokens : List Token) (fs : List Frame) (i : ℕ)
     (before : List Event) where
   -- a label that refuses the token's text leads nowhere
   refused : (label : Label) (token : Token) → slice_get tokens (skip tokens i) ≡ Some token →
@@ -184,7 +184,7 @@ module _ (alphabet : List Line) (tokens : List Token) (fs : List Frame) (i : ℕ
         ],
   )
 
-module _ (alphabet : List Line) (edges : List Edge) (places : List ℕ) where
+module _ (alphabet : Letters) (edges : List Edge) (places : List ℕ) where
   -- a token is there, and the places are enough for its text
   abbrev pub AreEnoughFor : Option Token → Type 0
   AreEnoughFor o = IsSomeAnd o (λ token. AreEnough alphabet token.text edges places)
@@ -216,7 +216,7 @@ module _ (alphabet : List Line) (edges : List Edge) (places : List ℕ) where
   enough_for text (Some token) enough is =
       subst (λ (t : List ℕ). AreEnough alphabet t edges places) is enough
 
-module _ (alphabet : List Line) (net : List NetGraph) (texts : List (List ℕ)) (key : LookUp)
+module _ (alphabet : Letters) (net : List NetGraph) (texts : List (List ℕ)) (key : LookUp)
     (state : State) (found : slice_get (states_of net key.graph) key.state ≡ Some state)
     (places : List ℕ) where
   -- the token's number is that of the key

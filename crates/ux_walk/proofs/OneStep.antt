@@ -2,7 +2,7 @@
 use Rattle.std.proofs.Common.{◌≡◌, ℕ, List, [], ◌∷◌, ◌++◌, refl, sym, ◌∙◌, ap, subst, ◌⊎◌, inl, inr, append_assoc, append-nil, reverse}
 use Rattle.std.specs.Prelude.{Some, slice_get, Contains}
 use Rattle.std.proofs.lemmas.List.{reverse-append}
-use Rattle.ux_alphabet.specs.declared.line.Line.{Line}
+use Rattle.ux_alphabet.specs.Letters.{Letters}
 use Rattle.ux_tokens.specs.Tokens.{Token}
 use Rattle.ux_net.specs.declared.label.Label.{Label}
 use Rattle.ux_net.specs.declared.label.Label.TheVariants.{Empty, Fold, Exact, Space, Glue, Call}
@@ -32,7 +32,7 @@ onto-reverse (event ∷ before) later =
 pub onto-none : (before : List Event) → onto before [] ≡ reverse before
 onto-none before = onto-reverse before [] ∙ append-nil (reverse before)
 
-module _ (alphabet : List Line) (tokens : List Token) (graphs : List NetGraph) where
+module _ (alphabet : Letters) (tokens : List Token) (graphs : List NetGraph) where
   -- from this state of the graph an end is reached, from i to j with these events
   pub record Goes (g n i j : ℕ) (events : List Event) : Type 0 where
     pub last : ℕ

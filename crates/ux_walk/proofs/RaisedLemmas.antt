@@ -8,10 +8,10 @@ use Rattle.std.proofs.Math.ListN.{get_or-map}
 use Rattle.std.proofs.lemmas.List.Elements.{Contains-append_left, Contains-push, Contains-push_cases}
 use Rattle.std.proofs.lemmas.Option.{same_Some, slice_get_within, get_or_from_slice_get}
 use Rattle.ux_net.proofs.JoinedLemmas.{less_or}
-use Rattle.ux_alphabet.specs.declared.line.Line.{Line}
+use Rattle.ux_alphabet.specs.Letters.{Letters}
 use Rattle.ux_walk.specs.Fronts.{AreRaised, IsPlainChar}
 
-module _ (alphabet : List Line) (slices : List (Bor (List ℕ))) where
+module _ (alphabet : Letters) (slices : List (Bor (List ℕ))) where
   -- of the texts before the place, those that others may fit are listed
   abbrev pub AreRaisedBefore : ℕ → List ℕ → Type 0
   AreRaisedBefore m raised = (n : ℕ) (text : List ℕ) → n < m →

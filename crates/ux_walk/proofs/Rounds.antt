@@ -3,7 +3,7 @@ use Rattle.std.proofs.Common.{arith, ◌≡◌, ℕ, ◌+◌, ◌-◌, ◌<◌, 
 use Rattle.std.specs.Prelude.{Contains}
 use Rattle.std.proofs.lemmas.Option.{slice_get_within}
 use Rattle.std.proofs.lemmas.List.Elements.{Contains-append_left, Contains-append_right, Contains-append_cases, Contains-push, Contains-push_cases}
-use Rattle.ux_alphabet.specs.declared.line.Line.{Line}
+use Rattle.ux_alphabet.specs.Letters.{Letters}
 use Rattle.ux_tokens.specs.Tokens.{Token}
 use Rattle.ux_net.specs.declared.net_graph.NetGraph.{NetGraph}
 use Rattle.ux_net.specs.Nets.{net_grammar}
@@ -44,7 +44,7 @@ nothing_below {A} links none = subst (λ (l : List (Link A)). AreBelow l) (sym n
     empty : let no : List (Link A) = [] in AreBelow no
     empty i link at = absurd (let w = slice_get_within [] i link at in omega (arith, w))
 
-module _ (alphabet : List Line) (tokens : List Token) (graphs : List NetGraph) (start : ℕ) where
+module _ (alphabet : Letters) (tokens : List Token) (graphs : List NetGraph) (start : ℕ) where
   -- what was found, and what the pending configurations give, is all that is derived
   pub record Walking (r : Reached) : Type 0 where
     pub sound : IsSound r

@@ -1,13 +1,13 @@
 -- Grammars whose graphs have the same words derive the same.
 use Rattle.std.proofs.Common.{ℕ, List, ◌↔◌}
-use Rattle.ux_alphabet.specs.declared.line.Line.{Line}
+use Rattle.ux_alphabet.specs.Letters.{Letters}
 use Rattle.ux_tokens.specs.Tokens.{Token}
 use Rattle.ux_net.specs.declared.label.Label.{Label}
 use Rattle.ux_net.specs.Words.{Grammar, IsWord, HaveSameWords}
 use Rattle.ux_outputs.specs.declared.event.Event.{Event}
 use Rattle.ux_walk.specs.Derivations.{Seq, done, takes, stays, calls, Der}
 
-module _ (alphabet : List Line) (tokens : List Token) where
+module _ (alphabet : Letters) (tokens : List Token) where
   module _ (old new : Grammar)
       (has : (g : ℕ) (word : List Label) → IsWord (old.graph g) word → IsWord (new.graph g) word)
     where

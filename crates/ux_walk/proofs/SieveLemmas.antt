@@ -3,7 +3,7 @@ use Rattle.std.proofs.Common.{◌≡◌, ℕ, ◌+◌, ◌<◌, List, [], ◌∷
 use Rattle.std.specs.Prelude.{Some, None, Option, slice_get, IfSome, IsSomeAnd, Result, Ok, Err}
 use Rattle.std.specs.Result.{OkIff, result_ok}
 use Rattle.std.proofs.lemmas.Option.{none-some, same_Some}
-use Rattle.ux_alphabet.specs.declared.line.Line.{Line}
+use Rattle.ux_alphabet.specs.Letters.{Letters}
 use Rattle.ux_tokens.specs.declared.kind.Kind.{Kind}
 use Rattle.ux_tokens.specs.declared.kind.Kind.TheVariants as kind
 use Rattle.ux_tokens.specs.Tokens.{Token}
@@ -47,7 +47,7 @@ skip_stays tokens p none = go (kind_of (slice_get tokens p)) refl
     go (Some kind.Stop) is = refl
     go (Some kind.Tag) is = refl
 
-module _ (alphabet : List Line) (tokens : List Token) (net : List NetGraph) (start : ℕ) where
+module _ (alphabet : Letters) (tokens : List Token) (net : List NetGraph) (start : ℕ) where
   abbrev texts : List (List ℕ)
   texts = different_texts tokens
 

@@ -4,7 +4,7 @@ use Rattle.std.specs.Prelude.{Some, None, slice_get, Contains, IsTrue}
 use Rattle.std.proofs.lemmas.Option.{same_Some, none-some}
 use Rattle.std.proofs.lemmas.List.{take_more, take_all}
 use Rattle.std.proofs.lemmas.List.Elements.{Contains-append_left, Contains-get_or, Contains-push_cases, Contains-push}
-use Rattle.ux_alphabet.specs.declared.line.Line.{Line}
+use Rattle.ux_alphabet.specs.Letters.{Letters}
 use Rattle.ux_tokens.specs.Tokens.{Token}
 use Rattle.ux_net.specs.declared.label.Label.{Label}
 use Rattle.ux_net.specs.declared.label.Label.TheVariants.{Call}
@@ -66,7 +66,7 @@ module _ (r new : Reached) (c : Config) where
       absurd (none-some _ (sym none ∙ spells.frames.1))
 
 -- the label applies at the position in just this way
-pub record IsPassage (alphabet : List Line) (tokens : List Token) (label : Label) (i : ℕ)
+pub record IsPassage (alphabet : Letters) (tokens : List Token) (label : Label) (i : ℕ)
     (r : Passage) : Type 0 where
   pub takes : (k : ℕ) → (r ≡ passage.Takes k) ↔ Takes alphabet tokens label i k
   pub stays : (r ≡ passage.Stays) ↔ Stays tokens label i
@@ -78,7 +78,7 @@ takes_once k m h = cc
 calls_once : (k m : ℕ) → passage.Calls k ≡ passage.Calls m → k ≡ m
 calls_once k m h = cc
 
-module _ (alphabet : List Line) (tokens : List Token) (label : Label) (f : Frame)
+module _ (alphabet : Letters) (tokens : List Token) (label : Label) (f : Frame)
     (fs : List Frame) (i : ℕ) (before : List Event) (r : Passage)
     (is : IsPassage alphabet tokens label i r) (w : Course) where
   pub behind_takes : (k : ℕ) → r ≡ passage.Takes k →
@@ -181,7 +181,7 @@ module _ {S : Type 0} (Leads : S → Course → Type 0) where
   adds_all old now all i past adds =
       subst (λ (l : List S). Adds (Among l) old now) (take_all i all past) adds
 
-module _ (alphabet : List Line) (tokens : List Token) (graphs : List NetGraph) (c : Config) where
+module _ (alphabet : Letters) (tokens : List Token) (graphs : List NetGraph) (c : Config) where
   abbrev Next : List Frame → List Event → Course → Type 0
   Next back before = GoesOn alphabet tokens graphs c.here back c.at before
 
@@ -244,7 +244,7 @@ module _ (alphabet : List Line) (tokens : List Token) (graphs : List NetGraph) (
               ],
         ))
 
-module _ (alphabet : List Line) (tokens : List Token) (graphs : List NetGraph) where
+module _ (alphabet : Letters) (tokens : List Token) (graphs : List NetGraph) where
   -- a course one step on from one for which a configuration stands, which stands for no other
   pub adds_after : (old now new : Reached) (c : Config) (v : Course) → (kept : Keeps old now) →
       IsNamed old c v → IsSound now → AddsFrom now new c (λ back before.

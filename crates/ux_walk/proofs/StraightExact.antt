@@ -3,7 +3,7 @@ use Rattle.std.proofs.Common.{arith, ◌≡◌, ℕ, ◌+◌, ◌≤◌, List, [
 use Rattle.std.specs.Prelude.{Contains, Some, Option, slice_get, IsSomeAnd}
 use Rattle.std.proofs.lemmas.List.{append-nil}
 use Rattle.std.proofs.lemmas.List.Elements.{Contains-append_left, Contains-push, Contains-push_cases}
-use Rattle.ux_alphabet.specs.declared.line.Line.{Line}
+use Rattle.ux_alphabet.specs.Letters.{Letters}
 use Rattle.ux_tokens.specs.Tokens.{Token}
 use Rattle.ux_tokens.specs.Numbers.{different_texts}
 use Rattle.ux_net.specs.declared.net_graph.NetGraph.{NetGraph}
@@ -23,7 +23,7 @@ use Rattle.ux_walk.proofs.OneStep.{starts_forth, starts_back}
 use Rattle.ux_walk.proofs.FrontsLemmas.{stands_kept, stands_nowhere}
 use Rattle.ux_walk.proofs.StraightLemmas.{IsAhead, IsOver, Standing, ahead_back, ahead_forth, turn_back, turn_forth}
 
-module _ (alphabet : List Line) (tokens : List Token) (net : List NetGraph) (start : ℕ) where
+module _ (alphabet : Letters) (tokens : List Token) (net : List NetGraph) (start : ℕ) where
   abbrev texts : List (List ℕ)
   texts = different_texts tokens
 

@@ -2,7 +2,7 @@
 use Rattle.std.proofs.Common.{◌≡◌, ℕ, ◌+◌, List, [], ◌∷◌, ◌⊎◌, ◌↔◌, inl, inr, refl, sym, ◌∙◌, ap, subst, reverse}
 use Rattle.std.specs.Prelude.{Contains, Some, slice_get}
 use Rattle.std.proofs.lemmas.Option.{same_Some}
-use Rattle.ux_alphabet.specs.declared.line.Line.{Line}
+use Rattle.ux_alphabet.specs.Letters.{Letters}
 use Rattle.ux_tokens.specs.Tokens.{Token}
 use Rattle.ux_net.specs.declared.label.Label.{Label}
 use Rattle.ux_net.specs.declared.label.Label.TheVariants.{Empty, Fold, Exact, Space, Glue, Call}
@@ -24,7 +24,7 @@ use Rattle.ux_walk.proofs.OneStep.{Completes, Ends, step_forth, step_back, onto,
 abbrev pub main_at : ℕ → Frame
 main_at s = record { graph = 1; state = s }
 
-module _ (alphabet : List Line) (tokens : List Token) (net : List NetGraph) where
+module _ (alphabet : Letters) (tokens : List Token) (net : List NetGraph) where
   -- some state of the front goes on to this end with these events
   abbrev pub Standing : Fronts → (front at : ℕ) → List Event → ℕ → List Event → Type 0
   Standing fronts front at before j es =

@@ -10,43 +10,11 @@ use Rattle.std.proofs.lemmas.List.Elements.{Contains-get_or, Contains-push_cases
 use Rattle.std.proofs.lemmas.List.Folds.{list_any_at}
 use Rattle.std.proofs.lemmas.Option.{same_Some, slice_get_within, slice_get-get_or, get_or_from_slice_get}
 use Rattle.ux_tokens.specs.Tokens.{Token}
-use Rattle.ux_tokens.specs.Numbers.{StandOnce, different_texts, each_once, with_text}
-use Rattle.ux_tokens.proofs.NumbersLemmas.{each_once-push, with_text-keeps}
+use Rattle.ux_base.specs.Distinct.{StandOnce, each_once, with_text}
+use Rattle.ux_tokens.specs.Numbers.{different_texts}
+use Rattle.ux_base.proofs.DistinctLemmas.{each_once-keeps, each_once-push, length-with_text, with_text-from, with_text-there}
 use Rattle.ux_net.proofs.NamesLemmas.{named_at, named_there}
 use Rattle.ux_walk.specs.Fronts.{AreUtf8}
-
--- a text that stands there is not added again
-with_text-there : (texts : List (List ℕ)) (text : List ℕ) (n : ℕ) →
-    slice_get texts n ≡ Some text → with_text texts text ≡ texts
-with_text-there texts text n at =
-    let here : list_any (bytes_eq text) texts ≡ true =
-    list_any_at (bytes_eq text) texts n text (slice_get_within texts n text at)
-    ((bytes_eq-Decides text (get_or texts n text)).1
-    (sym (get_or_from_slice_get texts n text text at))) in
-    ap (λ (b : Bool). cond b texts (texts ++ text ∷ [])) here
-
--- one text more at most
-length-with_text : (texts : List (List ℕ)) (text : List ℕ) →
-    length (with_text texts text) ≤ length texts + 1
-length-with_text texts text = by (list_any (bytes_eq text) texts)
-  where
-    by : (b : Bool) → length (cond b texts (texts ++ text ∷ [])) ≤ length texts + 1
-    by true = omega arith
-    by false = omega (arith, length_push texts text)
-
--- what stands there after a text is added stood there before, or is this text
-with_text-from : (texts : List (List ℕ)) (text : List ℕ) (n : ℕ) (other : List ℕ) →
-    slice_get (with_text texts text) n ≡ Some other → Contains texts other ⊎ (text ≡ other)
-with_text-from texts text n other = by (list_any (bytes_eq text) texts)
-  where
-    stands : (all : List (List ℕ)) → slice_get all n ≡ Some other → Contains all other
-    stands all at = subst (Contains all) (get_or_from_slice_get all n other other at)
-        (Contains-get_or all n other (slice_get_within all n other at))
-
-    by : (b : Bool) → slice_get (cond b texts (texts ++ text ∷ [])) n ≡ Some other →
-        Contains texts other ⊎ (text ≡ other)
-    by true at = inl (stands texts at)
-    by false at = Contains-push_cases texts text other (stands (texts ++ text ∷ []) at)
 
 -- texts that are UTF-8 stay so as one is added that is
 utf8_more : (texts : List (List ℕ)) (text : List ℕ) → AreUtf8 texts → IsUtf8 text →
@@ -56,19 +24,6 @@ utf8_more texts text before this n other at = elim (with_text-from texts text n 
       (slice_get-get_or texts there.0 other there.1 ∙ ap (λ (t : List ℕ). Some t) there.2)
   | inr is ↦ subst IsUtf8 is this
 ]
-
--- what stands at a place stays there as more texts follow
-each_once-keeps : (texts more : List (List ℕ)) (n : ℕ) (text : List ℕ) →
-    slice_get (each_once texts) n ≡ Some text → slice_get (each_once (texts ++ more)) n ≡ Some text
-each_once-keeps texts [] n text at =
-    subst (λ (l : List (List ℕ)). slice_get (each_once l) n ≡ Some text)
-    (sym (append-nil texts)) at
-each_once-keeps texts (next ∷ more) n text at =
-    subst (λ (l : List (List ℕ)). slice_get (each_once l) n ≡ Some text)
-    (append_assoc texts (next ∷ []) more)
-    (each_once-keeps (texts ++ next ∷ []) more n text
-    (subst (λ (l : List (List ℕ)). slice_get l n ≡ Some text) (sym (each_once-push texts next))
-    (with_text-keeps (each_once texts) next n text at)))
 
 module _ (tokens : List Token) (i : ℕ) where
   -- the different texts of one token more

@@ -1,6 +1,7 @@
--- Courses of a walk and how each goes on, and the numbers that name them.
+-- Courses of a walk and how each goes on, and the numbers that name them. Inner: the crate's own
+-- functions alone speak of it.
 use Rattle.std.specs.Prelude.{◌≡◌, ℕ, List, [], ◌∷◌, ◌⊎◌, ◌↔◌, Some, slice_get, Contains, IsTrue, reverse}
-use Rattle.ux_alphabet.specs.declared.line.Line.{Line}
+use Rattle.ux_alphabet.specs.Letters.{Letters}
 use Rattle.ux_tokens.specs.Tokens.{Token}
 use Rattle.ux_net.specs.declared.label.Label.{Label}
 use Rattle.ux_net.specs.declared.label.Label.TheVariants.{Call}
@@ -24,7 +25,7 @@ pub record Course : Type 0 where
   pub at : ℕ
   pub before : List Event
 
-module _ (alphabet : List Line) (tokens : List Token) where
+module _ (alphabet : Letters) (tokens : List Token) where
   -- the course behind a label, which leads to a frame: the label takes tokens, or stays, or calls
   abbrev pub IsBehind : Label → Frame → List Frame → ℕ → List Event → Course → Type 0
   IsBehind label f fs i before w =
@@ -127,7 +128,7 @@ abbrev pub AddsFrom : Reached → Reached → Config →
 AddsFrom old new c Told = (back : List Frame) (before : List Event) →
     IsSound old → Spells old c back before → Adds (Told back before) old new
 
-module _ (alphabet : List Line) (tokens : List Token) (graphs : List NetGraph) where
+module _ (alphabet : Letters) (tokens : List Token) (graphs : List NetGraph) where
   -- a course one step on from one for which the configuration stands
   abbrev pub IsAfter : Reached → Config → Course → Type 0
   IsAfter r c w = (back : List Frame) × (before : List Event) × Spells r c back before

@@ -1,9 +1,9 @@
--- What the words of a grammar derive over the tokens of a text. The manual, on Locate.
+-- What the words of a grammar derive over the tokens of a text. The manual, on Locate. Public: the
+-- crate's public contracts speak of it.
 use Rattle.std.specs.Prelude.{◌≡◌, ℕ, ◌+◌, List, [], ◌∷◌, ◌++◌, Some, slice_get}
 use Rattle.std.specs.List.{AllZip}
 use Rattle.std.specs.Str.{chars}
-use Rattle.ux_alphabet.specs.declared.line.Line.{Line}
-use Rattle.ux_alphabet.specs.Letters.{Fits}
+use Rattle.ux_alphabet.specs.Letters.{Letters, Fits}
 use Rattle.ux_tokens.specs.declared.kind.Kind.{Kind}
 use Rattle.ux_tokens.specs.declared.kind.Kind.TheVariants as kind
 use Rattle.ux_tokens.specs.Tokens.{Token}
@@ -24,7 +24,7 @@ MayStandFor kind.Stop = ⊥
 MayStandFor kind.Tag = ⊥
 
 -- the token is of as many characters as the text, and each fits
-abbrev pub FoldsTo : List Line → List ℕ → Token → Type 0
+abbrev pub FoldsTo : Letters → List ℕ → Token → Type 0
 FoldsTo alphabet text token = AllZip (Fits alphabet) (chars text) (chars token.text)
 
 -- behind an optional space, one word or other character that is so
@@ -38,7 +38,7 @@ abbrev pub IsSpaceAt : List Token → ℕ → Type 0
 IsSpaceAt tokens p = kind_of (slice_get tokens p) ≡ Some kind.Space
 
 -- the label takes the tokens from position p to position k
-abbrev pub Takes : List Line → List Token → Label → ℕ → ℕ → Type 0
+abbrev pub Takes : Letters → List Token → Label → ℕ → ℕ → Type 0
 Takes alphabet tokens (Fold text) p k = TakesToken tokens (FoldsTo alphabet text) p k
 Takes alphabet tokens (Exact text) p k = TakesToken tokens (λ token. token.text ≡ text) p k
 Takes alphabet tokens Space p k = IsSpaceAt tokens p × (k ≡ p + 1)
@@ -55,7 +55,7 @@ Stays tokens (Exact text) p = ⊥
 Stays tokens Space p = ⊥
 Stays tokens (Call graph) p = ⊥
 
-module _ (alphabet : List Line) (tokens : List Token) (grammar : Grammar) where
+module _ (alphabet : Letters) (tokens : List Token) (grammar : Grammar) where
   -- the labels of a word apply one after another, from a position to a position; what is called
   -- applies whole
   pub data Seq : List Label → ℕ → ℕ → List Event → Type 0 where

@@ -1,7 +1,8 @@
--- The positions at which derivations from a start end.
+-- The positions at which derivations from a start end. Public: the crate's public contracts speak
+-- of it.
 use Rattle.std.specs.Prelude.{◌≡◌, ◌↔◌, ◌⊎◌, ◌<◌, ◌≤◌, ℕ, List, [], ◌∷◌, ◌++◌, Contains}
 use Rattle.std.specs.List.Sorted.{IsStrictlyIncreasing}
-use Rattle.ux_alphabet.specs.declared.line.Line.{Line}
+use Rattle.ux_alphabet.specs.Letters.{Letters}
 use Rattle.ux_tokens.specs.Tokens.{Token}
 use Rattle.ux_net.specs.declared.net_graph.NetGraph.{NetGraph}
 use Rattle.ux_net.specs.Nets.{net_grammar}
@@ -11,7 +12,7 @@ use Rattle.ux_walk.specs.declared.fronts.Reading.TheVariants.{Beyond, Through, F
 use Rattle.ux_walk.specs.Derivations.{Der}
 
 -- these are the positions behind the start at which a derivation from it ends, in order
-pub record AreEnds (alphabet : List Line) (tokens : List Token) (net : List NetGraph) (start : ℕ)
+pub record AreEnds (alphabet : Letters) (tokens : List Token) (net : List NetGraph) (start : ℕ)
     (ends : List ℕ) : Type 0 where
   pub exactly : (e : ℕ) → Contains ends e ↔ ((start < e) × (events : List Event)
       × Der alphabet tokens (net_grammar net) 1 start e events)

@@ -1,11 +1,12 @@
 -- Fronts: the states in which walks stand that took the same tokens, as long as only literals stand
--- on their edges. And the tokens that a literal fits.
+-- on their edges. And the tokens that a literal fits. Inner, but for what it says of the public
+-- tables `Fronts` and `Sieve`.
 use Rattle.std.specs.Prelude.{◌≡◌, ℕ, ◌≤◌, List, [], ◌∷◌, ◌⊎◌, ◌↔◌, Some, slice_get, Contains, All, length, map}
 use Rattle.std.specs.List.{AllZip}
 use Rattle.std.specs.Str.{chars, IsUtf8}
-use Rattle.ux_alphabet.specs.declared.line.Line.{Line}
-use Rattle.ux_alphabet.specs.Letters.{Fits}
-use Rattle.ux_tokens.specs.Numbers.{StandOnce, texts_in}
+use Rattle.ux_alphabet.specs.Letters.{Letters, Fits}
+use Rattle.ux_base.specs.Distinct.{StandOnce}
+use Rattle.ux_tokens.specs.Numbers.{texts_in}
 use Rattle.ux_net.specs.declared.label.Label.{Label}
 use Rattle.ux_net.specs.declared.label.Label.TheVariants.{Empty, Fold, Exact, Space, Glue, Call}
 use Rattle.ux_net.specs.declared.state.Edge.{Edge}
@@ -32,7 +33,7 @@ IsLiteral Glue = ⊥
 IsLiteral (Call graph) = ⊥
 
 -- a literal fits this text of a token
-abbrev pub FitsText : List Line → Label → List ℕ → Type 0
+abbrev pub FitsText : Letters → Label → List ℕ → Type 0
 FitsText alphabet (Fold entry) text = AllZip (Fits alphabet) (chars entry) (chars text)
 FitsText alphabet (Exact exact) text = text ≡ exact
 FitsText alphabet Empty text = ⊥
@@ -50,7 +51,7 @@ IsFixed Glue text = ⊥
 IsFixed (Call graph) text = ⊥
 
 -- a literal fits the token of this number
-abbrev pub IsFitted : List Line → List (List ℕ) → Label → ℕ → Type 0
+abbrev pub IsFitted : Letters → List (List ℕ) → Label → ℕ → Type 0
 IsFitted alphabet texts label n =
     (text : List ℕ) × (slice_get texts n ≡ Some text) × FitsText alphabet label text
 
@@ -63,11 +64,11 @@ abbrev pub AreUtf8 : List (List ℕ) → Type 0
 AreUtf8 texts = (n : ℕ) (text : List ℕ) → slice_get texts n ≡ Some text → IsUtf8 text
 
 -- no other character fits it
-abbrev pub IsPlainChar : List Line → ℕ → Type 0
+abbrev pub IsPlainChar : Letters → ℕ → Type 0
 IsPlainChar alphabet c = (entry : ℕ) → Fits alphabet entry c → entry ≡ c
 
 -- only these tokens may be fitted by a literal of another text
-abbrev pub AreRaised : List Line → List (List ℕ) → List ℕ → Type 0
+abbrev pub AreRaised : Letters → List (List ℕ) → List ℕ → Type 0
 AreRaised alphabet texts raised = (n : ℕ) (text : List ℕ) → slice_get texts n ≡ Some text →
     Contains raised n ⊎ All (IsPlainChar alphabet) (chars text)
 
@@ -85,7 +86,7 @@ count_of Glue = 0
 count_of (Call graph) = 0
 
 -- the words are these texts, by number
-pub record AreReady (alphabet : List Line) (texts : List (List ℕ)) (words : Words) : Type 0 where
+pub record AreReady (alphabet : Letters) (texts : List (List ℕ)) (words : Words) : Type 0 where
   pub texts_are : texts_in words.texts ≡ texts
   pub once : StandOnce texts
   pub few : length texts ≤ 4294967296
@@ -94,7 +95,7 @@ pub record AreReady (alphabet : List Line) (texts : List (List ℕ)) (words : Wo
   pub raised_are : AreRaised alphabet texts words.raised.items
 
 -- the edge leads there over a token of this number
-abbrev pub IsTurnOver : List Line → List (List ℕ) → Edge → (number to : ℕ) → Type 0
+abbrev pub IsTurnOver : Letters → List (List ℕ) → Edge → (number to : ℕ) → Type 0
 IsTurnOver alphabet texts edge number to =
     IsFitted alphabet texts edge.label number × (to ≡ edge.target)
 
@@ -112,7 +113,7 @@ TurnsTo fronts front number state =
     × HasTurn fronts.turns (record { front = front; number = number }) next
     × Stands (links_of fronts) next state
 
-module _ (alphabet : List Line) (texts : List (List ℕ)) (net : List NetGraph) where
+module _ (alphabet : Letters) (texts : List (List ℕ)) (net : List NetGraph) where
   -- an edge of a state of the main graph leads to another over the token of this number
   abbrev pub Leads : (from number to : ℕ) → Type 0
   Leads from number to =

@@ -1,9 +1,9 @@
--- Which edges of a state may apply at a token, by its text, and lists of them that are kept.
+-- Which edges of a state may apply at a token, by its text, and lists of them that are kept. Inner,
+-- but for what it says of the public table `LookUps`.
 use Rattle.std.specs.Prelude.{◌≡◌, ℕ, List, ◌⊎◌, Some, slice_get, Contains}
 use Rattle.std.specs.List.{AllZip}
 use Rattle.std.specs.Str.{chars}
-use Rattle.ux_alphabet.specs.declared.line.Line.{Line}
-use Rattle.ux_alphabet.specs.Letters.{Fits}
+use Rattle.ux_alphabet.specs.Letters.{Letters, Fits}
 use Rattle.ux_net.specs.declared.label.Label.{Label}
 use Rattle.ux_net.specs.declared.label.Label.TheVariants.{Empty, Fold, Exact, Space, Glue, Call}
 use Rattle.ux_net.specs.declared.state.Edge.{Edge}
@@ -14,7 +14,7 @@ use Rattle.ux_walk.specs.declared.look_ups.LookUp.{LookUp}
 use Rattle.ux_walk.specs.declared.look_ups.LookUps.{LookUps}
 
 -- whatever its kind, no token of this text is taken by the label, which takes nothing else
-abbrev pub Refuses : List Line → Label → List ℕ → Type 0
+abbrev pub Refuses : Letters → Label → List ℕ → Type 0
 Refuses alphabet (Fold entry) text = AllZip (Fits alphabet) (chars entry) (chars text) → ⊥
 Refuses alphabet (Exact exact) text = text ≡ exact → ⊥
 Refuses alphabet Space text = ⊥
@@ -23,7 +23,7 @@ Refuses alphabet Glue text = ⊥
 Refuses alphabet (Call graph) text = ⊥
 
 -- each edge stands at one of the places, or its label refuses the text
-abbrev pub AreEnough : List Line → List ℕ → List Edge → List ℕ → Type 0
+abbrev pub AreEnough : Letters → List ℕ → List Edge → List ℕ → Type 0
 AreEnough alphabet text edges places = (n : ℕ) (edge : Edge) → slice_get edges n ≡ Some edge →
     Contains places n ⊎ Refuses alphabet edge.label text
 
@@ -32,7 +32,7 @@ abbrev pub IsListed : LookUps → LookUp → List ℕ → Type 0
 IsListed look_ups key places = Contains look_ups.table.entries (key, places)
 
 -- each list that is kept is enough for its state at a token of its number
-pub record AreSound (alphabet : List Line) (net : List NetGraph) (texts : List (List ℕ))
+pub record AreSound (alphabet : Letters) (net : List NetGraph) (texts : List (List ℕ))
     (look_ups : LookUps) : Type 0 where
   pub enough : (key : LookUp) (places : List ℕ) → IsListed look_ups key places →
       (state : State) (text : List ℕ) →

@@ -1,4 +1,5 @@
--- Marks of turns, by places that some turns share.
+-- Marks of turns, by places that some turns share. Inner: the crate's own functions alone speak of
+-- it.
 use Rattle.std.specs.Prelude.{◌≡◌, ℕ, ◌+◌, ◌*◌, ◌%◌, List, Contains, Some, false, slice_get}
 use Rattle.ux_walk.specs.declared.turns.Turn.{Turn}
 use Rattle.ux_walk.specs.declared.marks.Marks.{Marks}

@@ -1,6 +1,7 @@
--- Sieves: which two tokens a walk may begin with.
+-- Sieves: which two tokens a walk may begin with. Inner, but for what it says of the public table
+-- `Sieve`.
 use Rattle.std.specs.Prelude.{◌≡◌, ◌↔◌, ℕ, List, Option}
-use Rattle.ux_alphabet.specs.declared.line.Line.{Line}
+use Rattle.ux_alphabet.specs.Letters.{Letters}
 use Rattle.ux_net.specs.declared.net_graph.NetGraph.{NetGraph}
 use Rattle.ux_walk.specs.declared.fronts.Fronts.{Fronts}
 use Rattle.ux_walk.specs.declared.fronts.Reading.TheVariants.{Through}
@@ -27,7 +28,7 @@ AreBegins fronts begins = (number front : ℕ) → HasValue begins number front 
     IsBegin fronts number front
 
 -- the sieve is of some fronts that are kept: it holds back no two tokens that they lead over
-pub record IsSieve (alphabet : List Line) (texts : List (List ℕ)) (net : List NetGraph)
+pub record IsSieve (alphabet : Letters) (texts : List (List ℕ)) (net : List NetGraph)
     (sieve : Sieve) : Type 0 where
   pub fronts : Fronts
   pub kept : AreKept alphabet texts net fronts

@@ -1,4 +1,5 @@
--- Turns: to which front the next token leads from another.
+-- Turns: to which front the next token leads from another. Inner: the crate's own functions alone
+-- speak of it.
 use Rattle.std.specs.Prelude.{◌≡◌, ℕ, List, ◌⊎◌, Option, Some, slice_get, Contains}
 use Rattle.ux_walk.specs.declared.turns.Turn.{Turn}
 use Rattle.ux_walk.specs.declared.turns.Turns.{Turns}

@@ -6,7 +6,6 @@
 //! walk comes to it first, and kept.
 
 ghost use Rattle.std.specs.Prelude.{◌≡◌, ◌↔◌, ◌⊎◌, ◌∷◌, [], ℕ, Some, None, Contains, IfOk, IfSome, IsTrue, List, Ok, OnOk, length, slice_get, true};
-ghost use Rattle.ux_alphabet.specs.declared.line.Line.{Line};
 ghost use Rattle.ux_net.specs.declared.net_graph.NetGraph.{NetGraph};
 ghost use Rattle.ux_net.specs.declared.state.State.{State};
 ghost use Rattle.ux_net.specs.declared.state.Edge.{Edge};

@@ -4,7 +4,7 @@
 //! by the token's text alone, and so by its number. A list leaves out nothing that may apply.
 
 ghost use Rattle.std.specs.Prelude.{◌≡◌, ◌⊎◌, ◌<◌, ℕ, true, List, Contains, IfOk, IfSome, OnOk, length};
-ghost use Rattle.ux_alphabet.specs.declared.line.Line.{Line};
+ghost use Rattle.ux_alphabet.specs.Letters.{Letters};
 ghost use Rattle.ux_net.specs.declared.net_graph.NetGraph.{NetGraph};
 ghost use Rattle.ux_walk.specs.LookUps.{AreEnough, AreSound, IsListed};
 
@@ -39,7 +39,7 @@ pub struct LookUps {
 impl LookUps {
     /// No list yet. Takes no memory.
     pub fn new(alloc: Global) -> LookUps
-        ensures { (alphabet : List Line) (net : List NetGraph) (texts : List (List ℕ)) →
+        ensures { (alphabet : Letters) (net : List NetGraph) (texts : List (List ℕ)) →
             AreSound alphabet net texts result }
     {
         LookUps {

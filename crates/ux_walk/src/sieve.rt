@@ -5,7 +5,7 @@
 //! mark. So a start at which nothing begins ends at one branch, which a processor foresees.
 
 ghost use Rattle.std.specs.Prelude.{◌≡◌, ◌<◌, ◌≤◌, ℕ, List, IfOk, IfSome, OnOk, false, length};
-ghost use Rattle.ux_alphabet.specs.declared.line.Line.{Line};
+ghost use Rattle.ux_alphabet.specs.Letters.{Letters};
 ghost use Rattle.ux_net.specs.declared.net_graph.NetGraph.{NetGraph};
 ghost use Rattle.ux_net.specs.Nets.{net_grammar};
 ghost use Rattle.ux_outputs.specs.declared.event.Event.{Event};
@@ -60,7 +60,7 @@ impl Sieve {
     /// the two tokens.
     pub fn passes(&self, text: &Text, start: usize) -> bool
         requires inside { start < length text.now }
-        ensures { (alphabet : List Line) (net : List NetGraph) →
+        ensures { (alphabet : Letters) (net : List NetGraph) →
             IsSieve alphabet (different_texts text.now) net self.now →
             (IsSpaceAt text.now start → ⊥) → result ≡ false →
             (end : ℕ) (events : List Event) →

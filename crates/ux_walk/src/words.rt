@@ -6,7 +6,8 @@
 ghost use Rattle.std.specs.Prelude.{◌≡◌, ◌↔◌, ◌≤◌, ℕ, Some, Contains, IfOk, IsTrue, List, All, slice_get, length};
 ghost use Rattle.std.specs.Str.{IsUtf8, chars};
 ghost use Rattle.ux_net.specs.declared.label.Label.{Label};
-ghost use Rattle.ux_tokens.specs.Numbers.{StandOnce, different_texts, texts_in};
+ghost use Rattle.ux_base.specs.Distinct.{StandOnce};
+ghost use Rattle.ux_tokens.specs.Numbers.{different_texts, texts_in};
 ghost use Rattle.ux_walk.specs.Fronts.{AreCounted, AreRaised, AreReady, AreUtf8, FitsText, IsFitted, IsOf, IsPlainChar, count_of as count_of_label};
 
 use crate::matching::fits_text;

@@ -1,5 +1,5 @@
 -- Tests.
-use Rattle.std.proofs.Common.{arith, ◌≡◌, ◌∙◌, sym, refl, ℕ, suc, Bool, true, false, ◌==◌, Option, Some, None, is_some, if◌then◌else◌, ◌&&◌}
+use Rattle.std.proofs.Common.{arith, ◌≡◌, ◌∙◌, sym, refl, ℕ, suc, Bool, true, false, ◌==◌, Option, Some, None, is_some, if◌then◌else◌, ◌&&◌, not}
 use Rattle.std.proofs.lemmas.Bool.Decides.{nat_tests}
 
 pub and_left : (a b : Bool) → (a && b) ≡ true → a ≡ true
@@ -30,3 +30,7 @@ not_empty n = grind (arith, nat_tests)
 pub not_some : {T : Type 0} (x : Option T) → is_some x ≡ false → x ≡ None
 not_some None e = refl
 not_some (Some x) e = let wrong : true ≡ false = e in cc
+
+pub not_false : (b : Bool) → not b ≡ true → b ≡ false
+not_false true e = let wrong : false ≡ true = e in cc
+not_false false e = refl

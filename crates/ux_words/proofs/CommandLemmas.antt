@@ -1,7 +1,8 @@
 -- What clap makes of a command with these options: its rules as built, when it fails, and what it
 -- finds.
-use Rattle.std.proofs.Common.{◌≡◌, ◌∙◌, refl, sym, ap, Bool, true, false, not, ◌&&◌, ◌||◌, List, [], ◌∷◌, ◌++◌, map, fold, append_assoc, append-nil, Option, Some, None, is_some, count_by, codes, if◌then◌else◌}
+use Rattle.std.proofs.Common.{◌≡◌, ◌∙◌, refl, sym, ap, Bool, true, false, not, ◌&&◌, ◌||◌, List, [], ◌∷◌, ◌++◌, map, fold, append_assoc, append-nil, Option, Some, None, is_some, option_map, option_and_then, slice_get, ℕ, count_by, codes, if◌then◌else◌}
 use Rattle.std.specs.List.{list_all, list_any}
+use Rattle.std.specs.Option.{option_map_or}
 use Rattle.clap.specs.Kinds.{Kinds, or_else}
 use Rattle.clap.specs.Faults.{default_fault, defaults_fault, settle_fault, turn_fault, walk_fault, is_simple_and_free}
 use Rattle.clap.specs.Takes.{is_given}
@@ -10,11 +11,14 @@ use Rattle.clap.specs.declared.builder.value_parser.Reading.TheVariants.{AsWritt
 use Rattle.clap.specs.declared.parser.matches.ValueSource.TheVariants.{DefaultValue}
 use Rattle.clap.specs.Simple.{App, built, filled_from, with_rule, on_top, is_simple}
 use Rattle.ux_words.specs.declared.command.OptionName.{OptionName}
-use Rattle.ux_words.specs.declared.command.OptionName.TheVariants as option
-use Rattle.ux_words.specs.Matching.{option_rule, files_rule, BARE, FILES, app_with, Found, found_in, read_in}
+use Rattle.ux_words.specs.Matching.{option_rule, files_rule, BARE, FILES, app_with, Found, found_in, files_in, is_right, read_in, values_found}
+use Rattle.ux_words.specs.Requests.{Values}
+use Rattle.ux_words.specs.Tables.{ALL_OPTIONS, name_of, is_flag, has_value}
 use Rattle.ux_words.proofs.BoolLemmas.{not_some}
-use Rattle.ux_words.proofs.Uses.{built_option, rules_with, is_none}
+use Rattle.ux_words.proofs.Uses.{built_as, built_option, rules_with, is_none}
 use Rattle.ux_words.proofs.RowLemmas.{put, has_row-found, found-used}
+use Rattle.ux_words.proofs.TableLemmas.{not_files}
+use Rattle.ux_words.proofs.OptionLemmas.{same_after, told}
 use Rattle.ux_words.proofs.Walks.{shape_with, rows_at_end}
 
 -- AS BUILT
@@ -94,13 +98,11 @@ fine_default false = refl
 
 default_passes : (option : OptionName) (rows : List Row) →
     default_fault rows (built_option option) ≡ []
-default_passes option.Mode rows = never_checked (has_row (codes "mode") rows) _
-default_passes option.Policy rows = never_checked (has_row (codes "policy") rows) _
-default_passes option.NoVar rows = fine_default (has_row (codes "novar") rows)
-default_passes option.Left rows = never_checked (has_row (codes "left") rows) _
-default_passes option.Right rows = never_checked (has_row (codes "right") rows) _
-default_passes option.Sort rows = never_checked (has_row (codes "sort") rows) _
-default_passes option.Delas rows = fine_default (has_row (codes "delas") rows)
+default_passes option rows = by_case (is_flag option)
+  where
+    by_case : (flag : Bool) → default_fault rows (built_as flag (name_of option)) ≡ []
+    by_case true = fine_default (has_row (name_of option) rows)
+    by_case false = never_checked (has_row (name_of option) rows) _
 
 pub defaults_pass : (options : List OptionName) (rows : List Row) →
     defaults_fault rows (rules_with options) ≡ []
@@ -113,14 +115,31 @@ either_way : {T : Type 0} (b : Bool) (x : T) → (if b then x else x) ≡ x
 either_way true x = refl
 either_way false x = refl
 
--- a default changes nothing of what is read
-not_set : (found : Found) → found (codes "novar") ≡ None →
-    read_in (put (codes "novar") (codes "false" ∷ []) found) ≡ read_in found
-not_set found none = rw none refl
+abbrev read_by_parts : (rights : OptionName → Bool) → Values → (files : List (List ℕ)) →
+    Option (Values × List (List ℕ))
+read_by_parts rights values files = option_map (λ v. (v, files))
+    (if list_all rights ALL_OPTIONS then Some values else None)
 
-not_stems : (found : Found) → found (codes "delas") ≡ None →
-    read_in (put (codes "delas") (codes "false" ∷ []) found) ≡ read_in found
-not_stems found none = rw none refl
+-- what is right of the values that are found under an option's name
+abbrev rightly : OptionName → Option (List (List ℕ)) → Bool
+rightly option values = is_flag option || option_map_or (has_value option)
+    (option_and_then (λ v. slice_get v 0) values) true
+
+-- the default of a flag changes nothing of what is read
+not_set : (option : OptionName) → is_flag option ≡ true → (found : Found) →
+    found (name_of option) ≡ None →
+    read_in (put (name_of option) (codes "false" ∷ []) found) ≡ read_in found
+not_set option flag found none =
+    let after : Found = put (name_of option) (codes "false" ∷ []) found in
+    let rights : is_right after ≡ is_right found =
+    λ i other. same_after found option none rightly (codes "false" ∷ [])
+    (rw flag refl) other i in
+    let values : values_found after ≡ values_found found =
+    λ i other. same_after found option none told (codes "false" ∷ []) (rw flag refl) other i in
+    let files : files_in after ≡ files_in found = rw (not_files option) refl in
+    ap (λ r. read_by_parts r (values_found after) (files_in after)) rights
+    ∙ (ap (λ v. read_by_parts (is_right found) v (files_in after)) values
+    ∙ ap (read_by_parts (is_right found) (values_found found)) files)
 
 flag_default : (id : Text) (rows : List Row) → ((found : Found) → found id ≡ None →
     read_in (put id (codes "false" ∷ []) found) ≡ read_in found) → (given : Bool) →
@@ -134,15 +153,14 @@ flag_default id rows alike false e =
 
 read-default : (option : OptionName) (rows : List Row) →
     read_in (found_in (with_default rows (built_option option))) ≡ read_in (found_in rows)
-read-default option.Mode rows = rw (either_way (has_row (codes "mode") rows) rows) refl
-read-default option.Policy rows = rw (either_way (has_row (codes "policy") rows) rows) refl
-read-default option.NoVar rows =
-    flag_default (codes "novar") rows not_set (has_row (codes "novar") rows) refl
-read-default option.Left rows = rw (either_way (has_row (codes "left") rows) rows) refl
-read-default option.Right rows = rw (either_way (has_row (codes "right") rows) rows) refl
-read-default option.Sort rows = rw (either_way (has_row (codes "sort") rows) rows) refl
-read-default option.Delas rows =
-    flag_default (codes "delas") rows not_stems (has_row (codes "delas") rows) refl
+read-default option rows = by_case (is_flag option) refl
+  where
+    by_case : (flag : Bool) → is_flag option ≡ flag →
+        read_in (found_in (with_default rows (built_as flag (name_of option))))
+        ≡ read_in (found_in rows)
+    by_case true e = flag_default (name_of option) rows (not_set option e)
+        (has_row (name_of option) rows) refl
+    by_case false e = rw (either_way (has_row (name_of option) rows) rows) refl
 
 pub read-defaults : (options : List OptionName) (rows : List Row) →
     read_in (found_in (fold with_default rows (rules_with options))) ≡ read_in (found_in rows)

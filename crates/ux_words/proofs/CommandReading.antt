@@ -1,4 +1,4 @@
--- What the words behind a command give is what clap finds in them, where it takes them; and where
+-- What the words after a command give is what clap finds in them, where it takes them; and where
 -- it doesn't, they give nothing.
 use Rattle.std.proofs.Common.{◌≡◌, ◌∙◌, refl, sym, ap, ap₂, Bool, true, false, List, [], ◌∷◌, map, fold, Option, Some, None, String, string_bytes, option_map, option_and_then, if◌then◌else◌}
 use Rattle.std.proofs.lemmas.Str.{IsUtf8-string_bytes}

@@ -1,6 +1,6 @@
 -- Words whose request was told by hand from the manual's rules.
 use Rattle.std.proofs.Common.{◌≡◌, [], ◌∷◌, Some, None, codes, refl, true, false}
-use Rattle.ux_base.specs.declared.settings.Mode.TheVariants.{Ignore, Merge}
+use Rattle.ux_base.specs.declared.settings.Mode.TheVariants.{Ignore, Merge, Replace}
 use Rattle.ux_base.specs.declared.settings.Policy.TheVariants.{All, Longest}
 use Rattle.ux_base.specs.declared.settings.NoVar.TheVariants.{Nothing, Drop}
 use Rattle.ux_base.specs.declared.settings.Sort.TheVariants.{LC}
@@ -19,12 +19,13 @@ a_search :
       mode = Ignore;
       policy = All;
       novar = Nothing;
+      chars = false;
     }))
 a_search = refl
 
 -- options and names in any order, dictionaries in theirs
 a_search_with_options :
-    request_of (codes "locate" ∷ codes "--novar" ∷ codes "g" ∷ codes "--mode=merge" ∷ codes "t"
+    request_of (codes "locate" ∷ codes "--novar" ∷ codes "g" ∷ codes "--chars" ∷ codes "--mode=merge" ∷ codes "t"
     ∷ codes "a" ∷ codes "--policy" ∷ codes "longest" ∷ codes "d" ∷ codes "-" ∷ [])
     ≡ Some (request.Locate (record {
       graph = codes "g";
@@ -34,6 +35,7 @@ a_search_with_options :
       mode = Merge;
       policy = Longest;
       novar = Drop;
+      chars = true;
     }))
 a_search_with_options = refl
 
@@ -68,6 +70,7 @@ a_concordance :
       mode = Ignore;
       policy = All;
       novar = Nothing;
+      chars = false;
     }) 5 40 LC)
 a_concordance = refl
 
@@ -83,9 +86,9 @@ five_digits = refl
 
 -- THE OTHER COMMANDS
 
--- behind `--` what looks like an option is a name
+-- after `--` what looks like an option is a name
 a_text : request_of (codes "tokenize" ∷ codes "--" ∷ codes "--x" ∷ codes "--" ∷ [])
-    ≡ Some (request.Tokenize (codes "--x") (codes "--"))
+    ≡ Some (request.Tokenize (codes "--x") (codes "--") false)
 a_text = refl
 
 no_option : request_of (codes "tokenize" ∷ codes "--x" ∷ codes "t" ∷ codes "a" ∷ []) ≡ None
@@ -103,11 +106,11 @@ entries : request_of (codes "check" ∷ codes "d.dic" ∷ [])
 entries = refl
 
 dictionaries : request_of (codes "dico" ∷ codes "t" ∷ codes "a" ∷ codes "d" ∷ codes "e" ∷ [])
-    ≡ Some (request.Dico (codes "t") (codes "a") (codes "d" ∷ codes "e" ∷ []))
+    ≡ Some (request.Dico (codes "t") (codes "a") (codes "d" ∷ codes "e" ∷ []) false)
 dictionaries = refl
 
-a_grammar : request_of (codes "fst2" ∷ codes "g" ∷ codes "a" ∷ [])
-    ≡ Some (request.Fst2 (codes "g") (codes "a"))
+a_grammar : request_of (codes "fst2" ∷ codes "g" ∷ codes "a" ∷ codes "--chars" ∷ [])
+    ≡ Some (request.Fst2 (codes "g") (codes "a") true)
 a_grammar = refl
 
 forms : request_of (codes "inflect" ∷ codes "s" ∷ []) ≡ Some (request.Inflect (codes "s"))
@@ -117,7 +120,7 @@ an_image : request_of (codes "compress" ∷ codes "d" ∷ []) ≡ Some (request.
 an_image = refl
 
 sentences : request_of (codes "txt2tfst" ∷ codes "t" ∷ codes "a" ∷ [])
-    ≡ Some (request.Tfst (codes "t") (codes "a") [])
+    ≡ Some (request.Tfst (codes "t") (codes "a") [] false)
 sentences = refl
 
 a_rule : request_of (codes "elag" ∷ codes "f" ∷ codes "r" ∷ [])
@@ -135,6 +138,55 @@ too_many_words = refl
 
 no_words : request_of (codes "bench" ∷ codes "0" ∷ []) ≡ None
 no_words = refl
+
+steps : request_of (codes "cascade" ∷ codes "t" ∷ codes "a" ∷ codes "dic:d"
+    ∷ codes "merge07:g" ∷ codes "--trace" ∷ codes "replace:h:i" ∷ codes "dic:e" ∷ [])
+    ≡ Some (request.Cascade (codes "t") (codes "a") (record {
+      graph = codes "g";
+      mode = Merge;
+      times = 7;
+    } ∷ record {
+      graph = codes "h:i";
+      mode = Replace;
+      times = 1;
+    } ∷ []) (codes "d" ∷ codes "e" ∷ []) true)
+steps = refl
+
+no_step : request_of (codes "cascade" ∷ codes "t" ∷ codes "a" ∷ codes "dic:d" ∷ []) ≡ None
+no_step = refl
+
+no_times : request_of (codes "cascade" ∷ codes "t" ∷ codes "a" ∷ codes "merge0:g" ∷ []) ≡ None
+no_times = refl
+
+many_times : request_of (codes "cascade" ∷ codes "t" ∷ codes "a" ∷ codes "merge100:g" ∷ [])
+    ≡ None
+many_times = refl
+
+no_graph : request_of (codes "cascade" ∷ codes "t" ∷ codes "a" ∷ codes "merge:" ∷ []) ≡ None
+no_graph = refl
+
+a_flat_grammar : request_of (codes "flatten" ∷ codes "g" ∷ codes "--depth=0" ∷ codes "a" ∷ [])
+    ≡ Some (request.Flatten (codes "g") (codes "a") 0)
+a_flat_grammar = refl
+
+ten_deep : request_of (codes "flatten" ∷ codes "g" ∷ codes "a" ∷ [])
+    ≡ Some (request.Flatten (codes "g") (codes "a") 10)
+ten_deep = refl
+
+too_deep : request_of (codes "flatten" ∷ codes "g" ∷ codes "--depth=101" ∷ codes "a" ∷ []) ≡ None
+too_deep = refl
+
+places : request_of (codes "tfind" ∷ codes "g" ∷ codes "f" ∷ codes "a" ∷ [])
+    ≡ Some (request.Tfind (codes "g") (codes "f") (codes "a"))
+places = refl
+
+inside_words : request_of (codes "morpho" ∷ codes "g" ∷ codes "t" ∷ codes "a" ∷ codes "d" ∷ [])
+    ≡ Some (request.Morpho (codes "g") (codes "t") (codes "a") (codes "d" ∷ []))
+inside_words = refl
+
+a_compiled_graph : request_of (codes "morpho" ∷ codes "g.fst2" ∷ codes "t" ∷ codes "a" ∷ [])
+    ≡ None
+a_compiled_graph = refl
 
 -- THE PROGRAM ITSELF
 

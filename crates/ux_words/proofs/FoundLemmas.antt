@@ -1,62 +1,79 @@
 -- What is found after all uses is what they say.
-use Rattle.std.proofs.Common.{◌≡◌, ◌∙◌, refl, sym, ap, ℕ, Bool, true, false, List, [], ◌∷◌, ◌++◌, append-nil, Option, Some, None, is_some, option_map, option_and_then, codes, slice_get}
+use Rattle.std.proofs.Common.{◌≡◌, ◌∙◌, refl, sym, ap, ℕ, Bool, true, false, List, [], ◌∷◌, ◌++◌, append-nil, Option, Some, None, IsSome, is_some, option_map, option_and_then, option_to_list, codes, slice_get}
 use Rattle.std.specs.Option.{option_map_or}
 use Rattle.ux_words.specs.declared.command.OptionName.{OptionName}
-use Rattle.ux_words.specs.declared.command.OptionName.TheVariants as option
-use Rattle.ux_words.specs.declared.options.Options.{Options}
-use Rattle.ux_words.specs.Settings.{Setting}
-use Rattle.ux_words.specs.Tables.{setting_of, flag_of}
+use Rattle.ux_words.specs.Settings.{set}
+use Rattle.ux_words.specs.Tables.{ALL_OPTIONS, name_of, is_flag, has_value}
 use Rattle.ux_words.specs.Arguments.{Given, NOTHING, is_empty, with_setting}
-use Rattle.ux_words.specs.Requests.{options_of}
-use Rattle.ux_words.specs.Matching.{id_of, FILES, Found, is_right, fields_in, read_in}
+use Rattle.ux_words.specs.Requests.{Values, values_of}
+use Rattle.ux_words.specs.Matching.{FILES, Found, is_right, is_set, value_by, values_found, read_in}
 use Rattle.ux_words.proofs.BoolLemmas.{not_some}
-use Rattle.ux_words.proofs.Filling.{AreFilledBy, Repeats}
-use Rattle.ux_words.proofs.OptionLemmas.{options_of-filled, options_of-repeated}
+use Rattle.ux_words.proofs.OptionLemmas.{put-same, told, values_of-filled, values_of-repeated}
 use Rattle.ux_words.proofs.GivenLemmas.{with_all, with_all-name, with_all-setting}
-use Rattle.ux_words.proofs.Uses.{Use, named, flagged, valued, is_flag}
+use Rattle.ux_words.proofs.Uses.{Use, named, flagged, valued}
 use Rattle.ux_words.proofs.UseLemmas.{given_by}
-use Rattle.ux_words.proofs.FlagLemmas.{flag_made}
-use Rattle.ux_words.proofs.RuleLemmas.{own_name}
+use Rattle.ux_words.proofs.FlagLemmas.{flag_made, value_made, no_value_made}
+use Rattle.ux_words.proofs.TableLemmas.{all_pass, own_name}
 use Rattle.ux_words.proofs.RowLemmas.{put}
 use Rattle.ux_words.proofs.TakenLemmas.{AreRight, found_past}
-use Rattle.ux_words.proofs.SetLemmas.{value_again, flag_again}
-use Rattle.ux_words.proofs.FoundSteps.{HasIfGiven, IsFoundBy, put-same, name_more, value_more, flag_more}
+use Rattle.ux_words.proofs.FoundSteps.{HasIfGiven, IsSetIfGiven, IsFoundBy, name_more, value_more, flag_more}
 use Rattle.ux_words.proofs.WrongValues.{wrong_past}
 
--- what is given comes to options and names of files
-abbrev pub read_of : Given → Option (Options × List (List ℕ))
-read_of given = option_map (λ options. (options, given.files)) (options_of given.settings)
+-- what is given comes to values of options and names of files
+abbrev pub read_of : Given → Option (Values × List (List ℕ))
+read_of given = option_map (λ values. (values, given.files)) (values_of given.settings)
 
 -- AT THE END
 
 right_value : (option : OptionName) (values : Option (List (List ℕ))) →
-    HasIfGiven option values →
-    option_map_or (λ value. is_some (setting_of option value))
+    HasIfGiven option values → option_map_or (has_value option)
     (option_and_then (λ v. slice_get v 0) values) true ≡ true
 right_value option None has = refl
 right_value option (Some []) has = refl
 right_value option (Some (value ∷ values)) has = has refl
 
+set_value : (first : Option (List ℕ)) → is_set first ≡ true → is_some (value_by true first) ≡ true
+set_value first set = rw set refl
+
 module _ (first : Given) (found : Found) (is : IsFoundBy first found) where
-  right : (option : OptionName) → is_flag option ≡ false → is_right option found ≡ true
-  right option kind = right_value option (found (id_of option)) (is.valued option kind)
+  right : (option : OptionName) → is_right found option ≡ true
+  right option = by_case (is_flag option) refl
+    where
+      by_case : (flag : Bool) → is_flag option ≡ flag → is_right found option ≡ true
+      by_case true e = rw e refl
+      by_case false e =
+          rw e (right_value option (found (name_of option)) (is.valued option e))
 
   read_at_end : read_of first ≡ read_in found
-  read_at_end = rw (
-    right option.Mode refl,
-    right option.Policy refl,
-    right option.Left refl,
-    right option.Right refl,
-    right option.Sort refl,
-  )
-      (rw (options_of-filled first.settings (fields_in found) is.filled, is.files) refl)
+  read_at_end = rw (all_pass (is_right found) right ALL_OPTIONS)
+      (rw (values_of-filled first.settings (values_found found) is.filled, is.files) refl)
 
-repeated : (first : Given) (options : Options) (made : Setting) →
-    AreFilledBy first.settings options → Repeats made options → (later : Option Given) →
-    option_and_then read_of (with_all first (option_map (with_setting made) later)) ≡ None
-repeated first options made filled again None = refl
-repeated first options made filled again (Some later) =
-    rw (options_of-repeated first.settings later.settings options filled made again) refl
+  -- an option that is found has a value
+  told_value : (option : OptionName) → is_flag option ≡ false →
+      (values : Option (List (List ℕ))) → HasIfGiven option values →
+      is_some values ≡ true → IsSome (told option values)
+  told_value option kind None has some = let wrong : false ≡ true = some in cc
+  told_value option kind (Some []) has some = let wrong : false ≡ true = has refl in cc
+  told_value option kind (Some (value ∷ values)) has some =
+      ap (λ flag. is_some (value_by flag (Some value))) kind
+
+  told_flag : (option : OptionName) → is_flag option ≡ true →
+      (values : Option (List (List ℕ))) → IsSetIfGiven values →
+      is_some values ≡ true → IsSome (told option values)
+  told_flag option kind None set some = let wrong : false ≡ true = some in cc
+  told_flag option kind (Some []) set some = let wrong : false ≡ true = set refl in cc
+  told_flag option kind (Some (value ∷ values)) set some =
+      ap (λ flag. is_some (value_by flag (Some value))) kind
+      ∙ set_value (Some value) (set refl)
+
+  -- so it can't be given once more
+  repeated : (option : OptionName) (value : List ℕ) → IsSome (values_found found option) →
+      (later : Option Given) → option_and_then read_of
+      (with_all first (option_map (with_setting (set option value)) later)) ≡ None
+  repeated option value again None = refl
+  repeated option value again (Some later) =
+      rw (values_of-repeated first.settings later.settings (values_found found) is.filled option
+      value again) refl
 
 read_nothing : (first : Given) → option_and_then read_of (with_all first (Some NOTHING))
     ≡ read_of first
@@ -81,80 +98,81 @@ read-uses (named text ∷ uses) right first found is = by_case (is_empty text) r
     by_case false e later =
         rw e (ap (option_and_then read_of) (with_all-name first text (given_by uses)) ∙ later)
 read-uses (flagged option ∷ uses) right first found is =
-    let made = flag_made option right.0 in
-    by_case made.0 made.1 (is_some (found (id_of option))) refl
+    by_case (is_some (found (name_of option))) refl
     (λ none. read-uses uses right.1
-    (record first { settings = first.settings ++ made.0 ∷ [] })
-    (put (id_of option) (codes "true" ∷ []) found)
-    (flag_more first found is option none made.0 right.0 made.1))
+    (record first { settings = first.settings ++ set option [] ∷ [] })
+    (put (name_of option) (codes "true" ∷ []) found)
+    (flag_more first found is option none right.0))
   where
-    by_case : (made : Setting) → flag_of option ≡ Some made → (b : Bool) →
-        is_some (found (id_of option)) ≡ b → (found (id_of option) ≡ None →
+    by_case : (b : Bool) →
+        is_some (found (name_of option)) ≡ b → (found (name_of option) ≡ None →
         option_and_then read_of
-        (with_all (record first { settings = first.settings ++ made ∷ [] }) (given_by uses))
+        (with_all (record first { settings = first.settings ++ set option [] ∷ [] })
+        (given_by uses))
         ≡ option_and_then read_in
-        (found_past (put (id_of option) (codes "true" ∷ []) found) uses)) →
+        (found_past (put (name_of option) (codes "true" ∷ []) found) uses)) →
         option_and_then read_of (with_all first (given_by (flagged option ∷ uses)))
         ≡ option_and_then read_in (found_past found (flagged option ∷ uses))
-    by_case made set true e later = rw (set, e) (repeated first (fields_in found) made is.filled
-        (flag_again found option made (is.flagged option right.0 e) set) (given_by uses))
-    by_case made set false e later = rw (set, e)
-        (ap (option_and_then read_of) (with_all-setting first made (given_by uses))
-        ∙ later (not_some (found (id_of option)) e))
+    by_case true e later = rw (flag_made option right.0, e) (repeated first found is option []
+        (told_flag first found is option right.0 (found (name_of option))
+        (is.flagged option right.0) e) (given_by uses))
+    by_case false e later = rw (flag_made option right.0, e)
+        (ap (option_and_then read_of) (with_all-setting first (set option []) (given_by uses))
+        ∙ later (not_some (found (name_of option)) e))
 read-uses (valued option value ∷ uses) right first found is =
-    by_setting (setting_of option value) refl
-    (λ none made set. read-uses uses right.1
-    (record first { settings = first.settings ++ made ∷ [] })
-    (put (id_of option) (value ∷ []) found)
-    (value_more first found is option none value made right.0 set))
+    by_value (has_value option value) refl
+    (λ none has. read-uses uses right.1
+    (record first { settings = first.settings ++ set option value ∷ [] })
+    (put (name_of option) (value ∷ []) found)
+    (value_more first found is option none value right.0 has))
   where
-    by_case : (made : Setting) → setting_of option value ≡ Some made → (b : Bool) →
-        is_some (found (id_of option)) ≡ b → (found (id_of option) ≡ None →
+    by_case : has_value option value ≡ true → (b : Bool) →
+        is_some (found (name_of option)) ≡ b → (found (name_of option) ≡ None →
         option_and_then read_of
-        (with_all (record first { settings = first.settings ++ made ∷ [] }) (given_by uses))
-        ≡ option_and_then read_in (found_past (put (id_of option) (value ∷ []) found) uses)) →
+        (with_all (record first { settings = first.settings ++ set option value ∷ [] })
+        (given_by uses))
+        ≡ option_and_then read_in (found_past (put (name_of option) (value ∷ []) found) uses)) →
         option_and_then read_of (with_all first (given_by (valued option value ∷ uses)))
         ≡ option_and_then read_in (found_past found (valued option value ∷ uses))
-    by_case made set true e later = rw (set, e) (repeated first (fields_in found) made is.filled
-        (value_again found option value made (is.valued option right.0 e) set) (given_by uses))
-    by_case made set false e later = rw (set, e)
-        (ap (option_and_then read_of) (with_all-setting first made (given_by uses))
-        ∙ later (not_some (found (id_of option)) e))
+    by_case has true e later = rw (value_made option value has, e)
+        (repeated first found is option value
+        (told_value first found is option right.0 (found (name_of option))
+        (is.valued option right.0) e) (given_by uses))
+    by_case has false e later = rw (value_made option value has, e)
+        (ap (option_and_then read_of) (with_all-setting first (set option value) (given_by uses))
+        ∙ later (not_some (found (name_of option)) e))
 
-    wrong : setting_of option value ≡ None → (b : Bool) → is_some (found (id_of option)) ≡ b →
+    wrong : has_value option value ≡ false → (b : Bool) → is_some (found (name_of option)) ≡ b →
         option_and_then read_of (with_all first (given_by (valued option value ∷ uses)))
         ≡ option_and_then read_in (found_past found (valued option value ∷ uses))
-    wrong set true e = rw (set, e) refl
-    wrong set false e = rw (set, e) (sym (wrong_past option right.0 uses
-        (put (id_of option) (value ∷ []) found) (rw (put-same (id_of option) (value ∷ []) found
-        (own_name option) (not_some (found (id_of option)) e)) (rw set refl))))
+    wrong has true e = rw (no_value_made option value has, e) refl
+    wrong has false e = rw (no_value_made option value has, e) (sym (wrong_past option right.0 uses
+        (put (name_of option) (value ∷ []) found) (rw (put-same (name_of option) (value ∷ []) found
+        (own_name option) (not_some (found (name_of option)) e)) (rw (right.0, has) refl))))
 
-    by_setting : (given : Option Setting) → setting_of option value ≡ given →
-        (found (id_of option) ≡ None → (made : Setting) → setting_of option value ≡ Some made →
+    by_value : (b : Bool) → has_value option value ≡ b →
+        (found (name_of option) ≡ None → has_value option value ≡ true →
         option_and_then read_of
-        (with_all (record first { settings = first.settings ++ made ∷ [] }) (given_by uses))
-        ≡ option_and_then read_in (found_past (put (id_of option) (value ∷ []) found) uses)) →
+        (with_all (record first { settings = first.settings ++ set option value ∷ [] })
+        (given_by uses))
+        ≡ option_and_then read_in (found_past (put (name_of option) (value ∷ []) found) uses)) →
         option_and_then read_of (with_all first (given_by (valued option value ∷ uses)))
         ≡ option_and_then read_in (found_past found (valued option value ∷ uses))
-    by_setting None set later = wrong set (is_some (found (id_of option))) refl
-    by_setting (Some made) set later = by_case made set (is_some (found (id_of option))) refl
-        (λ none. later none made set)
+    by_value false has later = wrong has (is_some (found (name_of option))) refl
+    by_value true has later = by_case has (is_some (found (name_of option))) refl
+        (λ none. later none has)
 
 nothing_found : IsFoundBy NOTHING (λ id. None)
 nothing_found = record {
-  filled = record {
-    mode = refl;
-    policy = refl;
-    novar = refl;
-    left = refl;
-    right = refl;
-    sort = refl;
-    delas = refl;
-  };
+  filled = λ option. nothing_told (is_flag option);
   files = refl;
   valued = λ option kind given. let wrong : false ≡ true = given in cc;
   flagged = λ option kind given. let wrong : false ≡ true = given in cc;
 }
+  where
+    nothing_told : (flag : Bool) → [] ≡ option_to_list (value_by flag None)
+    nothing_told true = refl
+    nothing_told false = refl
 
 with_nothing : (given : Option Given) → with_all NOTHING given ≡ given
 with_nothing None = refl

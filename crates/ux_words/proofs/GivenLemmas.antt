@@ -1,12 +1,11 @@
--- Names and settings put behind what is given.
+-- Names and settings put after what is given.
 use Rattle.std.proofs.Common.{◌≡◌, ℕ, drop, List, [], ◌∷◌, ◌++◌, refl, Bool, true, false, Option, Some, None, option_map}
 use Rattle.std.specs.List.{list_any}
-use Rattle.ux_words.specs.Settings.{Setting}
+use Rattle.ux_words.specs.Settings.{Setting, setting_of}
 use Rattle.ux_words.specs.declared.command.Command.{Command}
 use Rattle.ux_words.specs.declared.command.OptionName.{OptionName}
 use Rattle.ux_words.specs.Words as word
 use Rattle.ux_words.specs.Arguments.{word_of, given_of, Given, is_empty, with_name, with_setting, names_of}
-use Rattle.ux_words.specs.Tables.{setting_of}
 use Rattle.std.proofs.lemmas.List.{append_assoc}
 
 -- what is given first, and then what follows
@@ -22,7 +21,7 @@ abbrev pub first_setting : OptionName → List (List ℕ) → Option Setting
 first_setting option [] = None
 first_setting option (value ∷ words) = setting_of option value
 
--- a name in front of what follows is one behind what is given first
+-- a name before what follows is one after what is given first
 pub with_all-name : (first : Given) (name : List ℕ) (later : Option Given) →
     with_all first (option_map (with_name name) later)
     ≡ with_all (record first { files = first.files ++ name ∷ [] }) later
@@ -49,7 +48,7 @@ names_of-name name words full = by_case (list_any is_empty words) refl
 -- THE FIRST WORD
 
 module _ (command : Command) (text : List ℕ) where
-  -- a name is put in front of what follows
+  -- a name is put before what follows
   pub given_of-name : (words : List (List ℕ)) → word_of command text ≡ word.FileName →
       given_of command (text ∷ words) ≡ option_map (with_name text) (given_of command words)
   given_of-name [] is = rw is refl

@@ -1,9 +1,8 @@
 -- tables
 pub mod BoolLemmas
 pub mod NumberLemmas
+pub mod CutLemmas
 pub mod FlagLemmas
-pub mod Filling
-pub mod OptionLemmas
 pub mod GivenLemmas
 -- the uses of words, and what they say
 pub mod Uses
@@ -12,6 +11,7 @@ pub mod WordForms
 pub mod UseLemmas
 pub mod ReadingLemmas
 -- clap's walk over the words
+pub mod TableLemmas
 pub mod RuleLemmas
 pub mod ShortLemmas
 pub mod Walks
@@ -22,7 +22,7 @@ pub mod WalkUses
 -- what it finds
 pub mod RowLemmas
 pub mod TakenLemmas
-pub mod SetLemmas
+pub mod OptionLemmas
 pub mod FoundSteps
 pub mod WrongValues
 pub mod FoundLemmas
@@ -32,5 +32,10 @@ pub mod CommandReading
 pub mod MatchesLemmas
 pub mod ValueLemmas
 pub mod RequestLemmas
+pub mod StepLemmas
+pub mod StepWriting
 mod Examples
-mod Writing
+-- how words are written
+pub mod EqualsLemmas
+pub mod Writing
+pub mod WrittenLemmas

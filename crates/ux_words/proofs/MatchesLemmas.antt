@@ -40,7 +40,7 @@ module _ (command : Command) (words : List Text) (utf8 : AreUtf8 words) (app : A
       (has (rw is (app_simple (options_of command)))).0 ∙ ap (λ a. matches_of a words) is in
       read_by-matches command words utf8 ∙ rw (none, rows) refl
 
-  -- clap refuses the words, and not for want of memory
+  -- clap refuses the words, and not for lack of memory
   pub refused_read : (error : Error) → HasKind (fault_of app words) error →
       kind_of error ≢ OutOfMemory → read_by command words ≡ None
   refused_read error has other = ⊎_elim (λ memory. absurd (other memory))

@@ -20,7 +20,7 @@ all_digits (d ∷ word) e = (
   all_digits word (and_right (is_digit d) (list_all is_digit word) e),
 )
 
--- digits have no sign in front
+-- digits have no sign before
 without_sign : (word : List ℕ) → list_all is_digit word ≡ true → without_leading_plus word ≡ word
 without_sign [] e = refl
 without_sign (d ∷ word) e =

@@ -1,133 +1,138 @@
--- The options of settings, one setting after the other.
-use Rattle.std.proofs.Common.{arith, suc, ◌≡◌, ℕ, List, [], ◌∷◌, ◌++◌, refl, sym, ◌∙◌, true, false, Option, Some, None, IsSome, option_to_list, filter_map, length, nat_le}
+-- The values of options, one setting after the other.
+use Rattle.std.proofs.Common.{arith, suc, ◌≡◌, ◌∙◌, ℕ, Bool, true, false, List, [], ◌∷◌, ◌++◌, refl, sym, ap, subst, append-nil, Option, Some, None, IsSome, option_and_then, option_to_list, length, nat_le, slice_get, bytes_eq}
 use Rattle.std.proofs.lemmas.Bool.Decides.{nat_tests}
 use Rattle.std.proofs.lemmas.List.Elements.{filter_map-append}
-use Rattle.ux_base.specs.declared.settings.NoVar.TheVariants.{Drop}
-use Rattle.ux_words.proofs.BoolLemmas.{and_left, and_right, none_unless, differ}
-use Rattle.ux_words.specs.Requests.{mode_in, policy_in, novar_in, left_in, right_in, sort_in, delas_in, is_once, is_each_once, value_of, options_of}
-use Rattle.ux_words.proofs.Filling.{Fills, IsSetBy, Repeats, AreFilledBy}
-use Rattle.ux_words.specs.declared.options.Options.{Options}
-use Rattle.ux_words.specs.Settings.{Setting}
-use Rattle.ux_words.specs.Settings as setting
+use Rattle.ux_words.specs.declared.command.OptionName.{OptionName}
+use Rattle.ux_words.specs.Matching.{Found, value_by, values_found}
+use Rattle.ux_words.specs.Requests.{Values, value_for, values_for, is_each_once, values_of}
+use Rattle.ux_words.specs.Settings.{Setting, set}
+use Rattle.ux_words.specs.Tables.{ALL_OPTIONS, name_of, is_flag}
+use Rattle.ux_words.proofs.RowLemmas.{put}
+use Rattle.ux_words.proofs.TableLemmas.{all_pass, own_name, same_option, some_fails}
 
-one_of : {T : Type 0} (pick : Setting → Option T) (setting : Setting) (given : Option T) →
-    pick setting ≡ given → filter_map pick (setting ∷ []) ≡ option_to_list given
-one_of pick setting None e = rw e refl
-one_of pick setting (Some x) e = rw e refl
+-- what is found under an option's name tells its value
+abbrev pub told : OptionName → Option (List (List ℕ)) → Option (List ℕ)
+told option values = value_by (is_flag option) (option_and_then (λ v. slice_get v 0) values)
 
--- an option's place, by the settings so far and one more
-filled_more : {T : Type 0} (pick : Setting → Option T) (settings : List Setting)
-    (setting : Setting) (old new : Option T) → filter_map pick settings ≡ option_to_list old →
-    Fills (pick setting) old new →
-    filter_map pick (settings ++ setting ∷ []) ≡ option_to_list new
-filled_more pick settings setting old new before here =
-    filter_map-append pick settings (setting ∷ [])
-    ∙ rw (before, one_of pick setting (pick setting) refl) (sym here)
+-- each option's value is what the settings give for it
+abbrev pub AreFilledBy : List Setting → Values → Type 0
+AreFilledBy settings values =
+    (option : OptionName) → values_for settings option ≡ option_to_list (values option)
 
--- all places
-pub AreFilledBy-more : (settings : List Setting) (setting : Setting) (old new : Options) →
-    AreFilledBy settings old → IsSetBy setting old new →
-    AreFilledBy (settings ++ setting ∷ []) new
-AreFilledBy-more settings setting old new before here = record {
-  mode = filled_more mode_in settings setting old.mode new.mode before.mode here.mode;
-  policy = filled_more policy_in settings setting old.policy new.policy before.policy here.policy;
-  novar = filled_more novar_in settings setting old.novar new.novar before.novar here.novar;
-  left = filled_more left_in settings setting old.left new.left before.left here.left;
-  right = filled_more right_in settings setting old.right new.right before.right here.right;
-  sort = filled_more sort_in settings setting old.sort new.sort before.sort here.sort;
-  delas = filled_more delas_in settings setting old.delas new.delas before.delas here.delas;
-}
+-- PUT UNDER A NAME
 
--- an option whose place holds what is given for it is given once
-once_of : {T : Type 0} (pick : Setting → Option T) (settings : List Setting) (place : Option T) →
-    filter_map pick settings ≡ option_to_list place →
-    (is_once pick settings ≡ true) × (value_of pick settings ≡ place)
-once_of pick settings None is = rw is (refl, refl)
-once_of pick settings (Some x) is = rw is (refl, refl)
+pub put-other : (name : List ℕ) (values : List (List ℕ)) (found : Found) (other : List ℕ) →
+    bytes_eq name other ≡ false → put name values found other ≡ found other
+put-other name values found other e = rw e refl
 
--- the options that were filled by all settings are theirs
-pub options_of-filled : (settings : List Setting) (options : Options) →
-    AreFilledBy settings options → options_of settings ≡ Some options
-options_of-filled settings options filled =
-    let mode = once_of mode_in settings options.mode filled.mode in
-    let policy = once_of policy_in settings options.policy filled.policy in
-    let novar = once_of novar_in settings options.novar filled.novar in
-    let left = once_of left_in settings options.left filled.left in
-    let right = once_of right_in settings options.right filled.right in
-    let sort = once_of sort_in settings options.sort filled.sort in
-    let delas = once_of delas_in settings options.delas filled.delas in
-    rw (mode.0, policy.0, novar.0, left.0, right.0, sort.0, delas.0)
-    (rw (mode.1, policy.1, novar.1, left.1, right.1, sort.1, delas.1) refl)
+pub put-same : (name : List ℕ) (values : List (List ℕ)) (found : Found) →
+    bytes_eq name name ≡ true → found name ≡ None → put name values found name ≡ Some values
+put-same name values found e none = rw (e, none) refl
 
--- REPEATS
+module _ (found : Found) (option : OptionName) (none : found (name_of option) ≡ None) where
+  -- what holds of the values of each option holds after one more is given
+  pub holds_after : (P : OptionName → Option (List (List ℕ)) → Type 0) (values : List (List ℕ)) →
+      P option (Some values) → (other : OptionName) → P other (found (name_of other)) →
+      P other (put (name_of option) values found (name_of other))
+  holds_after P values here other before = by_case (bytes_eq (name_of option) (name_of other)) refl
+    where
+      by_case : (b : Bool) → bytes_eq (name_of option) (name_of other) ≡ b →
+          P other (put (name_of option) values found (name_of other))
+      by_case false e = subst (P other)
+          (sym (put-other (name_of option) values found (name_of other) e)) before
+      by_case true e =
+          subst (λ (o : OptionName). P o (put (name_of option) values found (name_of o)))
+          (same_option option other e) (subst (P option)
+          (sym (put-same (name_of option) values found (own_name option) none)) here)
+
+  -- values that tell what no value tells change nothing
+  pub same_after : {T : Type 0} (tell : OptionName → Option (List (List ℕ)) → T)
+      (values : List (List ℕ)) → tell option (Some values) ≡ tell option None →
+      (other : OptionName) →
+      tell other (put (name_of option) values found (name_of other))
+      ≡ tell other (found (name_of other))
+  same_after tell values alike other = by_case (bytes_eq (name_of option) (name_of other)) refl
+    where
+      by_case : (b : Bool) → bytes_eq (name_of option) (name_of other) ≡ b →
+          tell other (put (name_of option) values found (name_of other))
+          ≡ tell other (found (name_of other))
+      by_case false e =
+          ap (tell other) (put-other (name_of option) values found (name_of other) e)
+      by_case true e = subst (λ (o : OptionName).
+          tell o (put (name_of option) values found (name_of o)) ≡ tell o (found (name_of o)))
+          (same_option option other e)
+          (ap (tell option) (put-same (name_of option) values found (own_name option) none)
+          ∙ (alike ∙ sym (ap (tell option) none)))
+
+  -- ONE SETTING MORE
+
+  none_told : (flag : Bool) → value_by flag None ≡ None
+  none_told true = refl
+  none_told false = refl
+
+  -- the setting gives the value that is found under its name
+  pub AreFilledBy-more : (settings : List Setting) (value : List ℕ) (values : List (List ℕ)) →
+      AreFilledBy settings (values_found found) → told option (Some values) ≡ Some value →
+      AreFilledBy (settings ++ set option value ∷ [])
+      (values_found (put (name_of option) values found))
+  AreFilledBy-more settings value values before is =
+      λ other. filter_map-append (value_for other) settings (set option value ∷ [])
+      ∙ by_case other (bytes_eq (name_of option) (name_of other)) refl
+    where
+      by_case : (other : OptionName) (b : Bool) →
+          bytes_eq (name_of option) (name_of other) ≡ b → values_for settings other
+          ++ values_for (set option value ∷ []) other
+          ≡ option_to_list (told other (put (name_of option) values found (name_of other)))
+      by_case other false e = rw (e, append-nil (values_for settings other)) (before other)
+      by_case other true e = subst (λ (o : OptionName).
+          values_for settings o ++ values_for (set option value ∷ []) o
+          ≡ option_to_list (told o (put (name_of option) values found (name_of o))))
+          (same_option option other e) (rw (
+            before option,
+            none,
+            none_told (is_flag option),
+            own_name option,
+          )
+          (ap option_to_list (sym is)))
+
+-- ONCE
+
+one_place : (value : Option (List ℕ)) → nat_le (length (option_to_list value)) 1 ≡ true
+one_place None = refl
+one_place (Some value) = refl
+
+placed : (value : Option (List ℕ)) → slice_get (option_to_list value) 0 ≡ value
+placed None = refl
+placed (Some value) = refl
+
+-- values that were filled by all settings are theirs
+pub values_of-filled : (settings : List Setting) (values : Values) → AreFilledBy settings values →
+    values_of settings ≡ Some values
+values_of-filled settings values filled =
+    let once : is_each_once settings ≡ true =
+    all_pass (λ option. nat_le (length (values_for settings option)) 1)
+    (λ option. ap (λ l. nat_le (length l) 1) (filled option) ∙ one_place (values option))
+    ALL_OPTIONS in
+    rw once (ap (λ (v : Values). Some v)
+    (λ i option. (ap (λ l. slice_get l 0) (filled option) ∙ placed (values option)) i))
+
+-- TWICE
 
 two_or_more : (n : ℕ) → nat_le (suc (suc n)) 1 ≡ false
 two_or_more n = grind (arith, nat_tests)
 
--- an option whose place is filled is given twice, once a setting gives it again
-twice : {T : Type 0} (pick : Setting → Option T) (settings : List Setting) (setting : Setting)
-    (later : List Setting) (x : T) (place : Option T) →
-    filter_map pick settings ≡ option_to_list place → IsSome place → pick setting ≡ Some x →
-    is_once pick (settings ++ setting ∷ later) ≡ false
-twice pick settings setting later x None is some here = let e : false ≡ true = some in cc
-twice pick settings setting later x (Some y) is some here =
-    rw (filter_map-append pick settings (setting ∷ later), is, here)
-    (two_or_more (length (filter_map pick later)))
-
-record AreOnce (settings : List Setting) : Type 0 where
-  mode : is_once mode_in settings ≡ true
-  policy : is_once policy_in settings ≡ true
-  novar : is_once novar_in settings ≡ true
-  left : is_once left_in settings ≡ true
-  right : is_once right_in settings ≡ true
-  sort : is_once sort_in settings ≡ true
-  delas : is_once delas_in settings ≡ true
-
-each_once : (settings : List Setting) → is_each_once settings ≡ true → AreOnce settings
-each_once settings all =
-    let policy = and_right _ _ all in
-    let novar = and_right _ _ policy in
-    let left = and_right _ _ novar in
-    let right = and_right _ _ left in
-    let sort = and_right _ _ right in
-    record {
-      mode = and_left _ _ all;
-      policy = and_left _ _ policy;
-      novar = and_left _ _ novar;
-      left = and_left _ _ left;
-      right = and_left _ _ right;
-      sort = and_left _ _ sort;
-      delas = and_right _ _ sort;
-    }
-
--- no options are given where one is given twice
-module _ (settings later : List Setting) (options : Options)
-    (filled : AreFilledBy settings options) where
-  refused : (setting : Setting) → (AreOnce (settings ++ setting ∷ later) → ⊥) →
-      options_of (settings ++ setting ∷ later) ≡ None
-  refused setting fails = none_unless (is_each_once (settings ++ setting ∷ later)) _
-      (λ e. fails (each_once (settings ++ setting ∷ later) e))
-
-  pub options_of-repeated : (setting : Setting) → Repeats setting options →
-      options_of (settings ++ setting ∷ later) ≡ None
-  options_of-repeated (setting.Mode x) some = refused (setting.Mode x) (λ once.
-      differ _ once.mode (twice mode_in settings (setting.Mode x) later x
-      options.mode filled.mode some refl))
-  options_of-repeated (setting.Policy x) some = refused (setting.Policy x) (λ once.
-      differ _ once.policy (twice policy_in settings (setting.Policy x) later x
-      options.policy filled.policy some refl))
-  options_of-repeated setting.NoVar some = refused setting.NoVar (λ once.
-      differ _ once.novar (twice novar_in settings setting.NoVar later Drop
-      options.novar filled.novar some refl))
-  options_of-repeated (setting.Left x) some = refused (setting.Left x) (λ once.
-      differ _ once.left (twice left_in settings (setting.Left x) later x
-      options.left filled.left some refl))
-  options_of-repeated (setting.Right x) some = refused (setting.Right x) (λ once.
-      differ _ once.right (twice right_in settings (setting.Right x) later x
-      options.right filled.right some refl))
-  options_of-repeated (setting.Sort x) some = refused (setting.Sort x) (λ once.
-      differ _ once.sort (twice sort_in settings (setting.Sort x) later x
-      options.sort filled.sort some refl))
-  options_of-repeated setting.Delas some = refused setting.Delas (λ once.
-      differ _ once.delas (twice delas_in settings setting.Delas later true
-      options.delas filled.delas some refl))
+-- an option that has a value is given twice, once a setting gives it again
+pub values_of-repeated : (settings later : List Setting) (values : Values) →
+    AreFilledBy settings values → (option : OptionName) (value : List ℕ) →
+    IsSome (values option) → values_of (settings ++ set option value ∷ later) ≡ None
+values_of-repeated settings later values filled option value some =
+    rw (some_fails (λ o. nat_le (length (values_for (settings ++ set option value ∷ later) o)) 1)
+    option (twice (values option) (filled option) some)) refl
+  where
+    twice : (place : Option (List ℕ)) → values_for settings option ≡ option_to_list place →
+        IsSome place →
+        nat_le (length (values_for (settings ++ set option value ∷ later) option)) 1 ≡ false
+    twice None is some = let wrong : false ≡ true = some in cc
+    twice (Some x) is some =
+        rw (filter_map-append (value_for option) settings (set option value ∷ later), is)
+        (rw (own_name option) (two_or_more (length (values_for later option))))

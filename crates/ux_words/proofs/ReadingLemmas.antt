@@ -1,19 +1,19 @@
 -- What the words say is what their uses say.
-use Rattle.std.proofs.Common.{◌≡◌, ◌∙◌, refl, ap, ℕ, suc, Bool, true, false, ◌&&◌, List, [], ◌∷◌, length, Option, Some, None, option_map, option_and_then, if◌then◌else◌, nat_lt, nat_le}
+use Rattle.std.proofs.Common.{◌≡◌, ◌∙◌, refl, ap, ℕ, suc, Bool, true, false, ◌&&◌, List, [], ◌∷◌, length, Option, Some, None, is_some, option_map, option_and_then, if◌then◌else◌, nat_lt, nat_le}
 use Rattle.std.specs.Option.{option_map_or}
 use Rattle.ux_words.specs.declared.command.Command.{Command}
 use Rattle.ux_words.specs.declared.command.OptionName.{OptionName}
-use Rattle.ux_words.specs.declared.command.OptionName.TheVariants as option
-use Rattle.ux_words.specs.Settings.{Setting}
-use Rattle.ux_words.specs.Settings as setting
+use Rattle.ux_words.specs.declared.command.Takes.{Takes}
+use Rattle.ux_words.specs.declared.command.Takes.TheVariants as takes
+use Rattle.ux_words.specs.Settings.{Setting, set, setting_of}
 use Rattle.ux_words.specs.Words.{Word}
 use Rattle.ux_words.specs.Words as word
-use Rattle.ux_words.specs.Tables.{options_of, setting_of, width_of}
+use Rattle.ux_words.specs.Tables.{options_of, accepts, is_flag, number_of, takes_of}
 use Rattle.ux_words.specs.Arguments.{Given, is_empty, name_in, value_in, said_of, said_with, word_of, with_setting, with_value, names_of, given_of}
 use Rattle.ux_words.proofs.BoolLemmas.{not_empty}
 use Rattle.ux_words.proofs.GivenLemmas.{names_of-name}
-use Rattle.ux_words.proofs.FlagLemmas.{flag_made, flag_value, no_flag}
-use Rattle.ux_words.proofs.Uses.{option_with, named, valued, is_flag, in_front, anew, awaits, behind, uses_by_kind, uses_by_option, uses_by_word, uses_of}
+use Rattle.ux_words.proofs.FlagLemmas.{flag_made, flag_value, no_flag, no_value_made}
+use Rattle.ux_words.proofs.Uses.{option_with, named, valued, in_front, anew, awaits, behind, uses_by_kind, uses_by_option, uses_by_word, uses_of}
 use Rattle.ux_words.proofs.WordForms.{Form, empty, hyphen, end, long, short, other, form_of}
 use Rattle.ux_words.proofs.UseLemmas.{given_by, front_name, front_empty, front_value, front_flag, among_with, none_among, nothing_named, name_in-short, name_in-long, value_in-long}
 
@@ -24,18 +24,22 @@ both_fail true true x = refl
 both_fail true false x = refl
 both_fail false b x = refl
 
-no_width : (rest : List ℕ) → width_of (45 ∷ rest) ≡ None
-no_width rest = both_fail (nat_lt 0 (length (45 ∷ rest))) (nat_le (length (45 ∷ rest)) 4) _
+no_number : (digits least most : ℕ) (rest : List ℕ) →
+    number_of digits least most (45 ∷ rest) ≡ None
+no_number digits least most rest =
+    both_fail (nat_lt 0 (length (45 ∷ rest))) (nat_le (length (45 ∷ rest)) digits) _
 
 -- no value begins with a hyphen
+none_accepted : (kind : Takes) (rest : List ℕ) → accepts kind (45 ∷ rest) ≡ false
+none_accepted takes.Nothing rest = refl
+none_accepted takes.Mode rest = refl
+none_accepted takes.Policy rest = refl
+none_accepted takes.Width rest = ap is_some (no_number 4 0 1000 rest)
+none_accepted takes.Sort rest = refl
+none_accepted takes.Depth rest = ap is_some (no_number 3 0 100 rest)
+
 no_value : (option : OptionName) (rest : List ℕ) → setting_of option (45 ∷ rest) ≡ None
-no_value option.Mode rest = refl
-no_value option.Policy rest = refl
-no_value option.NoVar rest = refl
-no_value option.Left rest = ap (option_map setting.Left) (no_width rest)
-no_value option.Right rest = ap (option_map setting.Right) (no_width rest)
-no_value option.Sort rest = refl
-no_value option.Delas rest = refl
+no_value option rest = no_value_made option (45 ∷ rest) (none_accepted (takes_of option) rest)
 
 -- ONE WORD
 
@@ -45,7 +49,7 @@ module _ (command : Command) where
   awaited option [] = None
   awaited option (value ∷ words) = with_value option value (given_of command words)
 
-  given_of-first : (text : List ℕ) (words : List (List ℕ)) → given_of command (text ∷ words)
+  pub given_of-first : (text : List ℕ) (words : List (List ℕ)) → given_of command (text ∷ words)
       ≡ said_with (word_of command text) text words (given_of command words)
       (λ option. awaited option words)
   given_of-first text [] = refl
@@ -99,9 +103,9 @@ module _ (command : Command) where
         (λ reading. uses_of (options_of command) reading words))
     by_kind text option true flag (Some value) = rw (flag_value option flag value) refl
     by_kind text option true flag None =
-        let set = flag_made option flag in
-        rw set.1 (ap (option_map (with_setting set.0)) later.at_word
-        ∙ front_flag option set.0 set.1 (uses_of (options_of command) anew words))
+        rw (flag_made option flag) (ap (option_map (with_setting (set option []))) later.at_word
+        ∙ front_flag option (set option []) (flag_made option flag)
+        (uses_of (options_of command) anew words))
     by_kind text option false kind (Some value) =
         valued_said text option (setting_of option value)
         ∙ value_said option value

@@ -2,8 +2,9 @@
 use Rattle.std.proofs.Common.{◌≡◌, refl, ℕ, Bool, true, false, List, [], ◌∷◌, Option, Some, None, bytes_eq, if◌then◌else◌}
 use Rattle.clap.specs.Lexer.{long_of, short_of}
 use Rattle.ux_words.specs.declared.command.OptionName.{OptionName}
-use Rattle.ux_words.proofs.Uses.{option_with, Use, named, flagged, valued, is_flag, in_front, Reading, anew, awaits, behind, uses_by_kind, uses_by_option, uses_by_form, uses_by_value, uses_unless_short, uses_of}
+use Rattle.ux_words.proofs.Uses.{option_with, Use, named, flagged, valued, in_front, Reading, anew, awaits, behind, uses_by_kind, uses_by_option, uses_by_form, uses_by_value, uses_unless_short, uses_of}
 use Rattle.ux_words.proofs.TakenLemmas.{IsRight, AreRight}
+use Rattle.ux_words.specs.Tables.{is_flag}
 
 abbrev pub AreRightIfSome : Option (List Use) → Type 0
 AreRightIfSome None = Unit

@@ -1,11 +1,11 @@
 -- Which rule of the command a name, an id or a place finds.
-use Rattle.std.proofs.Common.{◌≡◌, ◌∙◌, refl, sym, ap, ℕ, Bool, true, false, cond, ◌||◌, List, [], ◌∷◌, Some, None, option_map, bytes_eq}
-use Rattle.std.proofs.lemmas.Slice.Eq.{bytes_eq-Decides}
+use Rattle.std.proofs.Common.{◌≡◌, refl, ap, ℕ, Bool, true, false, cond, ◌||◌, List, [], ◌∷◌, Some, None, option_map, bytes_eq}
 use Rattle.clap.specs.Walk.{Text, arg_by_id, arg_by_index, arg_by_long, arg_by_short, takes_values}
 use Rattle.ux_words.specs.declared.command.OptionName.{OptionName}
-use Rattle.ux_words.specs.declared.command.OptionName.TheVariants as option
-use Rattle.ux_words.specs.Matching.{id_of, FILES}
-use Rattle.ux_words.proofs.Uses.{built_option, built_files, rules_with, option_with, is_flag}
+use Rattle.ux_words.specs.Matching.{FILES}
+use Rattle.ux_words.proofs.TableLemmas.{not_files, own_name, same_option}
+use Rattle.ux_words.proofs.Uses.{built_as, built_option, built_files, rules_with, option_with}
+use Rattle.ux_words.specs.Tables.{name_of, is_flag}
 
 -- the names of files are the first positional
 pub files_by_index : (options : List OptionName) →
@@ -27,8 +27,8 @@ or_false false = refl
 pub option_by_long : (options : List OptionName) (name : Text) →
     arg_by_long (rules_with options) name ≡ option_map built_option (option_with options name)
 option_by_long [] name = refl
-option_by_long (option ∷ options) name = rw (or_false (bytes_eq (id_of option) name))
-    (by_case (bytes_eq (id_of option) name) (option_by_long options name))
+option_by_long (option ∷ options) name = rw (or_false (bytes_eq (name_of option) name))
+    (by_case (bytes_eq (name_of option) name) (option_by_long options name))
   where
     by_case : (b : Bool) →
         arg_by_long (rules_with options) name ≡ option_map built_option (option_with options name) →
@@ -37,95 +37,42 @@ option_by_long (option ∷ options) name = rw (or_false (bytes_eq (id_of option)
     by_case true later = refl
     by_case false later = later
 
-pub not_files : (option : OptionName) → bytes_eq (id_of option) FILES ≡ false
-not_files option.Mode = refl
-not_files option.Policy = refl
-not_files option.NoVar = refl
-not_files option.Left = refl
-not_files option.Right = refl
-not_files option.Sort = refl
-not_files option.Delas = refl
-
 pub files_by_id : (options : List OptionName) →
     arg_by_id (rules_with options) FILES ≡ Some built_files
 files_by_id [] = refl
 files_by_id (option ∷ options) = rw (not_files option) (files_by_id options)
 
--- an option's own name
-pub own_name : (option : OptionName) → bytes_eq (id_of option) (id_of option) ≡ true
-own_name option.Mode = refl
-own_name option.Policy = refl
-own_name option.NoVar = refl
-own_name option.Left = refl
-own_name option.Right = refl
-own_name option.Sort = refl
-own_name option.Delas = refl
-
-abbrev ALL : List OptionName
-ALL = option.Mode ∷ option.Policy ∷ option.NoVar ∷ option.Left ∷ option.Right ∷ option.Sort
-    ∷ option.Delas ∷ []
-
-among_all : (option : OptionName) → option_with ALL (id_of option) ≡ Some option
-among_all option.Mode = refl
-among_all option.Policy = refl
-among_all option.NoVar = refl
-among_all option.Left = refl
-among_all option.Right = refl
-among_all option.Sort = refl
-among_all option.Delas = refl
-
--- no two options have one name
-pub same_option : (first second : OptionName) →
-    bytes_eq (id_of first) (id_of second) ≡ true → first ≡ second
-same_option first second e =
-    let names = (bytes_eq-Decides (id_of first) (id_of second)).0 e in
-    let found : Some first ≡ Some second =
-    sym (among_all first) ∙ (ap (option_with ALL) names ∙ among_all second) in
-    cc
-
 -- an option that a name finds is found by its id
 pub option_by_id : (options : List OptionName) (option : OptionName) (name : Text) →
     option_with options name ≡ Some option →
-    arg_by_id (rules_with options) (id_of option) ≡ Some (built_option option)
+    arg_by_id (rules_with options) (name_of option) ≡ Some (built_option option)
 option_by_id [] option name found = let wrong : None ≡ Some option = found in cc
 option_by_id (first ∷ options) option name found =
-    by_case (bytes_eq (id_of first) name) refl (option_by_id options option name)
+    by_case (bytes_eq (name_of first) name) refl (option_by_id options option name)
   where
-    same : first ≡ option → arg_by_id (rules_with (first ∷ options)) (id_of option)
+    same : first ≡ option → arg_by_id (rules_with (first ∷ options)) (name_of option)
         ≡ Some (built_option option)
     same e = rw (e, own_name option) refl
 
-    further : (b : Bool) → bytes_eq (id_of first) (id_of option) ≡ b →
-        arg_by_id (rules_with options) (id_of option) ≡ Some (built_option option) →
-        arg_by_id (rules_with (first ∷ options)) (id_of option) ≡ Some (built_option option)
+    further : (b : Bool) → bytes_eq (name_of first) (name_of option) ≡ b →
+        arg_by_id (rules_with options) (name_of option) ≡ Some (built_option option) →
+        arg_by_id (rules_with (first ∷ options)) (name_of option) ≡ Some (built_option option)
     further true e later = same (same_option first option e)
     further false e later = rw e later
 
-    by_case : (b : Bool) → bytes_eq (id_of first) name ≡ b →
+    by_case : (b : Bool) → bytes_eq (name_of first) name ≡ b →
         (option_with options name ≡ Some option →
-        arg_by_id (rules_with options) (id_of option) ≡ Some (built_option option)) →
-        arg_by_id (rules_with (first ∷ options)) (id_of option) ≡ Some (built_option option)
+        arg_by_id (rules_with options) (name_of option) ≡ Some (built_option option)) →
+        arg_by_id (rules_with (first ∷ options)) (name_of option) ≡ Some (built_option option)
     by_case true here later =
         same (let e : Some first ≡ Some option = rw here at found in cc)
-    by_case false there later = further (bytes_eq (id_of first) (id_of option)) refl
+    by_case false there later = further (bytes_eq (name_of first) (name_of option)) refl
         (later (rw there at found))
 
 pub takes_value : (option : OptionName) → is_flag option ≡ false →
     takes_values (built_option option) ≡ true
-takes_value option.Mode e = refl
-takes_value option.Policy e = refl
-takes_value option.NoVar e = let wrong : true ≡ false = e in cc
-takes_value option.Left e = refl
-takes_value option.Right e = refl
-takes_value option.Sort e = refl
-takes_value option.Delas e = let wrong : true ≡ false = e in cc
+takes_value option e = ap (λ flag. takes_values (built_as flag (name_of option))) e
 
 pub takes_none : (option : OptionName) → is_flag option ≡ true →
     takes_values (built_option option) ≡ false
-takes_none option.Mode e = let wrong : false ≡ true = e in cc
-takes_none option.Policy e = let wrong : false ≡ true = e in cc
-takes_none option.NoVar e = refl
-takes_none option.Left e = let wrong : false ≡ true = e in cc
-takes_none option.Right e = let wrong : false ≡ true = e in cc
-takes_none option.Sort e = let wrong : false ≡ true = e in cc
-takes_none option.Delas e = refl
+takes_none option e = ap (λ flag. takes_values (built_as flag (name_of option))) e

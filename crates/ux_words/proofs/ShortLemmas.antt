@@ -1,4 +1,4 @@
--- A word as `-x` has a character behind its hyphen.
+-- A word as `-x` has a character after its hyphen.
 use Rattle.std.proofs.Common.{◌≡◌, ◌∙◌, refl, ap, subst, ℕ, suc, Bool, true, false, ◌==◌, List, [], ◌∷◌, Some, None, slice_get, chars, IsUtf8, encode_utf8_all, length}
 use Rattle.std.specs.Char.{encode_utf8}
 use Rattle.std.proofs.lemmas.Str.{IsUtf8-past_char, encodes-chars}

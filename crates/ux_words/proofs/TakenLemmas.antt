@@ -2,18 +2,19 @@
 use Rattle.std.proofs.Common.{◌≡◌, ◌∙◌, refl, ap, ℕ, Bool, true, false, not, ◌&&◌, List, [], ◌∷◌, length, Option, Some, None, is_some, option_map, nat_lt, codes, if◌then◌else◌}
 use Rattle.std.proofs.lemmas.Bool.Decides.{nat_tests}
 use Rattle.std.proofs.Common.{arith, suc}
-use Rattle.ux_words.proofs.BoolLemmas.{not_empty}
+use Rattle.ux_words.proofs.BoolLemmas.{not_empty, not_false}
 use Rattle.clap.specs.Kinds.{or_else}
-use Rattle.clap.specs.Walk.{Row, Text, has_row, with_values, without}
+use Rattle.clap.specs.Faults.{use_fault}
+use Rattle.clap.specs.Walk.{Row, Text, has_row, used, with_values, without}
 use Rattle.clap.specs.declared.builder.value_parser.Reading.TheVariants.{AsWritten}
 use Rattle.clap.specs.declared.parser.matches.ValueSource.TheVariants.{CommandLine}
 use Rattle.clap.specs.declared.error.kind.ErrorKind.{ErrorKind}
 use Rattle.ux_words.specs.declared.command.OptionName.{OptionName}
-use Rattle.ux_words.specs.declared.command.OptionName.TheVariants as option
 use Rattle.ux_words.specs.Arguments.{is_empty}
-use Rattle.ux_words.specs.Matching.{id_of, FILES, Found, found_in}
-use Rattle.ux_words.proofs.Uses.{Use, named, flagged, valued, is_flag, is_none, is_taken, rows_with, rows_past}
+use Rattle.ux_words.specs.Matching.{FILES, Found, found_in}
+use Rattle.ux_words.proofs.Uses.{built_as, Use, named, flagged, valued, is_none, is_taken, rows_with, rows_past}
 use Rattle.ux_words.proofs.RowLemmas.{put, has_row-found, without-none, found-used}
+use Rattle.ux_words.specs.Tables.{name_of, is_flag}
 
 -- a flag is flagged, and an option has a value
 abbrev pub IsRight : Use → Type 0
@@ -28,13 +29,13 @@ AreRight (first ∷ uses) = IsRight first × AreRight uses
 -- the use is taken, after what is found
 abbrev pub is_free : Found → Use → Bool
 is_free found (named text) = not (is_empty text)
-is_free found (flagged option) = not (is_some (found (id_of option)))
-is_free found (valued option value) = not (is_some (found (id_of option)))
+is_free found (flagged option) = not (is_some (found (name_of option)))
+is_free found (valued option value) = not (is_some (found (name_of option)))
 
 abbrev pub with_use : Found → Use → Found
 with_use found (named text) = put FILES (text ∷ []) found
-with_use found (flagged option) = put (id_of option) (codes "true" ∷ []) found
-with_use found (valued option value) = put (id_of option) (value ∷ []) found
+with_use found (flagged option) = put (name_of option) (codes "true" ∷ []) found
+with_use found (valued option value) = put (name_of option) (value ∷ []) found
 
 abbrev pub found_past : Found → List Use → Option Found
 found_past found [] = Some found
@@ -52,24 +53,16 @@ not_row : (rows : List Row) (id : Text) → not (has_row id rows) ≡ not (is_so
 not_row rows id = ap not (has_row-found id rows)
 
 taken_value : (rows : List Row) (option : OptionName) (value : Text) → is_flag option ≡ false →
-    is_taken rows (valued option value) ≡ not (has_row (id_of option) rows)
-taken_value rows option.Mode value kind = once_more (has_row (codes "mode") rows) _
-taken_value rows option.Policy value kind = once_more (has_row (codes "policy") rows) _
-taken_value rows option.NoVar value kind = let wrong : true ≡ false = kind in cc
-taken_value rows option.Left value kind = once_more (has_row (codes "left") rows) _
-taken_value rows option.Right value kind = once_more (has_row (codes "right") rows) _
-taken_value rows option.Sort value kind = once_more (has_row (codes "sort") rows) _
-taken_value rows option.Delas value kind = let wrong : true ≡ false = kind in cc
+    is_taken rows (valued option value) ≡ not (has_row (name_of option) rows)
+taken_value rows option value kind =
+    ap (λ flag. is_none (use_fault false (built_as flag (name_of option)) (value ∷ []) rows)) kind
+    ∙ once_more (has_row (name_of option) rows) _
 
 taken_flag : (rows : List Row) (option : OptionName) → is_flag option ≡ true →
-    is_taken rows (flagged option) ≡ not (has_row (id_of option) rows)
-taken_flag rows option.Mode kind = let wrong : false ≡ true = kind in cc
-taken_flag rows option.Policy kind = let wrong : false ≡ true = kind in cc
-taken_flag rows option.NoVar kind = once_more (has_row (codes "novar") rows) _
-taken_flag rows option.Left kind = let wrong : false ≡ true = kind in cc
-taken_flag rows option.Right kind = let wrong : false ≡ true = kind in cc
-taken_flag rows option.Sort kind = let wrong : false ≡ true = kind in cc
-taken_flag rows option.Delas kind = once_more (has_row (codes "delas") rows) _
+    is_taken rows (flagged option) ≡ not (has_row (name_of option) rows)
+taken_flag rows option kind =
+    ap (λ flag. is_none (use_fault false (built_as flag (name_of option)) [] rows)) kind
+    ∙ once_more (has_row (name_of option) rows) _
 
 some_byte : (n : ℕ) → nat_lt 0 (suc n) ≡ true
 some_byte n = grind (arith, nat_tests)
@@ -83,13 +76,9 @@ taken_name rows (x ∷ xs) = rw (some_byte (length xs), not_empty (length xs)) r
 pub taken : (rows : List Row) (first : Use) → IsRight first →
     is_taken rows first ≡ is_free (found_in rows) first
 taken rows (named text) right = taken_name rows text
-taken rows (flagged option) right = taken_flag rows option right ∙ not_row rows (id_of option)
+taken rows (flagged option) right = taken_flag rows option right ∙ not_row rows (name_of option)
 taken rows (valued option value) right =
-    taken_value rows option value right ∙ not_row rows (id_of option)
-
-no_row : (b : Bool) → not b ≡ true → b ≡ false
-no_row true e = let wrong : false ≡ true = e in cc
-no_row false e = refl
+    taken_value rows option value right ∙ not_row rows (name_of option)
 
 -- a use under an id that has no row
 replaced : (id : Text) (values : List Text) (rows : List Row) → has_row id rows ≡ false →
@@ -99,30 +88,20 @@ replaced id values rows none =
     rw (without-none id rows none) (found-used id AsWritten CommandLine values rows)
 
 valued_found : (rows : List Row) (option : OptionName) (value : Text) → is_flag option ≡ false →
-    has_row (id_of option) rows ≡ false →
+    has_row (name_of option) rows ≡ false →
     found_in (rows_with rows (valued option value))
-    ≡ put (id_of option) (value ∷ []) (found_in rows)
-valued_found rows option.Mode value kind none = replaced (codes "mode") (value ∷ []) rows none
-valued_found rows option.Policy value kind none = replaced (codes "policy") (value ∷ []) rows none
-valued_found rows option.NoVar value kind none = let wrong : true ≡ false = kind in cc
-valued_found rows option.Left value kind none = replaced (codes "left") (value ∷ []) rows none
-valued_found rows option.Right value kind none = replaced (codes "right") (value ∷ []) rows none
-valued_found rows option.Sort value kind none = replaced (codes "sort") (value ∷ []) rows none
-valued_found rows option.Delas value kind none = let wrong : true ≡ false = kind in cc
+    ≡ put (name_of option) (value ∷ []) (found_in rows)
+valued_found rows option value kind none =
+    ap (λ flag. found_in (used (built_as flag (name_of option)) (value ∷ []) rows)) kind
+    ∙ replaced (name_of option) (value ∷ []) rows none
 
 flagged_found : (rows : List Row) (option : OptionName) → is_flag option ≡ true →
-    has_row (id_of option) rows ≡ false →
+    has_row (name_of option) rows ≡ false →
     found_in (rows_with rows (flagged option))
-    ≡ put (id_of option) (codes "true" ∷ []) (found_in rows)
-flagged_found rows option.Mode kind none = let wrong : false ≡ true = kind in cc
-flagged_found rows option.Policy kind none = let wrong : false ≡ true = kind in cc
-flagged_found rows option.NoVar kind none =
-    replaced (codes "novar") (codes "true" ∷ []) rows none
-flagged_found rows option.Left kind none = let wrong : false ≡ true = kind in cc
-flagged_found rows option.Right kind none = let wrong : false ≡ true = kind in cc
-flagged_found rows option.Sort kind none = let wrong : false ≡ true = kind in cc
-flagged_found rows option.Delas kind none =
-    replaced (codes "delas") (codes "true" ∷ []) rows none
+    ≡ put (name_of option) (codes "true" ∷ []) (found_in rows)
+flagged_found rows option kind none =
+    ap (λ flag. found_in (used (built_as flag (name_of option)) [] rows)) kind
+    ∙ replaced (name_of option) (codes "true" ∷ []) rows none
 
 -- what is found after a use that is taken
 pub found-taken : (rows : List Row) (first : Use) → IsRight first →
@@ -131,9 +110,9 @@ pub found-taken : (rows : List Row) (first : Use) → IsRight first →
 found-taken rows (named text) right free =
     found-used FILES AsWritten CommandLine (text ∷ []) rows
 found-taken rows (flagged option) right free = flagged_found rows option right
-    (no_row (has_row (id_of option) rows) (not_row rows (id_of option) ∙ free))
+    (not_false (has_row (name_of option) rows) (not_row rows (name_of option) ∙ free))
 found-taken rows (valued option value) right free = valued_found rows option value right
-    (no_row (has_row (id_of option) rows) (not_row rows (id_of option) ∙ free))
+    (not_false (has_row (name_of option) rows) (not_row rows (name_of option) ∙ free))
 
 -- ALL USES
 

@@ -1,14 +1,13 @@
 -- What uses say, and the names of options among the words.
-use Rattle.std.proofs.Common.{◌≡◌, ◌∙◌, refl, sym, ap, arith, ℕ, suc, Bool, true, false, ◌==◌, ◌+◌, List, [], ◌∷◌, take, drop, one-add, Option, Some, None, option_map, option_and_then, if◌then◌else◌, bytes_eq, codes}
+use Rattle.std.proofs.Common.{◌≡◌, ◌∙◌, refl, sym, ap, ℕ, Bool, true, false, ◌==◌, ◌+◌, List, [], ◌∷◌, Option, Some, None, option_map, option_and_then, if◌then◌else◌, bytes_eq}
 use Rattle.std.specs.List.{list_any, position_or_len}
 use Rattle.std.proofs.lemmas.Slice.Eq.{bytes_eq-Decides}
 use Rattle.ux_words.proofs.BoolLemmas.{differ}
 use Rattle.ux_words.specs.declared.command.OptionName.{OptionName}
-use Rattle.ux_words.specs.declared.command.OptionName.TheVariants as option
-use Rattle.ux_words.specs.Settings.{Setting}
-use Rattle.ux_words.specs.Tables.{option_among, word_of_option, setting_of, flag_of}
+use Rattle.ux_words.specs.Settings.{Setting, setting_of, flag_of}
+use Rattle.ux_words.specs.Tables.{option_among, word_of_option, name_of}
 use Rattle.ux_words.specs.Arguments.{EQUALS, Given, NOTHING, is_empty, name_in, value_in, with_name, with_setting, with_value}
-use Rattle.ux_words.specs.Matching.{id_of}
+use Rattle.ux_words.proofs.CutLemmas.{take-first, drop-first}
 use Rattle.ux_words.proofs.Uses.{option_with, Use, named, flagged, valued, in_front}
 
 -- what the uses say, if each value is one of its option's and no name is empty
@@ -66,14 +65,8 @@ bytes_eq-sym first second = by_case (bytes_eq first second) (bytes_eq second fir
         (sym ((bytes_eq-Decides second first).0 f))) e)
 
 one_name : (option : OptionName) (name : List ℕ) →
-    bytes_eq (45 ∷ 45 ∷ name) (word_of_option option) ≡ bytes_eq (id_of option) name
-one_name option.Mode name = bytes_eq-sym name (codes "mode")
-one_name option.Policy name = bytes_eq-sym name (codes "policy")
-one_name option.NoVar name = bytes_eq-sym name (codes "novar")
-one_name option.Left name = bytes_eq-sym name (codes "left")
-one_name option.Right name = bytes_eq-sym name (codes "right")
-one_name option.Sort name = bytes_eq-sym name (codes "sort")
-one_name option.Delas name = bytes_eq-sym name (codes "delas")
+    bytes_eq (45 ∷ 45 ∷ name) (word_of_option option) ≡ bytes_eq (name_of option) name
+one_name option name = bytes_eq-sym name (name_of option)
 
 pub among_with : (options : List OptionName) (name : List ℕ) →
     option_among options (45 ∷ 45 ∷ name) ≡ option_with options name
@@ -88,40 +81,14 @@ none_among [] text differs = refl
 none_among (option ∷ options) text differs = rw (differs option) (none_among options text differs)
 
 pub nothing_named : (option : OptionName) → bytes_eq [] (word_of_option option) ≡ false
-nothing_named option.Mode = refl
-nothing_named option.Policy = refl
-nothing_named option.NoVar = refl
-nothing_named option.Left = refl
-nothing_named option.Right = refl
-nothing_named option.Sort = refl
-nothing_named option.Delas = refl
+nothing_named option = refl
 
 one_hyphen : (option : OptionName) → bytes_eq (45 ∷ []) (word_of_option option) ≡ false
-one_hyphen option.Mode = refl
-one_hyphen option.Policy = refl
-one_hyphen option.NoVar = refl
-one_hyphen option.Left = refl
-one_hyphen option.Right = refl
-one_hyphen option.Sort = refl
-one_hyphen option.Delas = refl
+one_hyphen option = refl
 
 short_named : (x : ℕ) (xs : List ℕ) → (x == 45) ≡ false → (option : OptionName) →
     bytes_eq (45 ∷ x ∷ xs) (word_of_option option) ≡ false
-short_named x xs e option.Mode = rw e refl
-short_named x xs e option.Policy = rw e refl
-short_named x xs e option.NoVar = rw e refl
-short_named x xs e option.Left = rw e refl
-short_named x xs e option.Right = rw e refl
-short_named x xs e option.Sort = rw e refl
-short_named x xs e option.Delas = rw e refl
-
-take-first : (n x : ℕ) (xs : List ℕ) → take (1 + n) (x ∷ xs) ≡ x ∷ take n xs
-take-first n x xs = ap (λ k. take k (x ∷ xs)) (one-add n)
-
-drop-first : (n x : ℕ) (xs : List ℕ) → drop (1 + n + 1) (x ∷ xs) ≡ drop (n + 1) xs
-drop-first n x xs =
-    let one_less : 1 + n + 1 ≡ suc (n + 1) = omega arith in
-    ap (λ k. drop k (x ∷ xs)) one_less
+short_named x xs e option = rw e refl
 
 abbrev to_equals : List ℕ → ℕ
 to_equals text = position_or_len (λ b. b == EQUALS) text

@@ -4,15 +4,23 @@ use Rattle.clap.specs.Lexer.{long_of, short_of}
 use Rattle.clap.specs.Kinds.{Kinds}
 use Rattle.clap.specs.Faults.{use_fault}
 use Rattle.clap.specs.Walk.{Row, Rule, Text, used}
-use Rattle.clap.specs.Simple.{filled, with_index}
+use Rattle.clap.specs.Simple.{filled, new_rule, with_index}
+use Rattle.clap.specs.declared.builder.action.ArgAction.TheVariants.{Set, SetTrue}
 use Rattle.ux_words.specs.declared.command.OptionName.{OptionName}
-use Rattle.ux_words.specs.declared.command.OptionName.TheVariants as option
-use Rattle.ux_words.specs.Matching.{id_of, option_rule, files_rule}
+use Rattle.ux_words.specs.Matching.{files_rule}
+use Rattle.ux_words.specs.Tables.{name_of, is_flag}
 
 -- RULES AS BUILT
 
+-- the rule of an option of this name, which is a flag or takes a value
+abbrev pub built_as : (flag : Bool) → (name : Text) → Rule
+built_as flag name = filled (record (new_rule name) {
+  long = Some name;
+  action = Some (if flag then SetTrue else Set);
+})
+
 abbrev pub built_option : OptionName → Rule
-built_option option = filled (option_rule option)
+built_option option = built_as (is_flag option) (name_of option)
 
 abbrev pub built_files : Rule
 built_files = with_index 1 (filled files_rule)
@@ -22,7 +30,7 @@ rules_with options = map built_option options ++ built_files ∷ []
 
 -- the first of the options with this name
 abbrev pub option_with : List OptionName → Text → Option OptionName
-option_with options name = find (λ o. bytes_eq (id_of o) name) options
+option_with options name = find (λ o. bytes_eq (name_of o) name) options
 
 -- USES
 
@@ -65,11 +73,6 @@ pub data Reading : Type 0 where
   anew : Reading
   awaits : OptionName → Reading
   behind : Reading
-
-abbrev pub is_flag : OptionName → Bool
-is_flag option.NoVar = true
-is_flag option.Delas = true
-is_flag _ = false
 
 abbrev pub in_front : Use → Option (List Use) → Option (List Use)
 in_front here = option_map (λ uses. here ∷ uses)

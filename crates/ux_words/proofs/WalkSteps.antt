@@ -6,10 +6,11 @@ use Rattle.clap.specs.Faults.{settle_fault, use_fault, flags_fault}
 use Rattle.clap.specs.Walk.{Row, Text, Waiting, idle, positional, is_pending}
 use Rattle.ux_words.specs.declared.command.OptionName.{OptionName}
 use Rattle.ux_words.proofs.BoolLemmas.{and_false}
-use Rattle.ux_words.proofs.Uses.{built_option, built_files, rules_with, option_with, Use, named, flagged, valued, is_flag, is_none, is_taken, rows_with}
+use Rattle.ux_words.proofs.Uses.{built_option, built_files, rules_with, option_with, Use, named, flagged, valued, is_none, is_taken, rows_with}
 use Rattle.ux_words.proofs.RuleLemmas.{files_by_index, none_by_short, option_by_long, takes_value, takes_none}
 use Rattle.ux_words.proofs.ShortLemmas.{AreFlags}
 use Rattle.ux_words.proofs.Walks.{held_at, walk_at, awaiting_at, pending_of, fits, rows_then, no_subcommand, IsFree, Knows, passes, walk_past, settles, settled_is}
+use Rattle.ux_words.specs.Tables.{is_flag}
 
 one_passes : (first : Kinds) (x : Bool) → is_none first ≡ x → is_none (or_else first []) ≡ x
 one_passes [] x is = is
@@ -42,7 +43,7 @@ module _ (options : List OptionName) where
         (rw (and_false (is_pending built_files (pending_of last)))
         (rw (settled_is options rows last knows) refl))))
 
-  -- behind `--` each word is a name
+  -- after `--` each word is a name
   module _ (text : Text) (rows : List Row) (last : Option Use) (knows : Knows options last)
       (waiting : Waiting) where
     pub behind_fault :

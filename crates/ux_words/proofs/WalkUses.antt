@@ -3,13 +3,13 @@ use Rattle.std.proofs.Common.{◌≡◌, ◌∙◌, refl, Bool, true, false, Lis
 use Rattle.clap.specs.Lexer.{long_of, short_of}
 use Rattle.clap.specs.Walk.{Row, Text, Walk, Waiting, idle, arg_by_id}
 use Rattle.ux_words.specs.declared.command.OptionName.{OptionName}
-use Rattle.ux_words.specs.Matching.{id_of}
-use Rattle.ux_words.proofs.Uses.{built_option, rules_with, Use, valued, is_flag, rows_past, in_front, anew, awaits, uses_by_value, uses_unless_short, uses_of}
+use Rattle.ux_words.proofs.Uses.{built_option, rules_with, Use, valued, rows_past, in_front, anew, awaits, uses_by_value, uses_unless_short, uses_of}
 use Rattle.ux_words.proofs.ShortLemmas.{short_flags}
 use Rattle.ux_words.proofs.Walks.{walk_at, awaiting_at, rows_by, free_idle, rows_at_end}
 use Rattle.ux_words.proofs.WalkSteps.{short_fault_is, end_fault, end_next}
 use Rattle.ux_words.proofs.WalkValues.{unsettled, value_fault, value_next, option_fault, unsettled_end}
 use Rattle.ux_words.proofs.WalkWords.{IsWalked, step, refused, at_end, name_step, word_step}
+use Rattle.ux_words.specs.Tables.{name_of, is_flag}
 
 -- each of the words is text
 abbrev pub AreUtf8 : List Text → Type 0
@@ -21,7 +21,7 @@ module _ (options : List OptionName) where
   module _ (text : Text) (utf8 : IsUtf8 text) (words : List Text)
       (later : IsWalked options words) (rows : List Row) (option : OptionName)
       (kind : is_flag option ≡ false)
-      (knows : arg_by_id (rules_with options) (id_of option) ≡ Some (built_option option)) where
+      (knows : arg_by_id (rules_with options) (name_of option) ≡ Some (built_option option)) where
     abbrev here : Walk
     here = awaiting_at rows option
 
@@ -31,8 +31,8 @@ module _ (options : List OptionName) where
         (uses_unless_short short (in_front (valued option text) (uses_of options anew words)))
     by_short is_word not_long (Some flags) is_short =
         refused options here text words (short_fault_is options text flags is_word not_long
-        is_short (short_flags text flags utf8 is_short) rows (Some (id_of option, []))
-        (Waiting.option (id_of option)))
+        is_short (short_flags text flags utf8 is_short) rows (Some (name_of option, []))
+        (Waiting.option (name_of option)))
     by_short is_word not_long None not_short = step options here text words _ true _
         (value_fault options option kind knows rows text is_word not_long not_short)
         (value_next options option kind knows rows text is_word not_long not_short)
@@ -56,11 +56,11 @@ module _ (options : List OptionName) where
         rows_at_end options here (text ∷ words) ≡ rows_by rows None (if end then None
         else uses_by_value option text (long_of text) (uses_of options anew words))
     by_word true is_end = step options here text words _ true _
-        (end_fault options text is_end rows (Some (id_of option, []))
-        (Waiting.option (id_of option)))
-        (end_next options text is_end rows (Some (id_of option, []))
-        (Waiting.option (id_of option)))
-        (unsettled_end options option kind knows rows (Waiting.option (id_of option)) words)
+        (end_fault options text is_end rows (Some (name_of option, []))
+        (Waiting.option (name_of option)))
+        (end_next options text is_end rows (Some (name_of option, []))
+        (Waiting.option (name_of option)))
+        (unsettled_end options option kind knows rows (Waiting.option (name_of option)) words)
     by_word false is_word = by_form is_word (long_of text) refl
 
     value_step : rows_at_end options here (text ∷ words)

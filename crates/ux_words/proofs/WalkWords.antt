@@ -1,14 +1,14 @@
--- clap's walk over a word that is no value, and those behind it, takes the uses of these words.
+-- clap's walk over a word that is no value, and those after it, takes the uses of these words.
 use Rattle.std.proofs.Common.{◌≡◌, ◌∙◌, refl, sym, Bool, true, false, ◌&&◌, List, [], ◌∷◌, Option, Some, None, if◌then◌else◌, bytes_eq, IsUtf8}
 use Rattle.clap.specs.Lexer.{long_of, short_of}
 use Rattle.clap.specs.Walk.{Row, Text, Walk, Waiting, idle, positional, arg_by_id}
 use Rattle.ux_words.specs.declared.command.OptionName.{OptionName}
-use Rattle.ux_words.specs.Matching.{id_of}
-use Rattle.ux_words.proofs.Uses.{built_option, rules_with, option_with, Use, named, flagged, valued, is_flag, is_taken, rows_with, in_front, anew, awaits, behind, uses_by_option, uses_by_kind, uses_by_form, uses_unless_short, uses_of}
+use Rattle.ux_words.proofs.Uses.{built_option, rules_with, option_with, Use, named, flagged, valued, is_taken, rows_with, in_front, anew, awaits, behind, uses_by_option, uses_by_kind, uses_by_form, uses_unless_short, uses_of}
 use Rattle.ux_words.proofs.RuleLemmas.{files_by_id, option_by_id}
 use Rattle.ux_words.proofs.ShortLemmas.{short_flags}
 use Rattle.ux_words.proofs.Walks.{walk_at, awaiting_at, pending_of, fits, rows_then, past_pending, rows_by, IsFree, free_idle, free_positional, Knows, passes, walk_past, rows_at_end, settles, settled_is}
 use Rattle.ux_words.proofs.WalkSteps.{plain_fault, plain_next, behind_fault, behind_next, unknown_fault, refused_fault, short_fault_is, flagged_fault, flagged_next, valued_fault, valued_next, awaiting_fault, awaiting_next, end_fault, end_next}
+use Rattle.ux_words.specs.Tables.{name_of, is_flag}
 
 none_either_way : {T : Type 0} (b : Bool) →
     ◌≡◌ {A = Option T} (if b then None else None) None
@@ -66,7 +66,7 @@ module _ (options : List OptionName) where
         rows_at_end options (walk_at rows (pending_of last) waiting false) words
         ≡ rows_by rows last (uses_of options anew words)
     pub at_value : (rows : List Row) (option : OptionName) → is_flag option ≡ false →
-        arg_by_id (rules_with options) (id_of option) ≡ Some (built_option option) →
+        arg_by_id (rules_with options) (name_of option) ≡ Some (built_option option) →
         rows_at_end options (awaiting_at rows option) words
         ≡ rows_by rows None (uses_of options (awaits option) words)
     pub at_name : (rows : List Row) (last : Option Use) (waiting : Waiting) →
@@ -83,7 +83,7 @@ module _ (options : List OptionName) where
 
   module _ (text : Text) (utf8 : IsUtf8 text) (words : List Text) (later : IsWalked words)
       (rows : List Row) (last : Option Use) (waiting : Waiting) (knows : Knows options last) where
-    -- a name behind `--`
+    -- a name after `--`
     pub name_step : rows_at_end options (walk_at rows (pending_of last) waiting true) (text ∷ words)
         ≡ rows_by rows last (uses_of options behind (text ∷ words))
     name_step = step (walk_at rows (pending_of last) waiting true) text words _ _ _

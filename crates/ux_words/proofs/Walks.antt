@@ -4,8 +4,8 @@ use Rattle.clap.specs.Faults.{settle_fault, turn_fault}
 use Rattle.clap.specs.Walk.{Row, Rule, Text, Held, Walk, Waiting, idle, positional, value, settled, settled_rows, walked_from, subcommand_met, plain_word, arg_by_id}
 use Rattle.clap.specs.Simple.{Shape, new_shape}
 use Rattle.ux_words.specs.declared.command.OptionName.{OptionName}
-use Rattle.ux_words.specs.Matching.{id_of}
 use Rattle.ux_words.proofs.Uses.{rules_with, Use, rule_used, values_used, is_none, is_taken, rows_with, rows_past}
+use Rattle.ux_words.specs.Tables.{name_of}
 
 -- the command as it is built
 abbrev pub shape_with : List OptionName → Shape
@@ -33,7 +33,7 @@ walk_at rows pending waiting is_trailing = record {
 -- an option waits for its value
 abbrev pub awaiting_at : List Row → OptionName → Walk
 awaiting_at rows option =
-    walk_at rows (Some (id_of option, [])) (Waiting.option (id_of option)) false
+    walk_at rows (Some (name_of option, [])) (Waiting.option (name_of option)) false
 
 -- a use that the walk has met, and keeps till the next word
 abbrev pub pending_of : Option Use → Option (Text × List Text)

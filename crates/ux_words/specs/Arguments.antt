@@ -1,14 +1,14 @@
--- How the words behind a command are read.
+-- How the words after a command are read. Public, through `Requests` and `Writing`.
 use Rattle.std.specs.Prelude.{ℕ, ◌||◌, ◌==◌, Bool, false, not, List, [], ◌∷◌, length, codes, if◌then◌else◌, Option, Some, None, option_map, option_and_then}
 use Rattle.std.specs.List.{list_any, before_first, after_first}
 use Rattle.std.specs.Option.{option_map_or}
 use Rattle.std.specs.Str.{bytes_eq}
 use Rattle.ux_words.specs.declared.command.Command.{Command}
 use Rattle.ux_words.specs.declared.command.OptionName.{OptionName}
-use Rattle.ux_words.specs.Settings.{Setting}
+use Rattle.ux_words.specs.Settings.{Setting, setting_of, flag_of}
 use Rattle.ux_words.specs.Words.{Word}
 use Rattle.ux_words.specs.Words as word
-use Rattle.ux_words.specs.Tables.{option_named, setting_of, flag_of}
+use Rattle.ux_words.specs.Tables.{option_named}
 
 abbrev pub HYPHEN : ℕ
 HYPHEN = 45
@@ -30,7 +30,7 @@ is_name (first ∷ rest) = not (first == HYPHEN) || is_empty rest
 abbrev pub name_in : List ℕ → List ℕ
 name_in text = before_first (λ b. b == EQUALS) text
 
--- what stands behind it, if there is one
+-- what stands after it, if there is one
 abbrev pub value_in : List ℕ → Option (List ℕ)
 value_in text =
     if list_any (λ b. b == EQUALS) text then Some (after_first (λ b. b == EQUALS) text) else None
@@ -69,7 +69,7 @@ with_name name given = record given { files = name ∷ given.files }
 abbrev pub with_setting : Setting → Given → Given
 with_setting setting given = record given { settings = setting ∷ given.settings }
 
--- behind `--` all words are names, and none is empty
+-- after `--` all words are names, and none is empty
 abbrev pub names_of : List (List ℕ) → Option Given
 names_of words =
     if list_any is_empty words then None else Some (record { settings = []; files = words })
@@ -79,17 +79,17 @@ abbrev pub with_value : OptionName → List ℕ → Option Given → Option Give
 with_value option value later =
     option_and_then (λ setting. option_map (with_setting setting) later) (setting_of option value)
 
--- what a word says with those behind it: by itself, in front of what they say, or with the first of
+-- what a word says with those after it: by itself, before what they say, or with the first of
 -- them as its value
-abbrev pub said_with : Word → (text : List ℕ) → (behind : List (List ℕ)) → (later : Option Given)
+abbrev pub said_with : Word → (text : List ℕ) → (after : List (List ℕ)) → (later : Option Given)
     → (valued : OptionName → Option Given) → Option Given
-said_with word.OptionsEnd text behind later valued = names_of behind
-said_with word.FileName text behind later valued = option_map (with_name text) later
-said_with (word.Setting setting) text behind later valued = option_map (with_setting setting) later
-said_with (word.AwaitsValue option) text behind later valued = valued option
-said_with word.Unknown text behind later valued = None
+said_with word.OptionsEnd text after later valued = names_of after
+said_with word.FileName text after later valued = option_map (with_name text) later
+said_with (word.Setting setting) text after later valued = option_map (with_setting setting) later
+said_with (word.AwaitsValue option) text after later valued = valued option
+said_with word.Unknown text after later valued = None
 
--- what the words behind the command say, if they can be read
+-- what the words after the command say, if they can be read
 abbrev pub given_of : Command → List (List ℕ) → Option Given
 given_of command [] = Some NOTHING
 given_of command (text ∷ []) =

@@ -1,7 +1,8 @@
+pub mod Tables
 pub mod Settings
 pub mod Words
-pub mod Tables
 pub mod Arguments
+pub mod Steps
 pub mod Requests
 pub mod Writing
 pub mod Matching

@@ -1,5 +1,6 @@
--- The commands, their options, and the values that options take.
-use Rattle.std.specs.Prelude.{ℕ, ◌&&◌, Bool, List, [], ◌∷◌, length, codes, nat_lt, nat_le, if◌then◌else◌, Option, Some, None, option_map, find}
+-- The commands, their options, and the values that options take. Public, through `Requests` and
+-- `Writing`.
+use Rattle.std.specs.Prelude.{ℕ, ◌&&◌, ◌++◌, Bool, true, false, List, [], ◌∷◌, length, codes, nat_lt, nat_le, if◌then◌else◌, Option, Some, None, is_some, find}
 use Rattle.std.specs.List.{list_all}
 use Rattle.std.specs.Str.{bytes_eq}
 use Rattle.std.specs.Str.Parse.{digits_value}
@@ -10,11 +11,11 @@ use Rattle.ux_base.specs.declared.settings.Policy.TheVariants.{Shortest, Longest
 use Rattle.ux_base.specs.declared.settings.Sort.{Sort}
 use Rattle.ux_base.specs.declared.settings.Sort.TheVariants.{TO, LC, LR, CL, CR, RL, RC}
 use Rattle.ux_words.specs.declared.command.Command.{Command}
-use Rattle.ux_words.specs.declared.command.Command.TheVariants.{Locate, Concord, Tokenize, Check, Dico, Fst2, Inflect, Compress, Tfst, Elag, Bench}
+use Rattle.ux_words.specs.declared.command.Command.TheVariants.{Locate, Concord, Tokenize, Check, Dico, Fst2, Inflect, Compress, Tfst, Elag, Bench, Cascade, Flatten, Tfind, Morpho}
 use Rattle.ux_words.specs.declared.command.OptionName.{OptionName}
 use Rattle.ux_words.specs.declared.command.OptionName.TheVariants as option
-use Rattle.ux_words.specs.Settings.{Setting}
-use Rattle.ux_words.specs.Settings as setting
+use Rattle.ux_words.specs.declared.command.Takes.{Takes}
+use Rattle.ux_words.specs.declared.command.Takes.TheVariants as takes
 
 abbrev pub Word : Type 0
 Word = List ℕ
@@ -35,35 +36,75 @@ command_named word =
     else if bytes_eq word (codes "txt2tfst") then Some Tfst
     else if bytes_eq word (codes "elag") then Some Elag
     else if bytes_eq word (codes "bench") then Some Bench
+    else if bytes_eq word (codes "cascade") then Some Cascade
+    else if bytes_eq word (codes "flatten") then Some Flatten
+    else if bytes_eq word (codes "tfind") then Some Tfind
+    else if bytes_eq word (codes "morpho") then Some Morpho
     else None
 
 -- OPTIONS
 
--- how an option is written
-abbrev pub word_of_option : OptionName → Word
-word_of_option option.Mode = codes "--mode"
-word_of_option option.Policy = codes "--policy"
-word_of_option option.NoVar = codes "--novar"
-word_of_option option.Left = codes "--left"
-word_of_option option.Right = codes "--right"
-word_of_option option.Sort = codes "--sort"
-word_of_option option.Delas = codes "--delas"
+pub record OptionRow : Type 0 where
+  pub name : Word
+  pub takes : Takes
 
-abbrev pub SEARCH_OPTIONS : List OptionName
-SEARCH_OPTIONS = option.Mode ∷ option.Policy ∷ option.NoVar ∷ []
+abbrev pub row : (name : Word) → Takes → OptionRow
+row name takes = record { name = name; takes = takes }
+
+-- the table: how an option is named, and which values it takes
+abbrev pub row_of : OptionName → OptionRow
+row_of option.Mode = row (codes "mode") takes.Mode
+row_of option.Policy = row (codes "policy") takes.Policy
+row_of option.NoVar = row (codes "novar") takes.Nothing
+row_of option.Chars = row (codes "chars") takes.Nothing
+row_of option.Left = row (codes "left") takes.Width
+row_of option.Right = row (codes "right") takes.Width
+row_of option.Sort = row (codes "sort") takes.Sort
+row_of option.Delas = row (codes "delas") takes.Nothing
+row_of option.Trace = row (codes "trace") takes.Nothing
+row_of option.Depth = row (codes "depth") takes.Depth
+
+-- every option
+abbrev pub ALL_OPTIONS : List OptionName
+ALL_OPTIONS = option.Mode ∷ option.Policy ∷ option.NoVar ∷ option.Chars ∷ option.Left
+    ∷ option.Right ∷ option.Sort ∷ option.Delas ∷ option.Trace ∷ option.Depth ∷ []
+
+abbrev pub LOCATE_OPTIONS : List OptionName
+LOCATE_OPTIONS = option.Mode ∷ option.Policy ∷ option.NoVar ∷ option.Chars ∷ []
 
 abbrev pub CONCORD_OPTIONS : List OptionName
-CONCORD_OPTIONS = option.Left ∷ option.Right ∷ option.Sort ∷ SEARCH_OPTIONS
-
-abbrev pub CHECK_OPTIONS : List OptionName
-CHECK_OPTIONS = option.Delas ∷ []
+CONCORD_OPTIONS = option.Left ∷ option.Right ∷ option.Sort ∷ LOCATE_OPTIONS
 
 -- the options of a command
 abbrev pub options_of : Command → List OptionName
-options_of Locate = SEARCH_OPTIONS
+options_of Locate = LOCATE_OPTIONS
 options_of Concord = CONCORD_OPTIONS
-options_of Check = CHECK_OPTIONS
+options_of Tokenize = option.Chars ∷ []
+options_of Check = option.Delas ∷ []
+options_of Dico = option.Chars ∷ []
+options_of Fst2 = option.Chars ∷ []
+options_of Tfst = option.Chars ∷ []
+options_of Cascade = option.Trace ∷ []
+options_of Flatten = option.Depth ∷ []
 options_of _ = []
+
+abbrev pub name_of : OptionName → Word
+name_of option = (row_of option).name
+
+abbrev pub takes_of : OptionName → Takes
+takes_of option = (row_of option).takes
+
+-- how an option is written
+abbrev pub word_of_option : OptionName → Word
+word_of_option option = codes "--" ++ name_of option
+
+abbrev pub is_nothing : Takes → Bool
+is_nothing takes.Nothing = true
+is_nothing _ = false
+
+-- the option is a flag, which takes no value
+abbrev pub is_flag : OptionName → Bool
+is_flag option = is_nothing (takes_of option)
 
 -- the one of these options that is written so
 abbrev pub option_among : List OptionName → Word → Option OptionName
@@ -88,6 +129,10 @@ number_of digits least most word =
 -- the characters beside a hit: one to four digits, at most 1000
 abbrev pub width_of : Word → Option ℕ
 width_of = number_of 4 0 1000
+
+-- how deep calls are written out: one to three digits, at most 100
+abbrev pub depth_of : Word → Option ℕ
+depth_of = number_of 3 0 100
 
 -- the length of a text that is made up: one to six digits, from 1 to 200,000
 abbrev pub text_length_of : Word → Option ℕ
@@ -118,17 +163,15 @@ sort_named word =
     else if bytes_eq word (codes "RC") then Some RC
     else None
 
--- the option with this value, if it takes one and this is one of its own
-abbrev pub setting_of : OptionName → Word → Option Setting
-setting_of option.Mode value = option_map setting.Mode (mode_named value)
-setting_of option.Policy value = option_map setting.Policy (policy_named value)
-setting_of option.Left value = option_map setting.Left (width_of value)
-setting_of option.Right value = option_map setting.Right (width_of value)
-setting_of option.Sort value = option_map setting.Sort (sort_named value)
-setting_of _ value = None
+-- the value is one of these
+abbrev pub accepts : Takes → Word → Bool
+accepts takes.Nothing value = false
+accepts takes.Mode value = is_some (mode_named value)
+accepts takes.Policy value = is_some (policy_named value)
+accepts takes.Width value = is_some (width_of value)
+accepts takes.Sort value = is_some (sort_named value)
+accepts takes.Depth value = is_some (depth_of value)
 
--- a flag, which takes no value
-abbrev pub flag_of : OptionName → Option Setting
-flag_of option.NoVar = Some setting.NoVar
-flag_of option.Delas = Some setting.Delas
-flag_of _ = None
+-- the value is one of the option's own
+abbrev pub has_value : OptionName → Word → Bool
+has_value option value = accepts (takes_of option) value

@@ -1,8 +1,8 @@
--- What a word is that stands before `--`.
+-- What a word is that stands before `--`. Inner: the crate's own functions alone speak of it.
 use Rattle.ux_words.specs.declared.command.OptionName.{OptionName}
 use Rattle.ux_words.specs.Settings.{Setting as OptionSetting}
 
--- `--`, behind which all words are names of files; such a name; a flag, or an option with its
+-- `--`, after which all words are names of files; such a name; a flag, or an option with its
 -- value; an option whose value is the next word; or none of these
 pub data Word : Type 0 where
   OptionsEnd : Word

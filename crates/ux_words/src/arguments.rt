@@ -1,9 +1,9 @@
-//! The words behind the command, which clap reads: options in any order, and names of files.
+//! The words after the command, which clap reads: options in any order, and names of files.
 
 ghost use Rattle.std.specs.Prelude.{◌≡◌, ◌≢◌, Some, None, false, map, string_bytes, IfOk, IsErrOf};
 ghost use Rattle.clap.specs.Words.{app_of, kind_of, rule_of};
 ghost use Rattle.clap.specs.declared.error.kind.ErrorKind.TheVariants.{OutOfMemory};
-ghost use Rattle.ux_words.specs.Matching.{option_rule, files_rule, action_for, app_with, matched, read_by, read_in};
+ghost use Rattle.ux_words.specs.Matching.{option_rule, files_rule, action_for, app_with, matched, read_by, read_in, values_with};
 ghost use Rattle.ux_words.specs.declared.error.WordsError.TheVariants.{Usage};
 
 use crate::command::{Command, OptionName};
@@ -15,22 +15,24 @@ use clap::error::ErrorKind;
 use clap::{Arg, ArgAction, ArgMatches, Command as App, Error};
 use std::alloc::{AllocError, Global};
 
-/// The options and the names of files that the words behind a command give.
-pub fn read(
+/// The options and the names of files that the words after a command give.
+pub fn read<'a>(
     alloc: Global,
     command: Command,
-    words: &[String],
-) -> Result<(Options, Names), WordsError>
+    words: &'a [String],
+) -> Result<(Options<'a>, Names), WordsError>
     ensures ok { IfOk result (λ read.
-        read_by command (map string_bytes words.now) ≡ Some (read.0, read.1)) }
-    ensures usage { IsErrOf result Usage → read_by command (map string_bytes words.now) ≡ None }
+        read_by command (map string_bytes words.entry.now) ≡ Some (values_with read.0, read.1)) }
+    ensures usage { IsErrOf result Usage →
+        read_by command (map string_bytes words.entry.now) ≡ None }
 {
     let matches = matches_in(alloc, command, words)?;
-    let options = Options::of(&matches).ok_or(WordsError::Usage)?;
-    Ok((options, Names::of(alloc, &matches)?))
+    let names = Names::of(alloc, &matches)?;
+    let options = Options::of(matches).ok_or(WordsError::Usage)?;
+    Ok((options, names))
 }
 
-/// What clap finds in the words behind a command.
+/// What clap finds in the words after a command.
 fn matches_in<'a>(
     alloc: Global,
     command: Command,
@@ -83,13 +85,10 @@ fn option_arg<'a>(alloc: Global, option: OptionName) -> Arg<'a>
 fn action(option: OptionName) -> ArgAction
     ensures { result ≡ action_for option }
 {
-    match option {
-        OptionName::NoVar | OptionName::Delas => ArgAction::SetTrue,
-        OptionName::Mode
-        | OptionName::Policy
-        | OptionName::Left
-        | OptionName::Right
-        | OptionName::Sort => ArgAction::Set,
+    if option.is_flag() {
+        ArgAction::SetTrue
+    } else {
+        ArgAction::Set
     }
 }
 

@@ -5,16 +5,24 @@
 pub const HELP: &str = "\
 usage: unitex COMMAND ARGUMENTS
 
-  locate GRAPH TEXT ALPHABET   reads a grammar, a text and its letters, writes the index of all hits
-    --mode ignore              outputs of the grammar are left out (the default)
-    --policy all               every hit is kept (the default)
+  locate GRAPH TEXT ALPHABET   reads a grammar, a text and its letters, writes
+                               the index of all hits
+    --mode ignore              outputs of the grammar are left out (default)
+    --policy all               every hit is kept (default)
+    --chars                    each letter is a token of its own
   tokenize TEXT ALPHABET       reads a text and its letters, writes its tokens
-  check DIC                    reads a dictionary of forms, writes how many entries it has
-    --delas                    the dictionary is one of lemmas with their classes
-  dico TEXT ALPHABET [DIC..]   reads a text, its letters and dictionaries, writes their report
+    --chars                    each letter is a token of its own
+  check DIC                    reads a dictionary of forms, writes how many
+                               entries it has
+    --delas                    the dictionary is one of lemmas with their
+                               classes
+  dico TEXT ALPHABET [DIC..]   reads a text, its letters and dictionaries,
+                               writes their report
+    --chars                    each letter is a token of its own
 
-Options and names of files stand in any order, an option as --name value or --name=value. Behind --
-all words are names of files. --help and --version stand alone.
+Options and names of files stand in any order, an option as --name value or
+--name=value. After -- all words are names of files. --help and --version stand
+alone.
 ";
 
 /// Which program it is.

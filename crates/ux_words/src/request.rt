@@ -1,7 +1,9 @@
 //! What is asked for.
 
-ghost use Rattle.std.specs.Prelude.{◌≡◌, map, string_bytes, Some, None, OnOk, IfOk, IsErrOf};
+ghost use Rattle.std.specs.Prelude.{◌≡◌, map, string_bytes, Some, None, IfOk, IsErrOf};
 ghost use Rattle.ux_words.specs.Requests.{request_of, command_request, question_of};
+ghost use Rattle.ux_words.specs.Writing.{IsWritten};
+ghost use Rattle.ux_words.specs.declared.request.Request.{Request};
 ghost use Rattle.ux_words.specs.declared.error.WordsError.TheVariants.{Usage};
 
 use crate::arguments::read;
@@ -28,6 +30,19 @@ pub struct Search {
     pub policy: Policy,
     /// What an output does without its variable.
     pub novar: NoVar,
+    /// Whether each letter is a token of its own.
+    pub chars: bool,
+}
+
+/// A step of a cascade: the graph by which the text is rewritten, and how.
+#[derive(Debug, Drop)]
+pub struct CascadeStep {
+    /// The graph's file.
+    pub graph: Txt,
+    /// Whether outputs stand among the tokens taken, or in their place.
+    pub mode: Mode,
+    /// How often the step is applied, from 1 to 99.
+    pub times: u32,
 }
 
 /// What the words ask for.
@@ -35,7 +50,7 @@ pub struct Search {
 pub enum Request {
     /// The places where a graph is found.
     Locate(Search),
-    /// These places, with so many characters in front and behind.
+    /// These places, with so many characters before and after.
     Concord {
         search: Search,
         left: u32,
@@ -46,6 +61,7 @@ pub enum Request {
     Tokenize {
         text: Txt,
         alphabet: Txt,
+        chars: bool,
     },
     /// The number of entries of a dictionary, or of stems.
     Check {
@@ -57,11 +73,13 @@ pub enum Request {
         text: Txt,
         alphabet: Txt,
         dics: Lst<Txt>,
+        chars: bool,
     },
     /// A compiled grammar.
     Fst2 {
         graph: Txt,
         alphabet: Txt,
+        chars: bool,
     },
     /// The inflected forms of stems.
     Inflect {
@@ -76,6 +94,7 @@ pub enum Request {
         text: Txt,
         alphabet: Txt,
         dics: Lst<Txt>,
+        chars: bool,
     },
     /// Such automata, thinned by at least one rule.
     Elag {
@@ -86,6 +105,33 @@ pub enum Request {
     Bench {
         n: u32,
     },
+    /// A text, rewritten by steps with all of the dictionaries.
+    Cascade {
+        text: Txt,
+        alphabet: Txt,
+        steps: Lst<CascadeStep>,
+        dics: Lst<Txt>,
+        trace: bool,
+    },
+    /// A compiled grammar, its calls written out so deep.
+    Flatten {
+        graph: Txt,
+        alphabet: Txt,
+        depth: u32,
+    },
+    /// The places in the automata of sentences where a graph is found.
+    Tfind {
+        graph: Txt,
+        tfst: Txt,
+        alphabet: Txt,
+    },
+    /// The entries that a graph makes of the words of a text.
+    Morpho {
+        graph: Txt,
+        text: Txt,
+        alphabet: Txt,
+        dics: Lst<Txt>,
+    },
     /// What the program can do.
     Help,
     /// Which program it is.
@@ -93,20 +139,34 @@ pub enum Request {
 }
 
 impl Request {
-    /// The request of the words behind the program's name.
+    /// The request of the words after the program's name.
     pub fn of(alloc: Global, words: &[String]) -> Result<Request, WordsError>
         ensures ok { IfOk result (λ request.
             request_of (map string_bytes words.now) ≡ Some request) }
         ensures usage { IsErrOf result Usage → request_of (map string_bytes words.now) ≡ None }
+        // What is read was written so, and what is refused is written for no request.
+        ensures written { IfOk result (λ request.
+            IsWritten (map string_bytes words.now) request) }
+        ensures unwritten { IsErrOf result Usage →
+            (request : Request) → IsWritten (map string_bytes words.now) request → ⊥ }
     {
-        match words {
-            [] => Err(WordsError::Usage),
-            [word] => match question(word.as_str()) {
-                Some(request) => Ok(request),
-                None => command_request(alloc, word.as_str(), &[]),
-            },
-            [word, rest @ ..] => command_request(alloc, word.as_str(), rest),
-        }
+        asked(alloc, words)
+    }
+}
+
+/// The question that one word asks, or the request of a command.
+fn asked(alloc: Global, words: &[String]) -> Result<Request, WordsError>
+    ensures ok { IfOk result (λ request.
+        request_of (map string_bytes words.now) ≡ Some request) }
+    ensures usage { IsErrOf result Usage → request_of (map string_bytes words.now) ≡ None }
+{
+    match words {
+        [] => Err(WordsError::Usage),
+        [word] => match question(word.as_str()) {
+            Some(request) => Ok(request),
+            None => command_request(alloc, word.as_str(), &[]),
+        },
+        [word, rest @ ..] => command_request(alloc, word.as_str(), rest),
     }
 }
 
@@ -121,7 +181,7 @@ fn question(word: &str) -> Option<Request>
     }
 }
 
-/// The request of a command and the words behind it.
+/// The request of a command and the words after it.
 fn command_request(alloc: Global, name: &str, words: &[String]) -> Result<Request, WordsError>
     ensures ok { IfOk result (λ request.
         command_request name.now (map string_bytes words.now) ≡ Some request) }

@@ -1,7 +1,7 @@
 //! The values that options take.
 
 ghost use Rattle.std.specs.Prelude.{◌≡◌};
-ghost use Rattle.ux_words.specs.Tables.{mode_named, policy_named, sort_named, width_of};
+ghost use Rattle.ux_words.specs.Tables.{mode_named, policy_named, sort_named, width_of, depth_of};
 
 use crate::number::number;
 use ux_base::{Mode, Policy, Sort};
@@ -51,4 +51,11 @@ pub fn width(value: &str) -> Option<u32>
     ensures { result ≡ width_of value.now }
 {
     number(value, 4, 0, 1000)
+}
+
+/// How deep calls are written out, the value of `--depth`.
+pub fn depth(value: &str) -> Option<u32>
+    ensures { result ≡ depth_of value.now }
+{
+    number(value, 3, 0, 100)
 }

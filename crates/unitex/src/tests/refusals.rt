@@ -1,7 +1,7 @@
 //! Runs without a result: the status, and the one line that says why.
 
 use crate::tests::rows::{
-    CATS, GRAPH, LETTERS, SEARCH, compare_given, file, files_of, given, usual, usual_files,
+    CATS, GRAPH, LETTERS, SEARCH, compare_given, files_of, given, usual_files,
 };
 use std::alloc::Global;
 use std::process::Abort;
@@ -10,15 +10,6 @@ use ux_base::Mem;
 
 /// A name, what stands in a file, and the line on `err`.
 type Refusal = (&'static str, &'static [u8], &'static str);
-
-/// Files of usual names.
-fn files_named(alloc: Global, names: &[&str]) -> Mem<Vec<(String, Vec<u8>)>> {
-    let mut all = Vec::new(alloc);
-    for name in names {
-        all.push(file(alloc, name, usual(name).as_bytes())?)?;
-    }
-    Ok(all)
-}
 
 /// The usual files, of which one has these bytes.
 fn files_with(alloc: Global, name: &str, bytes: &[u8]) -> Mem<Vec<(String, Vec<u8>)>> {
@@ -45,21 +36,6 @@ fn check_refusals<R: Abort + AllocGlobal>(
 }
 
 #[test]
-fn names_the_first_absent_file(rt: HostRuntime) -> Result<(), Fail> {
-    const ROWS: &[(&str, &[&str], &str)] = &[
-        ("no file", &[], "absent: a.txt\n"),
-        ("no graph", &["a.txt", "t.txt"], "absent: g.grf\n"),
-        ("no text", &["a.txt", "g.grf"], "absent: t.txt\n"),
-    ];
-    for row in ROWS {
-        let files = files_named(rt.alloc(), row.1)?;
-        let got = given(rt.alloc(), SEARCH, files)?;
-        compare_given(&rt, row.0, &got, ("", row.2, 2));
-    }
-    Ok(())
-}
-
-#[test]
 fn refuses_alphabets(rt: HostRuntime) -> Result<(), Fail> {
     const ROWS: &[Refusal] = &[
         (
@@ -78,7 +54,7 @@ fn refuses_alphabets(rt: HostRuntime) -> Result<(), Fail> {
             "refused: a.txt: BadUtf8 place=3\n",
         ),
         (
-            "no text behind a mark",
+            "no text after a byte order mark",
             b"\xef\xbb\xbfAa\n\xe9",
             "refused: a.txt: BadUtf8 place=6\n",
         ),

@@ -12,6 +12,15 @@ pub const LETTERS: &str =
 /// A graph of one box, `the cat`.
 pub const GRAPH: &str = "#Unigraph\n#\n3\n\"<E>\" 0 0 1 2 \n\"\" 0 0 0 \n\"the cat\" 0 0 1 1 \n";
 
+/// A graph of one box, which calls the graph `g`.
+const CALL: &str = "#Unigraph\n#\n3\n\"<E>\" 0 0 1 2 \n\"\" 0 0 0 \n\":g\" 0 0 1 1 \n";
+
+/// A dictionary of forms.
+const DICTIONARY: &str = "cat,.N:s\n";
+
+/// A dictionary of lemmas with their classes.
+const STEMS: &str = "cat,N1\n";
+
 /// A text in which the graph has one hit.
 pub const CATS: &str = "The cat sat. The cats sat.";
 
@@ -105,6 +114,9 @@ pub fn usual(name: &str) -> &'static str {
     match name {
         "a.txt" => LETTERS,
         "g.grf" => GRAPH,
+        "m.grf" => CALL,
+        "d.dic" | "e.dic" => DICTIONARY,
+        "s.dic" => STEMS,
         _ => CATS,
     }
 }

@@ -1,5 +1,5 @@
 use Rattle.std.proofs.Common.{arith, refl}
-use Rattle.ux_alphabet.proofs.FileLemmas.{end-ascii, strip_blank-blank, strip_blank-other}
+use Rattle.ux_alphabet.proofs.BlankLemmas.{end-ascii, strip_blank-blank, strip_blank-other}
 use Rattle.ux_alphabet.proofs.reading.strip_blank.Goals as goal
 
 -- the cut falls before a blank, which is ASCII

@@ -4,7 +4,8 @@ use Rattle.ux_base.specs.Lines.{lines_of}
 use Rattle.ux_dela.specs.Delaf.{DelafSays, RefusesDelaf}
 use Rattle.ux_dela.proofs.CountLemmas.{count_more, count_whole}
 use Rattle.ux_dela.proofs.ExclusionLemmas.{says_excluded}
-use Rattle.ux_dela.proofs.FileLemmas.{lines_of-count, not_refused, read_stops}
+use Rattle.ux_base.proofs.EachLineLemmas.{not_refused, read_stops}
+use Rattle.ux_base.proofs.LinesLemmas.{lines_of-count}
 use Rattle.ux_dela.proofs.counting.count_delaf.Goals as goal
 
 -- this line is one of the text's, which are no more than its bytes

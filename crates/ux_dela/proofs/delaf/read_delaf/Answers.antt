@@ -2,7 +2,7 @@ use Rattle.std.proofs.lemmas.Result.{IfOk-weaker}
 use Rattle.ux_base.specs.Lines.{lines_of}
 use Rattle.ux_dela.specs.Delaf.{DelafSays, RefusesDelaf}
 use Rattle.ux_dela.proofs.ExclusionLemmas.{says_excluded}
-use Rattle.ux_dela.proofs.FileLemmas.{not_refused}
+use Rattle.ux_base.proofs.EachLineLemmas.{not_refused}
 use Rattle.ux_dela.proofs.SoundLemmas.{lines_of-no_feed, sound_file}
 use Rattle.ux_dela.proofs.delaf.read_delaf.Goals as goal
 

@@ -1,6 +1,6 @@
 use Rattle.ux_base.specs.Lines.{lines_of}
 use Rattle.ux_dela.specs.Delaf.{DelafSays, RefusesDelaf}
-use Rattle.ux_dela.proofs.FileLemmas.{IsReadTo}
+use Rattle.ux_base.proofs.EachLineLemmas.{IsReadTo}
 use Rattle.ux_dela.proofs.delaf.read_entries.Given as goal
 
 -- the lines so far are read

@@ -2,7 +2,7 @@ use Rattle.std.proofs.lemmas.Result.{IfOk-weaker}
 use Rattle.ux_base.specs.Lines.{lines_of}
 use Rattle.ux_dela.specs.Delas.{DelasSays, RefusesDelas}
 use Rattle.ux_dela.proofs.StemExclusionLemmas.{stem_excluded}
-use Rattle.ux_dela.proofs.FileLemmas.{not_refused}
+use Rattle.ux_base.proofs.EachLineLemmas.{not_refused}
 use Rattle.ux_dela.proofs.delas.read_delas.Goals as goal
 
 pub returns-clause-exact : goal.returns-clause-exact

@@ -1,6 +1,6 @@
 use Rattle.ux_base.specs.Lines.{lines_of}
 use Rattle.ux_dela.specs.Delas.{DelasSays, RefusesDelas}
-use Rattle.ux_dela.proofs.FileLemmas.{IsReadTo}
+use Rattle.ux_base.proofs.EachLineLemmas.{IsReadTo}
 use Rattle.ux_dela.proofs.delas.read_stems.Given as goal
 
 -- the lines so far are read

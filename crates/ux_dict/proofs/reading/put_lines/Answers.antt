@@ -2,7 +2,8 @@ use Rattle.std.proofs.Common.{arith, length, ap, inl, inr}
 use Rattle.std.proofs.lemmas.Result.{err_from_is_err_and}
 use Rattle.ux_base.specs.Lines.{lines_of}
 use Rattle.ux_dela.specs.Delaf.{DelafSays, RefusesDelaf}
-use Rattle.ux_dela.proofs.FileLemmas.{lines_of-count, read_stops}
+use Rattle.ux_base.proofs.EachLineLemmas.{read_stops}
+use Rattle.ux_base.proofs.LinesLemmas.{lines_of-count}
 use Rattle.ux_dict.proofs.ReadLemmas.{filed_more, filed_whole}
 use Rattle.ux_dict.proofs.reading.put_lines.Goals as goal
 

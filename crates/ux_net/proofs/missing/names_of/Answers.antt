@@ -1,5 +1,6 @@
 use Rattle.std.proofs.Common.{ℕ, List, Bor, map, ap, ◌∙◌}
-use Rattle.ux_tokens.specs.Numbers.{with_text, texts_in}
+use Rattle.ux_base.specs.Distinct.{with_text}
+use Rattle.ux_tokens.specs.Numbers.{texts_in}
 use Rattle.ux_tokens.proofs.NumbersLemmas.{texts-insert}
 use Rattle.ux_net.proofs.MissingLemmas.{names_more, names_all}
 use Rattle.ux_net.proofs.missing.names_of.Goals as goal

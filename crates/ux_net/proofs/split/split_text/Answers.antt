@@ -1,9 +1,11 @@
-use Rattle.std.proofs.Common.{arith, ◌≡◌, ◌-◌, ◌++◌, ℕ, List, [], ◌∷◌, ap, sym, subst, take, ◌∙◌}
+use Rattle.std.proofs.Common.{arith, ◌≡◌, ◌-◌, ◌++◌, ℕ, List, [], ◌∷◌, ap, sym, subst, take, length, refl, ◌∙◌}
+use Rattle.std.proofs.lemmas.Bool.{eqb-true}
 use Rattle.std.proofs.lemmas.Grind.{common_steps}
+use Rattle.std.proofs.lemmas.List.{drop_all}
 use Rattle.ux_tokens.specs.Tokens.{with_single_spaces}
 use Rattle.ux_net.specs.declared.label.Label.{Label}
 use Rattle.ux_net.specs.Splitting.{label_by}
-use Rattle.ux_net.proofs.SplittingLemmas.{IsCutInto, cut_into_start, cut_into_more}
+use Rattle.ux_net.proofs.SplittingLemmas.{IsCutInto, cut_into_start, cut_into_more, cut_into_end, labels_of}
 use Rattle.ux_net.proofs.split.split_text.Goals as goal
 
 pub loop-rest-init : goal.loop-rest-init
@@ -38,12 +40,23 @@ loop-rest-preserved c =
       c.range_from-rest.utf8,
       subst (IsCutInto alphabet c.args.comparison text before after) (sym grown)
           (cut_into_more alphabet c.args.comparison text before rest after labels kind len
-          c.loop-rest.invariant.0 c.first_token-kind.ensures.cut c.first_token-kind.ensures.is
-          c.first_token-kind.ensures.plain c.range_from-rest.ensures.value c.loop-rest.invariant.1),
+          c.first_token-kind.ensures.is c.first_token-kind.ensures.plain
+          c.range_from-rest.ensures.value c.loop-rest.invariant.1),
     )
 
 pub returns : goal.returns
-returns c = grind (arith, common_steps)
+returns c =
+    let alphabet = c.args.alphabet.now in
+    let text = with_single_spaces c.args.text.now in
+    let before = c.args.labels.now.items in
+    let rest = c.loop-rest.rest.now in
+    let empty : length rest ≡ 0 =
+    eqb-true (length rest) 0 (sym c.is_empty.ensures ∙ c.loop-rest-test.false) in
+    let whole = cut_into_end alphabet c.args.comparison text before c.loop-rest.labels.items
+    (subst (λ (rest : List ℕ).
+    IsCutInto alphabet c.args.comparison text before rest c.loop-rest.labels.items)
+    (drop_all 0 rest (omega arith)) c.loop-rest.invariant.1) in
+    (labels_of c.args.comparison whole.0, (whole.0, whole.1, refl), whole.2)
 
 pub returns-in_err-text : goal.returns-in_err-text
 returns-in_err-text c = grind (arith, common_steps)

@@ -1,54 +1,30 @@
 use Rattle.std.proofs.Common.{inr, map, string_bytes, rules}
 use Rattle.ux_base.specs.Outside.{Rose}
-use Rattle.ux_run.specs.declared.status.Status.TheVariants.{WriteFault}
-use Rattle.ux_run.specs.Requests.{request_of}
-use Rattle.ux_run.specs.Running.{counts_of}
-use Rattle.ux_run.proofs.Complete.{denied_well}
-use Rattle.ux_run.proofs.Explaining.{denied_ends, ended_by, front_line, told_or_fault, whole_line}
+use Rattle.ux_status.specs.declared.status.Status.TheVariants.{WriteFault}
+use Rattle.ux_words.specs.Requests.{request_of}
+use Rattle.ux_run.specs.Running.{asked_if}
+use Rattle.ux_run.proofs.Ending.{denied_ends, ended_memory, front_line}
 use Rattle.ux_run.proofs.top_call.run.Goals as goal
 
 pub returns-in-Err-clause-complete : goal.returns-in-Err-clause-complete
 returns-in-Err-clause-complete g c =
-    let counts = counts_of g.F.Folder.faults g.F.Folder.misses g.F.Folder.overlong in
+    let seen = g.F.Folder.seen in
     let request = request_of (map string_bytes c.args.words.now) in
-    let told = g.F.Folder.files c.args.folder.now in
-    let old = counts c.args.folder.now in
-    let new = counts c.answer.new.folder in
-    let unwritten = Rose (g.E.Sink.faults c.args.err.now) (g.E.Sink.faults c.ended.new.err) in
-    let ended = told_or_fault c.ended.result c.in-Err.status c.ended.ensures.status in
-    λ ready sound wrote.
-    denied_well request told ready old new unwritten sound (λ rose. wrote (inr rose))
-    c.in-Err.status c.ended.result c.in-Err.ensures.err ended
-
-pub returns-in-Err-clause-causes : goal.returns-in-Err-clause-causes
-returns-in-Err-clause-causes g c =
-    let counts = counts_of g.F.Folder.faults g.F.Folder.misses g.F.Folder.overlong in
-    let request = request_of (map string_bytes c.args.words.now) in
-    let told = g.F.Folder.files c.args.folder.now in
-    let unwritten = Rose (g.S.Sink.faults c.args.out.now) (g.S.Sink.faults c.args.out.now) in
-    let ended = told_or_fault c.ended.result c.in-Err.status c.ended.ensures.status in
-    ended_by told (counts c.args.folder.now) (counts c.answer.new.folder) unwritten request
-    c.in-Err.status c.ended.result c.in-Err.ensures.err ended
-
-pub returns-in-Err-clause-write_line : goal.returns-in-Err-clause-write_line
-returns-in-Err-clause-write_line g c =
-    let written = g.E.Sink.written in
-    let unwritten = Rose (g.E.Sink.faults c.args.err.now) (g.E.Sink.faults c.ended.new.err) in
-    λ is sound.
-    whole_line (written c.args.err.now) (written c.ended.new.err) c.ended.result c.in-Err.status
-    unwritten c.ended.ensures.status sound
+    λ ready unfaulted wrote.
+    ended_memory request (seen c.args.folder.now) (seen c.answer.new.folder) c.in-Err.status
+    c.ended.result c.in-Err.ensures.err c.ended.ensures.status ready unfaulted
+    (λ rose. wrote (inr rose))
 
 pub returns-in-Err-clause-cut_line : goal.returns-in-Err-clause-cut_line
 returns-in-Err-clause-cut_line g c =
-    let counts = counts_of g.F.Folder.faults g.F.Folder.misses g.F.Folder.overlong in
-    let request = request_of (map string_bytes c.args.words.now) in
-    let told = g.F.Folder.files c.args.folder.now in
+    let seen = g.F.Folder.seen in
     let written = g.E.Sink.written in
-    let unwritten = Rose (g.E.Sink.faults c.args.err.now) (g.E.Sink.faults c.ended.new.err) in
+    let asked = asked_if (request_of (map string_bytes c.args.words.now)) in
     let faults = Rose (g.S.Sink.faults c.args.out.now) (g.S.Sink.faults c.args.out.now) in
+    let unwritten = Rose (g.E.Sink.faults c.args.err.now) (g.E.Sink.faults c.ended.new.err) in
     λ is rose. (
       c.in-Err.status,
-      denied_ends told (counts c.args.folder.now) (counts c.answer.new.folder) request faults
+      denied_ends asked (seen c.args.folder.now) (seen c.answer.new.folder) faults
           c.in-Err.status c.in-Err.ensures.err,
       front_line (written c.args.err.now) (written c.ended.new.err) c.ended.result
           c.in-Err.status unwritten c.ended.ensures.status,

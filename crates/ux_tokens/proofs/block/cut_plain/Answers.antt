@@ -17,13 +17,13 @@ loop-place-init c =
       ends = refl;
       kinds = refl;
       few = omega arith;
-      block = λ lines are.
-          block_start lines text c.utf8.text start c.args.ends.now c.args.kinds.now _
+      block = λ alphabet runs are.
+          block_start alphabet text c.utf8.text start c.args.ends.now c.args.kinds.now _
           c.requires.boundary
           (subst (λ (bytes : List ℕ).
-          IsClass lines (get_or text start 0) (get_or classes (get_or bytes start 0) Word))
+          IsClass alphabet (get_or text start 0) (get_or classes (get_or bytes start 0) Word))
           (sym c.as_bytes-bytes.ensures.value)
-          (class_at lines classes (get_or text start 0) are plain.0));
+          (class_at alphabet classes (get_or text start 0) are plain.0));
     }
 
 pub bounds-classes-bytes-in-loop-place : goal.bounds-classes-bytes-in-loop-place
@@ -58,20 +58,21 @@ loop-place-preserved c =
       ends = length-set _ _ _ ∙ inv.ends;
       kinds = length-set _ _ _ ∙ inv.kinds;
       few = omega (arith, few, one);
-      block = λ lines are.
-          block_more lines text c.utf8.text start place c.loop-place.count
+      block = λ alphabet runs are.
+          block_more alphabet text c.utf8.text runs start place c.loop-place.count
           c.ends_between-count.result c.loop-place.ends c.loop-place.kinds c.loop-place.kind _
-          (inv.block lines are) (omega (arith, within, inside)) plain plain_next
+          (inv.block alphabet runs are) (omega (arith, within, inside)) plain plain_next
           (subst (λ (bytes : List ℕ).
-          IsClass lines (get_or text (place + 1) 0) (get_or classes (get_or bytes (place + 1) 0) Word))
+          IsClass alphabet (get_or text (place + 1) 0) (get_or classes (get_or bytes (place + 1) 0) Word))
           (sym c.as_bytes-bytes.ensures.value)
-          (class_at lines classes (get_or text (place + 1) 0) are plain_next.0))
+          (class_at alphabet classes (get_or text (place + 1) 0) are plain_next.0))
           (omega (arith, few, within, room, same)) (omega (arith, same, same_kinds, even)) one
           bit.ends bit.inside bit.word;
     }
 
 pub returns-clause-fronts : goal.returns-clause-fronts
-returns-clause-fronts c = λ lines are. (c.loop-place.invariant.block lines are).fronts
+returns-clause-fronts c = λ alphabet runs are.
+    (c.loop-place.invariant.block alphabet runs are).fronts
 
 pub bounds-bytes-start : goal.bounds-bytes-start
 bounds-bytes-start c = grind (arith, common_steps)

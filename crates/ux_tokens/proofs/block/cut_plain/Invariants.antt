@@ -1,5 +1,5 @@
-use Rattle.std.proofs.Common.{◌≡◌, ◌+◌, ◌≤◌, List, length}
-use Rattle.ux_alphabet.specs.declared.line.Line.{Line}
+use Rattle.std.proofs.Common.{◌≡◌, ◌+◌, ◌≤◌, false, length}
+use Rattle.ux_alphabet.specs.Letters.{Letters}
 use Rattle.ux_tokens.specs.Blocks.{AreClasses}
 use Rattle.ux_tokens.proofs.BlocksLemmas.{IsBlock}
 use Rattle.ux_tokens.proofs.block.cut_plain.Given as goal
@@ -10,6 +10,6 @@ invariant-loop-place l = record {
   ends : length l.ends ≡ length l.initial.ends;
   kinds : length l.kinds ≡ length l.initial.kinds;
   few : l.start + l.count ≤ l.place;
-  block : (lines : List Line) → AreClasses lines l.classes →
-      IsBlock lines l.text l.start l.place l.count l.ends l.kinds l.kind;
+  block : (alphabet : Letters) → alphabet.single ≡ false → AreClasses alphabet l.classes →
+      IsBlock alphabet l.text l.start l.place l.count l.ends l.kinds l.kind;
 }

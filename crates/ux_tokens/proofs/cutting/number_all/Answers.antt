@@ -7,7 +7,8 @@ use Rattle.ux_tokens.specs.declared.kind.Kind.TheVariants.{Word}
 use Rattle.ux_tokens.specs.declared.piece.Piece.{Piece}
 use Rattle.ux_tokens.specs.Blocks.{last_from}
 use Rattle.ux_tokens.specs.Cutting.{IsSoFar}
-use Rattle.ux_tokens.specs.Numbers.{texts_in, with_text}
+use Rattle.ux_base.specs.Distinct.{with_text}
+use Rattle.ux_tokens.specs.Numbers.{texts_in}
 use Rattle.ux_tokens.proofs.BlocksLemmas.{last_from-push, token_here}
 use Rattle.ux_tokens.proofs.NumberedLemmas.{all_taken, front_is, length-with_text, number_more, space_text}
 use Rattle.ux_tokens.proofs.NumbersLemmas.{length-texts_in}
@@ -81,25 +82,25 @@ loop-i-preserved c =
           let within = c.loop-i-test.true in
           omega (arith, same, fewer, keys, more_keys, room, within);
       known = c.in_ok-given.ensures.known;
-      so_far = λ lines pieces fronts few so_far.
-          number_more lines text c.utf8.text c.args.start i from
+      so_far = λ alphabet pieces fronts few so_far.
+          number_more alphabet text c.utf8.text c.args.start i from
           c.in_ok-given.field-0 ends c.loop-i.given c.args.kinds.now pieces before more fronts
           c.loop-i-test.true inv.given few inv.from_is
-          (inv.so_far lines pieces fronts few so_far)
+          (inv.so_far alphabet pieces fronts few so_far)
           (c.in_ok-given.ensures.texts ∙ ap (with_text before) word)
           (c.in_ok-given.ensures.place ∙ ap Some word);
     }
 
 pub returns-clause-so_far : goal.returns-clause-so_far
-returns-clause-so_far c = λ lines pieces fronts few so_far.
+returns-clause-so_far c = λ alphabet pieces fronts few so_far.
     let all = c.loop-i-test.false in
     let even = fronts.even in
     let given = c.loop-i.invariant.given in
-    subst (λ (l : List Piece). IsSoFar lines c.args.text.now c.loop-i.from (pieces ++ l)
+    subst (λ (l : List Piece). IsSoFar alphabet c.args.text.now c.loop-i.from (pieces ++ l)
     (texts_in c.loop-i.numbers))
     (all_taken c.loop-i.i c.args.ends.now c.loop-i.given c.args.kinds.now (omega (arith, all))
     (omega (arith, all, given)) (omega (arith, all, even)))
-    (c.loop-i.invariant.so_far lines pieces fronts few so_far)
+    (c.loop-i.invariant.so_far alphabet pieces fronts few so_far)
 
 pub loop-i-init : goal.loop-i-init
 loop-i-init c = grind (arith, common_steps)

@@ -1,7 +1,7 @@
 use Rattle.std.proofs.Common.{◌≡◌, ◌+◌, ◌-◌, ◌≤◌, ◌++◌, List, length, take}
 use Rattle.std.specs.Str.{IsCharBoundary}
 use Rattle.indexmap.specs.IndexSet.{index_set_len}
-use Rattle.ux_alphabet.specs.declared.line.Line.{Line}
+use Rattle.ux_alphabet.specs.Letters.{Letters}
 use Rattle.ux_tokens.specs.declared.cutting.TheConstants.{MAX_TOKENS}
 use Rattle.ux_tokens.specs.declared.piece.Piece.{Piece}
 use Rattle.ux_tokens.specs.Blocks.{AreFronts, last_from}
@@ -20,11 +20,11 @@ invariant-loop-i l = record {
   between : IsCharBoundary l.text l.from;
   room : index_set_len l.numbers + (length l.ends - l.i) ≤ MAX_TOKENS;
   known : AreKnown (texts_in l.numbers) l.known;
-  so_far : (lines : List Line) (pieces : List Piece) →
-      AreFronts lines l.text l.start l.ends l.kinds →
+  so_far : (alphabet : Letters) (pieces : List Piece) →
+      AreFronts alphabet l.text l.start l.ends l.kinds →
       length pieces + length l.ends ≤ MAX_TOKENS →
-      IsSoFar lines l.text l.start pieces (texts_in l.initial.numbers) →
-      IsSoFar lines l.text l.from
+      IsSoFar alphabet l.text l.start pieces (texts_in l.initial.numbers) →
+      IsSoFar alphabet l.text l.from
       (pieces ++ pieces_from (take l.i l.ends) (take l.i l.given) (take l.i l.kinds))
       (texts_in l.numbers);
 }

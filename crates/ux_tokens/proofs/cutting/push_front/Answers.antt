@@ -15,7 +15,7 @@ use Rattle.ux_tokens.proofs.cutting.push_front.Goals as goal
 
 pub returns-then-len-eq-MAX_TOKENS-clause-err : goal.returns-then-len-eq-MAX_TOKENS-clause-err
 returns-then-len-eq-MAX_TOKENS-clause-err c =
-    let lines = c.args.alphabet.now in
+    let alphabet = c.args.alphabet.now in
     let text = c.args.text.now in
     let pieces = pieces_of c.args.pieces.now in
     let so_far = c.requires.so_far in
@@ -23,7 +23,7 @@ returns-then-len-eq-MAX_TOKENS-clause-err c =
     in
     let left : length (drop c.args.start text) ≡ length text - c.args.start =
     length-drop c.args.start text in
-    let more = has_more lines text (drop c.args.start text)
+    let more = has_more alphabet text (drop c.args.start text)
     (tokens_from text 0 pieces) (IsUtf8-drop text c.args.start c.utf8.text so_far.between)
     (omega arith) so_far.tokens in
     (more.0, more.1, omega (arith, more.2))

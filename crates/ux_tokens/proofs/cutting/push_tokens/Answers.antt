@@ -22,29 +22,23 @@ loop-end-init c =
 
 pub push_front-requires-clause-so_far : goal.push_front-requires-clause-so_far
 push_front-requires-clause-so_far c =
-    let lines = c.args.alphabet.now in
-    let before = c.loop-end.invariant in
-    let block = c.in_ok-behind.ensures in
-    let not_later = c.if-behind-end.false in
+    let block = c.in_ok-after.ensures in
+    let not_later = c.if-after-end.false in
     let in_order = block.in_order in
-    let same : c.in_ok-behind.behind ≡ c.loop-end.end = omega (arith, not_later, in_order) in
-    subst (λ (n : ℕ). IsSoFar lines c.args.text.now n (pieces_of c.push_block.new.pieces)
-    (texts_in c.push_block.new.numbers)) same (block.so_far lines
-    before.classes before.so_far)
+    let same : c.in_ok-after.after ≡ c.loop-end.end = omega (arith, not_later, in_order) in
+    subst (λ (n : ℕ). IsSoFar c.args.alphabet.now c.args.text.now n
+    (pieces_of c.push_block.new.pieces) (texts_in c.push_block.new.numbers)) same block.so_far
 
-pub loop-end-preserved-then-behind-end : goal.loop-end-preserved-then-behind-end
-loop-end-preserved-then-behind-end c =
-    let lines = c.args.alphabet.now in
+pub loop-end-preserved-then-after-end : goal.loop-end-preserved-then-after-end
+loop-end-preserved-then-after-end c =
     let before = c.loop-end.invariant in
-    let block = c.in_ok-behind.ensures in
+    let block = c.in_ok-after.ensures in
     record {
       classes = before.classes;
-      so_far =
-          block.so_far lines
-          before.classes before.so_far;
+      so_far = block.so_far;
       even = block.even;
       known = block.known;
-      free = free_later c.args.text.now c.loop-end.end c.in_ok-behind.behind c.loop-end.free
+      free = free_later c.args.text.now c.loop-end.end c.in_ok-after.after c.loop-end.free
           block.in_order before.free;
     }
 

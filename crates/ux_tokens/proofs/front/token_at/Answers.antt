@@ -15,7 +15,7 @@ mark_at-requires-clause-free c =
 
 pub returns-then-eq-clause-front : goal.returns-then-eq-clause-front
 returns-then-eq-clause-front c =
-    let lines = c.args.alphabet.now in
+    let alphabet = c.args.alphabet.now in
     let start = c.args.start in
     let rest = drop start c.args.text.now in
     let kind = c.first_token-kind.result.0 in
@@ -23,13 +23,13 @@ returns-then-eq-clause-front c =
     let first = c.first_token-kind.ensures in
     let value = c.range_from.ensures.value in
     rw c.unwrap_or.ensures
-    (other_or_mark lines c.mark_at.result rest kind len
+    (other_or_mark alphabet c.mark_at.result rest kind len
     (IsUtf8-drop c.args.text.now start c.utf8.text c.requires.boundary)
     (subst (λ (bytes : List ℕ). MatchOption c.mark_at.result (BeginsWithMark (drop start bytes) → ⊥)
     (λ (kind, len). IsMarkFront (drop start bytes) kind len))
     c.as_bytes.ensures.value c.mark_at.ensures.exact)
-    (λ none. subst (λ (bytes : List ℕ). IsFront lines bytes kind len) value
-    (plain_front lines c.range_from.result.now kind len first.cut first.some first.is first.plain
+    (λ none. subst (λ (bytes : List ℕ). IsFront alphabet bytes kind len) value
+    (plain_front alphabet c.range_from.result.now kind len first.cut first.some first.is first.plain
     (λ other begins. none (subst BeginsWithMark value begins)))))
 
 pub returns-then-eq-clause-free : goal.returns-then-eq-clause-free
@@ -39,10 +39,10 @@ returns-then-eq-clause-free c =
 
 pub returns-clause-front : goal.returns-clause-front
 returns-clause-front c =
-    let lines = c.args.alphabet.now in
+    let alphabet = c.args.alphabet.now in
     let kind = c.first_token-kind.result.0 in
     let len = c.first_token-kind.result.1 in
     let first = c.first_token-kind.ensures in
-    subst (λ (bytes : List ℕ). IsFront lines bytes kind len) c.range_from.ensures.value
-    (plain_front lines c.range_from.result.now kind len first.cut first.some first.is first.plain
+    subst (λ (bytes : List ℕ). IsFront alphabet bytes kind len) c.range_from.ensures.value
+    (plain_front alphabet c.range_from.result.now kind len first.cut first.some first.is first.plain
     (λ other. absurd (false≢true (rw other at c.if-eq.ensures))))

@@ -5,7 +5,7 @@ use Rattle.ux_tokens.proofs.BytesLemmas.{be_bytes_16}
 use Rattle.ux_tokens.proofs.KnownLemmas.{bytes_shifted, take_fits}
 use Rattle.ux_tokens.proofs.known.short_front.Goals as goal
 
--- the number of sixteen bytes, without those behind the text
+-- the number of sixteen bytes, without those after the text
 pub returns-clause-bytes : goal.returns-clause-bytes
 returns-clause-bytes c =
     let len = c.args.len in

@@ -7,13 +7,14 @@ use Rattle.ux_tokens.proofs.listing.token_file_of.Goals as goal
 
 pub returns-in_err-texts-clause-refused : goal.returns-in_err-texts-clause-refused
 returns-in_err-texts-clause-refused c =
-    let lines = c.args.alphabet.now in
+    let alphabet = c.args.alphabet.now in
     let text = string_bytes c.args.text in
     let error = c.in_err-texts.field-0.0 in
-    exit c.from_residual.result error (Refuses lines text)
+    exit c.from_residual.result error (Refuses alphabet text)
     c.from_residual.ensures.1
-    (refused lines text (string_bytes c.into_single_spaced-text.result) c.into_single_spaced-text.ensures error
-    (subst (λ (bytes : List ℕ). RefusesCut lines bytes error) c.as_str.ensures.value
+    (refused alphabet text (string_bytes c.into_single_spaced-text.result)
+    c.into_single_spaced-text.ensures error
+    (subst (λ (bytes : List ℕ). RefusesCut alphabet bytes error) c.as_str.ensures.value
     c.in_err-texts.ensures.err))
 
 pub returns-clause-ok : goal.returns-clause-ok

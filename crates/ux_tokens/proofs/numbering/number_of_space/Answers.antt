@@ -1,7 +1,7 @@
 use Rattle.std.proofs.Common.{Some, sym, ◌∙◌, ap}
 use Rattle.ux_tokens.specs.Numbers.{texts_in}
 use Rattle.ux_tokens.proofs.KnownLemmas.{known_kept}
-use Rattle.ux_tokens.proofs.NumbersLemmas.{with_text-there}
+use Rattle.ux_base.proofs.DistinctLemmas.{with_text-there}
 use Rattle.ux_tokens.proofs.numbering.number_of_space.Goals as goal
 
 -- the space has a number, so its text is there

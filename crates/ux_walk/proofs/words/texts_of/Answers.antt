@@ -1,6 +1,7 @@
 use Rattle.std.proofs.Common.{◌≡◌, ◌<◌, ◌≤◌, ◌∙◌, ◌+◌, Bor, List, ℕ, ap, arith, length, subst, sym}
 use Rattle.std.proofs.lemmas.List.{length-map, take_all}
-use Rattle.ux_tokens.specs.Numbers.{different_texts, texts_in, with_text}
+use Rattle.ux_base.specs.Distinct.{with_text}
+use Rattle.ux_tokens.specs.Numbers.{different_texts, texts_in}
 use Rattle.ux_walk.proofs.WordsLemmas.{IsTable, table_more, table_same}
 use Rattle.ux_walk.proofs.words.texts_of.Goals as goal
 use Rattle.ux_walk.proofs.words.texts_of.Goals.{then-len-number+in_ok-number_of, else-len-number}

@@ -1,4 +1,5 @@
 use Rattle.std.proofs.Common.{◌∙◌, ap, map, string_bytes, sym, Err}
+use Rattle.ux_words.specs.Matching.{values_with}
 use Rattle.ux_words.proofs.MatchesLemmas.{err_of}
 use Rattle.ux_words.proofs.RequestLemmas.{request-unread, request-read}
 use Rattle.ux_words.proofs.request.command_request.Goals as goal
@@ -13,5 +14,5 @@ returns-in_err-options-clause-usage c = λ usage.
 pub returns-clause-usage : goal.returns-clause-usage
 returns-clause-usage c = λ usage.
     request-read c.args.name.now (map string_bytes c.args.words.now) c.in_ok-command.command
-    (sym c.named.ensures ∙ c.in_ok-command.ensures.ok_part) c.in_ok-options.options
+    (sym c.named.ensures ∙ c.in_ok-command.ensures.ok_part) (values_with c.in_ok-options.options)
     c.in_ok-options.names c.in_ok-options.ensures.ok ∙ c.build.ensures.usage usage

@@ -9,13 +9,13 @@ use Rattle.ux_tokens.proofs.text.Text.read.Goals as goal
 
 pub returns-in_err-cut-clause-refused : goal.returns-in_err-cut-clause-refused
 returns-in_err-cut-clause-refused c =
-    let lines = c.args.alphabet.now in
+    let alphabet = c.args.alphabet.now in
     let text = string_bytes c.args.text in
     let error = c.in_err-cut.field-0.0 in
-    exit c.from_residual.result error (Refuses lines text) c.from_residual.ensures.1
-    (refused lines text (string_bytes c.into_single_spaced-text.result)
+    exit c.from_residual.result error (Refuses alphabet text) c.from_residual.ensures.1
+    (refused alphabet text (string_bytes c.into_single_spaced-text.result)
     c.into_single_spaced-text.ensures error
-    (subst (λ (bytes : List ℕ). RefusesCut lines bytes error) c.as_str.ensures.value
+    (subst (λ (bytes : List ℕ). RefusesCut alphabet bytes error) c.as_str.ensures.value
     c.in_err-cut.ensures.err))
 
 pub returns-clause-tokens : goal.returns-clause-tokens

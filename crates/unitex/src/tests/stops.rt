@@ -1,0 +1,135 @@
+//! Each command at each of its files, where the file is absent, can't be read, is too long or is
+//! refused.
+
+ghost use Rattle.std.specs.Prelude.{◌≤◌, None, IfOk, length};
+ghost use Rattle.ux_base.specs.Outside.{MAX, seen_with};
+
+use crate::tests::rows::{compare_given, given_by, sink, usual};
+use std::alloc::Global;
+use std::process::Abort;
+use std::test::Fail;
+use ux_base::{Counts, Folder, FolderError};
+
+/// What is wrong with a file.
+#[derive(Clone, Copy)]
+enum Wrong {
+    /// It isn't there.
+    Absent,
+    /// It can't be read.
+    Fault,
+    /// It is too long.
+    TooLong,
+    /// It holds other bytes.
+    Holds(&'static [u8]),
+}
+
+/// A folder of the usual files, of which one is wrong.
+#[derive(Drop)]
+struct OneWrong {
+    name: &'static str,
+    wrong: Wrong,
+    counts: Counts,
+}
+
+impl Folder for OneWrong {
+    ghost seen = { λ f. seen_with None f.counts };
+
+    fn read(&mut self, alloc: Global, name: &str) -> Result<Vec<u8>, FolderError> {
+        let result = answer(alloc, self.name, self.wrong, name);
+        self.counts = self.counts.after(&result);
+        result
+    }
+}
+
+/// What the read of the file of this name answers, where another one is wrong.
+fn answer(alloc: Global, other: &str, wrong: Wrong, name: &str) -> Result<Vec<u8>, FolderError>
+    ensures { IfOk result (λ bytes. length bytes.items ≤ MAX) }
+{
+    if name != other {
+        return short_copy(alloc, usual(name).as_bytes());
+    }
+    match wrong {
+        Wrong::Absent => Err(FolderError::Absent),
+        Wrong::Fault => Err(FolderError::Fault),
+        Wrong::TooLong => Err(FolderError::TooLong),
+        Wrong::Holds(bytes) => short_copy(alloc, bytes),
+    }
+}
+
+/// A copy of the first bytes.
+fn short_copy(alloc: Global, bytes: &[u8]) -> Result<Vec<u8>, FolderError>
+    ensures { IfOk result (λ bytes. length bytes.items ≤ MAX) }
+{
+    match Vec::from_slice(alloc, &bytes[..bytes.len().min(4096)]) {
+        Ok(bytes) => Ok(bytes),
+        Err(_) => Err(FolderError::NoMemory),
+    }
+}
+
+/// The words, one of the files, bytes by which it is refused, and for which reason.
+type Row = (
+    &'static [&'static str],
+    &'static str,
+    &'static [u8],
+    &'static str,
+);
+
+const SEARCH: &[&str] = &["locate", "m.grf", "t.txt", "a.txt"];
+
+const TOKENS: &[&str] = &["tokenize", "t.txt", "a.txt"];
+
+const CHECK: &[&str] = &["check", "d.dic"];
+
+const CHECK_STEMS: &[&str] = &["check", "--delas", "s.dic"];
+
+const REPORT: &[&str] = &["dico", "t.txt", "a.txt", "d.dic", "e.dic"];
+
+/// Each command, and each of its files in the order of reading.
+const ROWS: &[Row] = &[
+    (SEARCH, "a.txt", b"abc", "BadLine line=1"),
+    (SEARCH, "m.grf", b"", "NoHeader"),
+    (SEARCH, "g.grf", b"#Unigraph\n#\n1\n", "BadCount"),
+    (SEARCH, "t.txt", b"\xff\xfea", "OddLength"),
+    (TOKENS, "a.txt", b"#ba", "EmptyRange line=1"),
+    (TOKENS, "t.txt", b"a\xff", "BadUtf8 place=1"),
+    (CHECK, "d.dic", b"abc", "NoComma line=1 place=3"),
+    (CHECK_STEMS, "s.dic", b"abc", "NoComma line=1 place=3"),
+    (REPORT, "a.txt", b"abc", "BadLine line=1"),
+    (REPORT, "t.txt", b"\xff", "BadUtf8 place=0"),
+    (REPORT, "d.dic", b"cat,.N\nabc", "NoComma line=2 place=3"),
+    (REPORT, "e.dic", b"\xff", "BadUtf8 place=0"),
+];
+
+/// Gives the row's words where its file is wrong, and compares the line on `err` and the status.
+fn compare_stop<R: Abort + AllocGlobal>(
+    rt: &R,
+    row: &Row,
+    wrong: Wrong,
+    want: (&str, u8),
+) -> Result<(), Fail> {
+    let mut folder = OneWrong {
+        name: row.1,
+        wrong,
+        counts: Counts::zero(),
+    };
+    let sinks = (sink(rt.alloc(), 64)?, sink(rt.alloc(), 64)?);
+    let got = given_by(rt.alloc(), row.0, &mut folder, sinks)?;
+    compare_given(rt, want.0, &got, ("", want.0, want.1));
+    Ok(())
+}
+
+#[test]
+fn names_the_file_that_stops_a_command(rt: HostRuntime) -> Result<(), Fail> {
+    for row in ROWS {
+        let (name, reason) = (row.1, row.3);
+        let absent = format!(in rt.alloc(); "absent: {name}\n")?;
+        compare_stop(&rt, row, Wrong::Absent, (absent.as_str(), 2))?;
+        let fault = format!(in rt.alloc(); "read fault: {name}\n")?;
+        compare_stop(&rt, row, Wrong::Fault, (fault.as_str(), 4))?;
+        let long = format!(in rt.alloc(); "too large: {name}\n")?;
+        compare_stop(&rt, row, Wrong::TooLong, (long.as_str(), 6))?;
+        let refused = format!(in rt.alloc(); "refused: {name}: {reason}\n")?;
+        compare_stop(&rt, row, Wrong::Holds(row.2), (refused.as_str(), 3))?;
+    }
+    Ok(())
+}

@@ -1,0 +1,2 @@
+pub mod DictionaryLaws
+pub mod PriorityLemmas

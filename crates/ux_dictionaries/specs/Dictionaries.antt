@@ -1,0 +1,23 @@
+-- Which files are the dictionaries of a command. This file carries public meaning.
+use Rattle.std.specs.Prelude.{ℕ, List}
+use Rattle.ux_apply.specs.Names.{IsPriorityOf}
+use Rattle.ux_apply.specs.declared.priority.Priority.{Priority}
+use Rattle.ux_decode.specs.declared.error.DecodeError.{DecodeError}
+use Rattle.ux_dela.specs.Files.{Refuses}
+use Rattle.ux_dela.specs.declared.entry.Entry.{Entry}
+use Rattle.ux_dela.specs.declared.error.DelaError.{DelaError}
+use Rattle.ux_dict.specs.FileContent.{IsFileContent}
+use Rattle.ux_plan.specs.FileNames.{base_of}
+use Rattle.ux_plan.specs.Plans.{Format, decoded, said_as}
+
+-- the text is a dictionary of this content, to which the file's name without its folder gives this
+-- priority
+pub record IsDictionary (name text : List ℕ) (dic : Priority × List Entry) : Type 0 where
+  pub priority : IsPriorityOf (base_of name) dic.0
+  pub content : IsFileContent text dic.1
+
+-- the dictionary in the file of this name
+abbrev pub dictionary_format : {R : Type 0} → (DecodeError → R) → (DelaError → R) →
+    (name : List ℕ) → Format R (Priority × List Entry)
+dictionary_format decode_as dela_as name =
+    decoded decode_as (said_as dela_as (IsDictionary name) Refuses)

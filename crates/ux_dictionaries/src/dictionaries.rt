@@ -1,0 +1,68 @@
+//! Files of forms, as the dictionaries of a command.
+
+ghost use Rattle.std.specs.Prelude.{◌≡◌, IfErr, IfOk};
+ghost use Rattle.ux_base.specs.Outside.{IsLater};
+ghost use Rattle.ux_plan.specs.Plans.{Comes, Halts, Reads, StopsFile, each};
+ghost use Rattle.ux_dictionaries.specs.Dictionaries.{dictionary_format};
+
+use std::alloc::Global;
+use ux_apply::Priority;
+use ux_base::{Folder, Txt};
+use ux_dela::DelaError;
+use ux_dict::ListLexicon;
+use ux_plan::{OfDecode, Stop, base_of, read_decoded, refused};
+
+/// A command's reasons, where refused dictionaries have one among them.
+pub trait OfDela: Drop {
+    ghost use Rattle.std.specs.Prelude.{◌≡◌};
+    ghost use Rattle.ux_dela.specs.declared.error.DelaError.{DelaError};
+
+    /// The reason of a refused dictionary.
+    ghost dela_as: { DelaError → Self };
+
+    /// The same.
+    fn of_dela(error: DelaError) -> Self
+        ensures { result ≡ dela_as error };
+}
+
+/// Reads the dictionaries of these names.
+#[tactic(auto, using(ux_plan::proofs::PlanSteps::plan_steps))]
+pub fn read_dictionaries<F: Folder, R: OfDecode + OfDela>(
+    alloc: Global,
+    names: &[Txt],
+    folder: &mut F,
+) -> Result<Vec<(Priority, ListLexicon)>, Stop<R>>
+    ensures later { IsLater (F.seen folder.old) (F.seen folder.new) }
+    ensures ok { IfOk result (λ dics. Comes (each (dictionary_format R.decode_as R.dela_as) names.now)
+        (F.seen folder.old).files dics.items) }
+    ensures err { IfErr result (Halts (each (dictionary_format R.decode_as R.dela_as) names.now)
+        (F.seen folder.old) (F.seen folder.new)) }
+{
+    let mut dics = Vec::new(alloc);
+    for name in names {
+        let dic = read_dictionary(alloc, name.as_str(), folder)?;
+        dics.push(dic)?;
+    }
+    Ok(dics)
+}
+
+/// Reads a dictionary, whose name without its folder gives its priority.
+#[tactic(auto, using(ux_plan::proofs::Decoded::decoding))]
+fn read_dictionary<F: Folder, R: OfDecode + OfDela>(
+    alloc: Global,
+    name: &str,
+    folder: &mut F,
+) -> Result<(Priority, ListLexicon), Stop<R>>
+    ensures later { IsLater (F.seen folder.old) (F.seen folder.new) }
+    ensures ok { IfOk result (Reads (dictionary_format R.decode_as R.dela_as name.now) name.now
+        (F.seen folder.old).files) }
+    ensures err { IfErr result (StopsFile (dictionary_format R.decode_as R.dela_as name.now)
+        name.now (F.seen folder.old) (F.seen folder.new)) }
+{
+    let text = read_decoded(alloc, name, folder)?;
+    match ListLexicon::read(alloc, text.as_str()) {
+        Ok(lexicon) => Ok((Priority::of(base_of(name)), lexicon)),
+        Err(DelaError::NoMemory) => Err(Stop::NoMemory),
+        Err(error) => Err(refused(alloc, name, R::of_dela(error))),
+    }
+}

@@ -1,0 +1,17 @@
+//! The dictionaries of a command, in the order of their names.
+//!
+//! File names go in, and the dictionaries of those files with their priorities come out, or the stop
+//! that names the first file that isn't accepted. A command has reasons of its own, of which one is
+//! that of a file without a text (`OfDecode` of `ux_plan`) and one that of a refused dictionary
+//! (`OfDela`). What such a file is stands in `specs/Dictionaries.antt`, and that it is so in one way in
+//! `proofs/DictionaryLaws.antt`. Begin with `dictionaries`.
+//!
+//! ```text
+//! let dics = read_dictionaries(alloc, &names, folder)?;      // each (dictionary_format ..) names
+//! let applied = Applied::of(alloc, &text, &alphabet, &dics)?;
+//! ```
+#![tactic(auto)]
+
+pub mod dictionaries;
+
+pub use dictionaries::{OfDela, read_dictionaries};

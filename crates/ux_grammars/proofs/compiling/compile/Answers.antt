@@ -1,0 +1,8 @@
+use Rattle.ux_net.specs.Refusing.{drawn}
+use Rattle.ux_grammars.proofs.CompilingLemmas.{none_missing}
+use Rattle.ux_grammars.proofs.compiling.compile.Goals as goal
+
+pub refused_net-requires : goal.refused_net-requires
+refused_net-requires g c =
+    none_missing c.args.alphabet.now (drawn c.args.graphs.items) c.in-Err.error c.requires.whole
+    c.in-Err.ensures.err

@@ -1,0 +1,77 @@
+-- The graphs of a grammar: which files are read in which order, what each must be, and why a grammar
+-- is refused. This file carries the crate's public meaning.
+use Rattle.std.specs.Prelude.{◌≡◌, ◌≢◌, ◌⊎◌, ℕ, ◌<◌, ◌≤◌, List, []}
+use Rattle.ux_decode.specs.declared.error.DecodeError.{DecodeError}
+use Rattle.ux_plan.specs.Plans.{Format, Plan, Tells, decoded, gives, grows, said_as, tests, then}
+use Rattle.ux_grf.specs.File as grf
+use Rattle.ux_grf.specs.declared.error.GrfError.{GrfError}
+use Rattle.ux_grf.specs.declared.error.GrfError.TheVariants as grf_error
+use Rattle.ux_grf.specs.declared.graph.Graph.{Graph}
+use Rattle.ux_net.specs.Boxes.{Drawn}
+use Rattle.ux_net.specs.Refusing as net
+use Rattle.ux_net.specs.Refusing.{IsCompilable}
+use Rattle.ux_net.specs.declared.error.NetError.{NetError}
+use Rattle.ux_net.specs.declared.error.NetError.TheVariants as net_error
+use Rattle.ux_alphabet.specs.Letters.{Letters}
+use Rattle.ux_grammars.specs.Naming.{file_of, named_file, next_name}
+
+-- the most graphs that a grammar may have
+abbrev pub MOST_GRAPHS : ℕ
+MOST_GRAPHS = 65535
+
+-- one more than there may be: its file is read, and refused
+abbrev pub MOST_READS : ℕ
+MOST_READS = 65536
+
+-- the text draws no graph
+pub record IsNoGraph (text : List ℕ) (error : GrfError) : Type 0 where
+  pub refuses : grf.Refuses text error
+  pub not_memory : error ≢ grf_error.NoMemory
+
+-- the file that a refusal of the graphs names: that of the graph at which it stands
+abbrev pub NamesFile : (word : List ℕ) → NetError → (file : List ℕ) → Type 0
+NamesFile word (net_error.NotYet name node) file = file ≡ named_file word name
+NamesFile word (net_error.EmptyLoop name node) file = file ≡ named_file word name
+NamesFile word (net_error.LeftRecursion name node) file = file ≡ named_file word name
+NamesFile word (net_error.MissingGraph name) file = ⊥
+NamesFile word net_error.NoMemory file = ⊥
+
+-- The reasons are a command's own: of a file that has no text, of a text that draws no graph, and of
+-- one graph too many.
+module _ {R : Type 0} (decode_as : DecodeError → R) (grf_as : GrfError → R) where
+  -- files whose text draws a graph
+  abbrev pub drawing_format : Format R Graph
+  drawing_format = decoded decode_as (said_as grf_as grf.IsGraphOf IsNoGraph)
+
+  module _ (too_many : R) where
+    -- the file of the graph of this name after so many others: one more than there may be is refused
+    -- whatever it holds
+    abbrev pub graph_format : (count : ℕ) (name : List ℕ) → Format R Drawn
+    graph_format count name = record {
+      Is = λ file graph. (count < MOST_GRAPHS) × (graph.name ≡ name)
+          × drawing_format.Is file (record { boxes = graph.boxes });
+      Refuses = λ file reason. ((count < MOST_GRAPHS) × drawing_format.Refuses file reason)
+          ⊎ ((MOST_GRAPHS ≤ count) × (reason ≡ too_many));
+      IsTooLarge = λ file. ⊥;
+    }
+
+    -- the graphs after those that were read
+    abbrev pub graphs_from : (word : List ℕ) → ℕ → List Drawn → Plan R (List Drawn)
+    graphs_from word most graphs = grows (next_name word) (file_of word) graph_format most graphs
+
+    -- the graphs of the grammar whose main graph's file the word names
+    abbrev pub graphs_plan : (word : List ℕ) → Plan R (List Drawn)
+    graphs_plan word = graphs_from word MOST_READS []
+
+-- the graphs are all read, and are not compiled: the file of the graph at fault is named
+abbrev pub RefusesGrammar : {R : Type 0} → (net_as : NetError → R) (word : List ℕ) → Letters →
+    List Drawn → (file : List ℕ) → R → Type 0
+RefusesGrammar net_as word letters graphs file reason =
+    Tells net_as (λ error. net.Refuses letters graphs error × NamesFile word error file) reason
+
+-- the graphs of a grammar that has a meaning
+abbrev pub grammar_plan : {R : Type 0} → (decode_as : DecodeError → R) (grf_as : GrfError → R)
+    (net_as : NetError → R) (too_many : R) (word : List ℕ) → Letters → Plan R (List Drawn)
+grammar_plan decode_as grf_as net_as too_many word letters =
+    then (graphs_plan decode_as grf_as too_many word) (λ graphs.
+    tests (IsCompilable letters graphs) (RefusesGrammar net_as word letters graphs) (gives graphs))

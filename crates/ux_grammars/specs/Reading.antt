@@ -1,0 +1,67 @@
+-- How far the reading of a grammar has come, and what is handed on. Public: the crate's public
+-- contracts speak of it.
+use Rattle.std.specs.Prelude.{◌≡◌, ◌≢◌, ⊤, ℕ, ◌<◌, ◌≤◌, List, All, AllPairs, length, Option, Some, slice_get, String, string_bytes}
+use Rattle.std.specs.declared.alloc.Global.{Global}
+use Rattle.ux_base.specs.Outside.{Files}
+use Rattle.ux_plan.specs.Plans.{Comes, Plan}
+use Rattle.ux_grf.specs.Size.{size_of}
+use Rattle.ux_grf.specs.WellFormed.{IsWellFormed}
+use Rattle.ux_grf.specs.declared.graph.Graph.{Graph}
+use Rattle.ux_net.specs.Boxes.{Drawn, box_grammar}
+use Rattle.ux_net.specs.Nets.{net_graph, states_of}
+use Rattle.ux_net.specs.Refusing.{AreWhole, drawn}
+use Rattle.ux_net.specs.Words.{HaveSameWords}
+use Rattle.ux_net.specs.declared.error.NetError.{NetError}
+use Rattle.ux_net.specs.declared.error.NetError.TheVariants.{MissingGraph, NotYet, EmptyLoop, LeftRecursion, NoMemory}
+use Rattle.ux_net.specs.declared.net_graph.NetGraph.{NetGraph}
+use Rattle.ux_grammars.specs.Graphs.{MOST_GRAPHS}
+use Rattle.ux_alphabet.specs.Letters.{Letters}
+use Rattle.ux_grammars.specs.Naming.{names_after}
+
+-- what every graph that is read has: it is well formed, and not too large to be numbered
+pub record IsGivenGraph (graph : Graph) : Type 0 where
+  pub well_formed : IsWellFormed graph
+  pub small : size_of graph < 4294967296
+
+abbrev pub IsGiven : String Global × Graph → Type 0
+IsGiven graph = IsGivenGraph graph.1
+
+-- the graphs have the first of the names, in their order
+abbrev pub AreNamed : List (List ℕ) → List Drawn → Type 0
+AreNamed names graphs = (k : ℕ) (graph : Drawn) → slice_get graphs k ≡ Some graph →
+    slice_get names k ≡ Some graph.name
+
+-- these graphs were read, and the names are the main graph's and those that they call
+pub record IsReading (word : List ℕ) (names : List (List ℕ))
+    (graphs : List (String Global × Graph)) : Type 0 where
+  pub table : names ≡ names_after word (drawn graphs)
+  pub named : AreNamed names (drawn graphs)
+  pub given : All IsGiven graphs
+
+-- the graphs of a whole grammar: each that is called is there, once, and there are not too many
+pub record AreWholeGraphs (graphs : List (String Global × Graph)) : Type 0 where
+  pub some : 0 < length graphs
+  pub few : length graphs ≤ MOST_GRAPHS
+  pub given : All IsGiven graphs
+  pub distinct : AllPairs (λ a b. string_bytes a.0 ≢ string_bytes b.0) graphs
+  pub whole : AreWhole (drawn graphs)
+
+-- the refusal isn't that a graph is missing
+abbrev pub IsPlaced : NetError → Type 0
+IsPlaced (NotYet graph node) = ⊤
+IsPlaced (EmptyLoop graph node) = ⊤
+IsPlaced (LeftRecursion graph node) = ⊤
+IsPlaced (MissingGraph name) = ⊥
+IsPlaced NoMemory = ⊤
+
+-- the graphs have the words of the net's
+abbrev pub Compiles : Letters → List Drawn → List NetGraph → Type 0
+Compiles letters graphs net =
+    (g : ℕ) → HaveSameWords ((box_grammar letters graphs).graph g) (net_graph (states_of net g))
+
+-- the net is that of the graphs to which the plan of a grammar comes
+pub record HasNet {R : Type 0} (plan : Plan R (List Drawn)) (told : Option Files)
+    (letters : Letters) (net : List NetGraph) : Type 0 where
+  pub graphs : List Drawn
+  pub comes : Comes plan told graphs
+  pub compiles : Compiles letters graphs net

@@ -1,0 +1,81 @@
+//! The net of a grammar.
+
+ghost use Rattle.std.specs.Prelude.{◌≡◌, ◌⊎◌, ℕ, List, IfErr, IfOk, OnOk};
+ghost use Rattle.ux_base.specs.Outside.{IsLater};
+ghost use Rattle.ux_plan.specs.Plans.{Halts, StopsTest};
+ghost use Rattle.ux_net.specs.Refusing.{drawn, IsCompilable};
+ghost use Rattle.ux_grammars.specs.Graphs.{NamesFile, RefusesGrammar, grammar_plan};
+ghost use Rattle.ux_grammars.specs.Reading.{AreWholeGraphs, Compiles, HasNet, IsPlaced};
+
+use crate::graphs::read_graphs;
+use crate::naming::named_file;
+use crate::reasons::OfGrammar;
+use std::alloc::Global;
+use ux_alphabet::Alphabet;
+use ux_base::{Folder, Txt};
+use ux_grf::Graph;
+use ux_net::{Net, NetError};
+use ux_plan::{OfDecode, Stop};
+
+/// Reads the graphs of the grammar whose main graph's file the word names, and compiles them.
+#[tactic(auto, using(ux_plan::proofs::PlanSteps::plan_steps))]
+pub fn read_net<F: Folder, R: OfDecode + OfGrammar>(
+    alloc: Global,
+    word: &str,
+    alphabet: &Alphabet,
+    folder: &mut F,
+) -> Result<Net, Stop<R>>
+    ensures later { IsLater (F.seen folder.old) (F.seen folder.new) }
+    ensures ok { IfOk result
+        (HasNet (grammar_plan R.decode_as R.grf_as R.net_as R.too_many word.now alphabet.now)
+        (F.seen folder.old).files alphabet.now) }
+    ensures err { IfErr result
+        (Halts (grammar_plan R.decode_as R.grf_as R.net_as R.too_many word.now alphabet.now)
+        (F.seen folder.old) (F.seen folder.new)) }
+{
+    let graphs = read_graphs(alloc, word, folder)?;
+    let net = compile(alloc, word, alphabet, graphs)?;
+    Ok(net)
+}
+
+/// Compiles the graphs of a grammar, which calls none that is not there.
+fn compile<R: OfGrammar>(
+    alloc: Global,
+    word: &str,
+    alphabet: &Alphabet,
+    graphs: Vec<(String, Graph)>,
+) -> Result<Net, Stop<R>>
+    requires { AreWholeGraphs graphs.items }
+    ensures compilable { OnOk result (IsCompilable alphabet.now (drawn graphs.items)) }
+    ensures compiles { IfOk result (λ net. Compiles alphabet.now (drawn graphs.items) net) }
+    ensures err { IfErr result (StopsTest
+        (RefusesGrammar R.net_as word.now alphabet.now (drawn graphs.items))) }
+{
+    match Net::compile(alloc, graphs, alphabet) {
+        Ok(net) => Ok(net),
+        Err(error) => Err(refused_net(alloc, word, error)),
+    }
+}
+
+/// The stop that names the file of the graph that is refused.
+fn refused_net<R: OfGrammar>(alloc: Global, word: &str, error: NetError) -> Stop<R>
+    requires { IsPlaced error }
+    ensures { (result ≡ Stop.NoMemory) ⊎ ((file : List ℕ) × NamesFile word.now error file
+        × (result ≡ Stop.Refused file (R.net_as error))) }
+{
+    let file = match &error {
+        NetError::NotYet { graph, .. }
+        | NetError::EmptyLoop { graph, .. }
+        | NetError::LeftRecursion { graph, .. } => named_file(alloc, word, graph.as_str()),
+        NetError::NoMemory => return Stop::NoMemory,
+        // Each file that is called was read before.
+        NetError::MissingGraph { .. } => unreachable!(),
+    };
+    match file {
+        Ok(file) => Stop::Refused {
+            name: Txt::new(file),
+            reason: R::of_net(error),
+        },
+        Err(_) => Stop::NoMemory,
+    }
+}

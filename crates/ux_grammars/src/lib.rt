@@ -1,0 +1,24 @@
+//! The graphs of a grammar, read one after another, and the net that they compile to.
+//!
+//! A word names the file of the main graph. The graphs that it calls stand beside it, as NAME.grf,
+//! and are read in the order in which they are called, each once. `read_graphs` gives them all, and
+//! `read_net` the net of a grammar that has a meaning.
+//!
+//! Begin with `specs/Graphs.antt`: which files are read in which order, and what each must be. A
+//! grammar is `grammar_plan` there, which a command's plan takes in. Its reasons are the command's
+//! own, by `OfGrammar`.
+//!
+//! ```text
+//! let alphabet = read_alphabet(alloc, alphabet, false, folder)?;
+//! let net = read_net(alloc, graph, &alphabet, folder)?;
+//! ```
+#![tactic(auto)]
+
+mod compiling;
+mod graphs;
+mod naming;
+mod reasons;
+
+pub use compiling::read_net;
+pub use graphs::read_graphs;
+pub use reasons::OfGrammar;

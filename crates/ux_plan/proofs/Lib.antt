@@ -1,0 +1,5 @@
+pub mod Decoded
+mod FileNameLemmas
+pub mod Growing
+pub mod PlanLaws
+pub mod PlanSteps

@@ -1,0 +1,29 @@
+//! Plans: what a command reads, in which order, and what stops it.
+//!
+//! A `Plan` (in `specs/Plans.antt`) names the files of a command, what each must be, and what comes of
+//! them. Two recursions say all of it: `Comes` which value the files of a folder come to, and `Halts`
+//! which file stops the reading first, and why. That no plan does both, memory aside, is one law, by
+//! induction (`proofs/PlanLaws.antt`), so a command owes no more than that its formats are sound.
+//!
+//! `read_bytes` reads a file, and `read_decoded` its text. A command's reader is written over them,
+//! with the reasons of the command's own (`OfDecode`), and proved by the steps of
+//! `proofs/PlanSteps.antt`: a file that is read, a test, one plan after another, a list of files.
+//!
+//! `folder_of` and `base_of` take the word of a file apart.
+//!
+//! ```text
+//! let alphabet = read_alphabet(alloc, alphabet, folder)?;      // reads alphabet letters_format (λ letters.
+//! let text = read_text(alloc, text, &alphabet, folder)?;       // reads text (text_format letters) (λ tokens.
+//! Ok((alphabet, text))                                         // gives (letters, tokens)))
+//! ```
+#![tactic(auto)]
+
+pub mod decoding;
+pub mod file_names;
+pub mod reading;
+pub mod stop;
+
+pub use decoding::{OfDecode, decode_file, read_decoded};
+pub use file_names::{base_of, folder_of};
+pub use reading::{absent, read_bytes, read_fault, refused, too_large};
+pub use stop::Stop;

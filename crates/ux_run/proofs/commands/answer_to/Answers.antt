@@ -1,0 +1,41 @@
+use Rattle.ux_words.specs.declared.help.TheConstants.{HELP, VERSION}
+use Rattle.ux_run.proofs.Ending.{text_answers, text_denies}
+use Rattle.ux_run.proofs.commands.answer_to.Goals as goal
+
+pub returns-in-Tokenize-clause-ok : goal.returns-in-Tokenize-clause-ok
+returns-in-Tokenize-clause-ok g c = rw c.in-Tokenize.is c.tokens_of.ensures.ok
+
+pub returns-in-Tokenize-clause-err : goal.returns-in-Tokenize-clause-err
+returns-in-Tokenize-clause-err g c = rw c.in-Tokenize.is c.tokens_of.ensures.err
+
+pub returns-in-Dico-clause-ok : goal.returns-in-Dico-clause-ok
+returns-in-Dico-clause-ok g c =
+    let answers = rw c.as_slice.ensures at c.report_of.ensures.ok in
+    rw c.in-Dico.is answers
+
+pub returns-in-Dico-clause-err : goal.returns-in-Dico-clause-err
+returns-in-Dico-clause-err g c =
+    let denies = rw c.as_slice.ensures at c.report_of.ensures.err in
+    rw c.in-Dico.is denies
+
+pub returns-in-Help-clause-ok : goal.returns-in-Help-clause-ok
+returns-in-Help-clause-ok g c =
+    let files = (g.F.Folder.seen c.args.folder.now).files in
+    rw c.in-Help.is (text_answers HELP.now c.text_of.result files c.text_of.ensures.ok)
+
+pub returns-in-Help-clause-err : goal.returns-in-Help-clause-err
+returns-in-Help-clause-err g c =
+    let seen = g.F.Folder.seen c.args.folder.now in
+    rw c.in-Help.is (text_denies HELP.now c.text_of.result seen seen c.text_of.ensures.err)
+
+pub returns-in-Version-clause-ok : goal.returns-in-Version-clause-ok
+returns-in-Version-clause-ok g c =
+    let files = (g.F.Folder.seen c.args.folder.now).files in
+    let text = c.text_of-in-Version in
+    rw c.in-Version.is (text_answers VERSION.now text.result files text.ensures.ok)
+
+pub returns-in-Version-clause-err : goal.returns-in-Version-clause-err
+returns-in-Version-clause-err g c =
+    let seen = g.F.Folder.seen c.args.folder.now in
+    let text = c.text_of-in-Version in
+    rw c.in-Version.is (text_denies VERSION.now text.result seen seen text.ensures.err)

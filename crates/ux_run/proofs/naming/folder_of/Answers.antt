@@ -1,7 +1,0 @@
-use Rattle.ux_run.proofs.NamingLemmas.{folder_boundary}
-use Rattle.ux_run.proofs.naming.folder_of.Goals as goal
-
-pub range-requires-clause-end_boundary : goal.range-requires-clause-end_boundary
-range-requires-clause-end_boundary c =
-    folder_boundary c.args.word.now c.folder_end.result c.utf8.word c.folder_end.ensures.within
-    c.folder_end.ensures.slash

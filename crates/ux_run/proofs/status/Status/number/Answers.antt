@@ -1,6 +1,0 @@
-use Rattle.std.proofs.Common.{rules}
-use Rattle.ux_run.proofs.status.Status.number.Goals as goal
-
--- by name, so that a wrong body is refused at once
-pub returns-in-TooLarge : goal.returns-in-TooLarge
-returns-in-TooLarge c = search rules

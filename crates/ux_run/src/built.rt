@@ -1,0 +1,69 @@
+//! Which requests are built: the options that commands take today, and the kinds of files.
+
+ghost use Rattle.std.specs.Prelude.{◌≡◌};
+ghost use Rattle.ux_run.specs.Requests.{are_texts, is_all, is_built_search, is_drawn, is_ignore, is_nothing, is_text};
+
+use ux_base::{Mode, NoVar, Policy, Txt};
+use ux_words::Search;
+
+/// Whether the search is in the default mode and policy, by a graph that is drawn and no dictionary.
+pub fn is_built_search(search: &Search) -> bool
+    ensures { result ≡ is_built_search search.now }
+{
+    is_ignore(search.mode)
+        && is_all(search.policy)
+        && is_nothing(search.novar)
+        && search.dics.as_slice().is_empty()
+        && is_drawn(search.graph.as_str())
+}
+
+/// Whether outputs are ignored.
+fn is_ignore(mode: Mode) -> bool
+    ensures { result ≡ is_ignore mode }
+{
+    match mode {
+        Mode::Ignore => true,
+        Mode::Merge | Mode::Replace => false,
+    }
+}
+
+/// Whether every hit is kept.
+fn is_all(policy: Policy) -> bool
+    ensures { result ≡ is_all policy }
+{
+    match policy {
+        Policy::All => true,
+        Policy::Shortest | Policy::Longest => false,
+    }
+}
+
+/// Whether no hit is dropped for a variable without a value.
+fn is_nothing(novar: NoVar) -> bool
+    ensures { result ≡ is_nothing novar }
+{
+    match novar {
+        NoVar::Nothing => true,
+        NoVar::Drop => false,
+    }
+}
+
+/// Whether the graph is drawn, and no compiled one.
+fn is_drawn(graph: &str) -> bool
+    ensures { result ≡ is_drawn graph.now }
+{
+    !graph.as_bytes().ends_with(b".fst2")
+}
+
+/// Whether each of the dictionaries is a text, and no image.
+pub fn are_texts(dics: &[Txt]) -> bool
+    ensures { result ≡ are_texts dics.now }
+{
+    dics.iter().all(|dic| is_text(dic.as_str()))
+}
+
+/// Whether the dictionary is a text, and no image.
+pub fn is_text(dic: &str) -> bool
+    ensures { result ≡ is_text dic.now }
+{
+    !dic.as_bytes().ends_with(b".udi")
+}

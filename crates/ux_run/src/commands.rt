@@ -1,0 +1,165 @@
+//! The commands: for each request the crate that answers it.
+
+ghost use Rattle.std.specs.Prelude.{◌≡◌, true, false, IfOk, IfErr};
+ghost use Rattle.ux_base.specs.Outside.{IsLater};
+ghost use Rattle.ux_words.specs.declared.request.Request.TheVariants as request;
+ghost use Rattle.ux_run.specs.Running.{Denies, IsAnswer, asked_of};
+
+use crate::built::{are_texts, is_built_search, is_text};
+use crate::stops::with_status;
+use std::alloc::Global;
+use ux_base::{Folder, Txt};
+use ux_check::{check_entries, check_stems};
+use ux_dico::dico;
+use ux_search::locate;
+use ux_status::Status;
+use ux_tokenize::tokenize;
+use ux_words::{HELP, Request, Search, VERSION};
+
+/// The answer to a request, or how the run ends without one.
+pub fn answer_to<F: Folder>(
+    alloc: Global,
+    request: &Request,
+    folder: &mut F,
+) -> Result<Vec<u8>, Status>
+    ensures later { IsLater (F.seen folder.old) (F.seen folder.new) }
+    ensures ok { IfOk result (λ answer.
+        IsAnswer (asked_of request.now) (F.seen folder.old).files answer.items) }
+    ensures err { IfErr result
+        (Denies (asked_of request.now) (F.seen folder.old) (F.seen folder.new)) }
+{
+    match request {
+        Request::Locate(search) => search_by(alloc, search, folder),
+        Request::Tokenize {
+            text,
+            alphabet,
+            chars,
+        } => tokens_of(alloc, text, alphabet, *chars, folder),
+        Request::Check { delas: false, file } => entries_of(alloc, file, folder),
+        Request::Check { delas: true, file } => stems_of(alloc, file, folder),
+        Request::Dico {
+            text,
+            alphabet,
+            dics,
+            chars,
+        } => report_of(alloc, text, alphabet, dics.as_slice(), *chars, folder),
+        Request::Help => text_of(alloc, HELP),
+        Request::Version => text_of(alloc, VERSION),
+        Request::Concord { .. }
+        | Request::Fst2 { .. }
+        | Request::Inflect { .. }
+        | Request::Compress { .. }
+        | Request::Tfst { .. }
+        | Request::Elag { .. }
+        | Request::Bench { .. }
+        | Request::Cascade { .. }
+        | Request::Flatten { .. }
+        | Request::Tfind { .. }
+        | Request::Morpho { .. } => Err(Status::Usage),
+    }
+}
+
+/// `locate`: the index of a search that is built.
+#[tactic(auto, using(crate::proofs::Ending::telling))]
+fn search_by<F: Folder>(alloc: Global, search: &Search, folder: &mut F) -> Result<Vec<u8>, Status>
+    ensures later { IsLater (F.seen folder.old) (F.seen folder.new) }
+    ensures ok { IfOk result (λ answer. IsAnswer (asked_of (request.Locate search.now))
+        (F.seen folder.old).files answer.items) }
+    ensures err { IfErr result (Denies (asked_of (request.Locate search.now))
+        (F.seen folder.old) (F.seen folder.new)) }
+{
+    if !is_built_search(search) {
+        return Err(Status::Usage);
+    }
+    let (graph, text) = (search.graph.as_str(), search.text.as_str());
+    with_status(locate(
+        alloc,
+        graph,
+        text,
+        search.alphabet.as_str(),
+        search.chars,
+        folder,
+    ))
+}
+
+/// `tokenize`: the tokens of a text.
+#[tactic(auto, using(crate::proofs::Ending::telling))]
+fn tokens_of<F: Folder>(
+    alloc: Global,
+    text: &Txt,
+    alphabet: &Txt,
+    chars: bool,
+    folder: &mut F,
+) -> Result<Vec<u8>, Status>
+    ensures later { IsLater (F.seen folder.old) (F.seen folder.new) }
+    ensures ok { IfOk result (λ answer. IsAnswer
+        (asked_of (request.Tokenize text.now alphabet.now chars))
+        (F.seen folder.old).files answer.items) }
+    ensures err { IfErr result (Denies (asked_of (request.Tokenize text.now alphabet.now chars))
+        (F.seen folder.old) (F.seen folder.new)) }
+{
+    with_status(tokenize(alloc, text.as_str(), alphabet.as_str(), chars, folder))
+}
+
+/// `check`: how many entries a dictionary of forms has.
+#[tactic(auto, using(crate::proofs::Ending::telling))]
+fn entries_of<F: Folder>(alloc: Global, file: &Txt, folder: &mut F) -> Result<Vec<u8>, Status>
+    ensures later { IsLater (F.seen folder.old) (F.seen folder.new) }
+    ensures ok { IfOk result (λ answer. IsAnswer (asked_of (request.Check false file.now))
+        (F.seen folder.old).files answer.items) }
+    ensures err { IfErr result (Denies (asked_of (request.Check false file.now))
+        (F.seen folder.old) (F.seen folder.new)) }
+{
+    if !is_text(file.as_str()) {
+        return Err(Status::Usage);
+    }
+    with_status(check_entries(alloc, file.as_str(), folder))
+}
+
+/// `check --delas`: how many lemmas a dictionary of lemmas has.
+#[tactic(auto, using(crate::proofs::Ending::telling))]
+fn stems_of<F: Folder>(alloc: Global, file: &Txt, folder: &mut F) -> Result<Vec<u8>, Status>
+    ensures later { IsLater (F.seen folder.old) (F.seen folder.new) }
+    ensures ok { IfOk result (λ answer. IsAnswer (asked_of (request.Check true file.now))
+        (F.seen folder.old).files answer.items) }
+    ensures err { IfErr result (Denies (asked_of (request.Check true file.now))
+        (F.seen folder.old) (F.seen folder.new)) }
+{
+    with_status(check_stems(alloc, file.as_str(), folder))
+}
+
+/// `dico`: the report of dictionaries that are texts.
+#[tactic(auto, using(crate::proofs::Ending::telling))]
+fn report_of<F: Folder>(
+    alloc: Global,
+    text: &Txt,
+    alphabet: &Txt,
+    dics: &[Txt],
+    chars: bool,
+    folder: &mut F,
+) -> Result<Vec<u8>, Status>
+    ensures later { IsLater (F.seen folder.old) (F.seen folder.new) }
+    ensures ok { IfOk result (λ answer. IsAnswer
+        (asked_of (request.Dico text.now alphabet.now dics.now chars))
+        (F.seen folder.old).files answer.items) }
+    ensures err { IfErr result (Denies
+        (asked_of (request.Dico text.now alphabet.now dics.now chars))
+        (F.seen folder.old) (F.seen folder.new)) }
+{
+    if !are_texts(dics) {
+        return Err(Status::Usage);
+    }
+    with_status(dico(alloc, text.as_str(), alphabet.as_str(), dics, chars, folder))
+}
+
+/// `--help` and `--version`: a text that is there.
+#[tactic(auto, using(crate::proofs::Ending::answering))]
+fn text_of(alloc: Global, text: &str) -> Result<Vec<u8>, Status>
+    ensures ok { IfOk result (λ answer. answer.items ≡ text.now) }
+    ensures err { IfErr result (λ status. status ≡ Status.NoMemory) }
+{
+    match text.as_bytes().to_vec(alloc) {
+        Ok(text) => Ok(text),
+        Err(_) => Err(Status::NoMemory),
+    }
+}

@@ -1,0 +1,65 @@
+-- The index of a net's hits is that of the hits of the grammar from which it was compiled.
+use Rattle.std.proofs.Common.{ℕ, Bool, List, Option, ◌↔◌}
+use Rattle.ux_base.specs.Outside.{Files}
+use Rattle.ux_tokens.specs.Tokens.{Token}
+use Rattle.ux_net.specs.Boxes.{box_grammar}
+use Rattle.ux_net.specs.Nets.{net_grammar}
+use Rattle.ux_net.specs.Words.{Grammar}
+use Rattle.ux_net.specs.declared.net_graph.NetGraph.{NetGraph}
+use Rattle.ux_outputs.specs.declared.event.Event.{Event}
+use Rattle.ux_outputs.specs.declared.hit.Hit.{Hit}
+use Rattle.ux_walk.specs.Derivations.{Der}
+use Rattle.ux_walk.proofs.SameDerivations.{same_derivations}
+use Rattle.ux_plan.specs.Plans.{Answers}
+use Rattle.ux_alphabet.specs.Letters.{Letters}
+use Rattle.ux_search.specs.Hits.{IsHit}
+use Rattle.ux_search.specs.Index.{IsIndex}
+use Rattle.ux_search.specs.Locate.{AreFiles, locate, search_plan}
+
+module _ (alphabet : Letters) (tokens : List Token) where
+  -- grammars that derive the same give the same hits
+  hit_alike : (old new : Grammar) → ((i j : ℕ) (events : List Event) →
+      Der alphabet tokens old 1 i j events → Der alphabet tokens new 1 i j events) →
+      (hit : Hit) → IsHit alphabet tokens old hit → IsHit alphabet tokens new hit
+  hit_alike old new same hit h = record {
+    start = h.start;
+    starts = h.starts;
+    end = h.end;
+    events = h.events;
+    derived = same h.start h.end h.events h.derived;
+    rendered = h.rendered;
+  }
+
+  -- and so the same index
+  index_alike : (old new : Grammar) → ((i j : ℕ) (events : List Event) →
+      Der alphabet tokens old 1 i j events ↔ Der alphabet tokens new 1 i j events) →
+      (text : List ℕ) → IsIndex (IsHit alphabet tokens old) text →
+      IsIndex (IsHit alphabet tokens new) text
+  index_alike old new same text index = record {
+    hits = index.hits;
+    listing = record {
+      exactly = λ hit. (
+        λ c. hit_alike old new (λ i j events. (same i j events).0) hit
+            ((index.listing.exactly hit).0 c),
+        λ h. (index.listing.exactly hit).1
+            (hit_alike new old (λ i j events. (same i j events).1) hit h),
+      );
+      ordered = index.listing.ordered;
+    };
+    written = index.written;
+  }
+
+-- the index of the net's hits answers the search
+pub answered : (graph text alphabet : List ℕ) (chars : Bool) (told : Option Files)
+    (letters : Letters) (net : List NetGraph) (tokens : List Token) (answer : List ℕ) →
+    AreFiles (search_plan graph text alphabet chars) told letters net tokens →
+    IsIndex (IsHit letters tokens (net_grammar net)) answer →
+    Answers (locate graph text alphabet chars) told answer
+answered graph text alphabet chars told letters net tokens answer files index = record {
+  read = record { letters = letters; graphs = files.graphs; tokens = tokens };
+  comes = files.comes;
+  answers = index_alike letters tokens (net_grammar net) (box_grammar letters files.graphs)
+      (λ i j events. let same = same_derivations letters tokens
+      (box_grammar letters files.graphs) (net_grammar net) files.compiles 1 i j events in
+      (same.1, same.0)) answer index;
+}

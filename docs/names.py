@@ -1,0 +1,166 @@
+#!/usr/bin/env python3
+"""Looks whether the names in docs/DEFINITIONS.md and docs/PROVED.md are still there, and which definitions are missing.
+
+- Each word in a table of docs/DEFINITIONS.md is declared in the file of specs/ that its row or its section names.
+- Each function in a table of docs/PROVED.md is one of its crate, and each clause is one of that crate's contracts.
+- Each definition that a clause of a public function cites stands in docs/DEFINITIONS.md.
+
+A name in italics, as *`this`*, isn't looked for: it is of something that isn't there yet.
+"""
+import glob
+import os
+import re
+import sys
+
+TOP = os.path.dirname(os.path.dirname(os.path.abspath(__file__)))
+CRATES = os.path.join(TOP, "crates")
+DECLARED = re.compile(r"^ *(?:(?:abbrev|unfoldable|opaque) pub|pub (?:record|data)) ([\w-]+)(?= |$)", re.M)
+IMPORT = re.compile(r"ghost use Rattle\.(ux_\w+)\.specs\.(\w+)\.\{([^}]*)\};")
+PLANNED = re.compile(r"\*`[^`]+`\*")
+NAME = re.compile(r"`([^`]+)`")
+
+
+def text_of(path):
+    with open(path, encoding="utf-8") as file:
+        return file.read()
+
+
+def rows(path):
+    """The lines of a page: headings as they are, rows of tables as lists of cells, each with its number."""
+    for number, line in enumerate(text_of(os.path.join(TOP, path)).split("\n"), 1):
+        if line.startswith("## "):
+            yield number, line
+        elif line.startswith("| ") and not line.startswith("|---"):
+            yield number, [cell.strip() for cell in line.strip("|").split(" | ")]
+
+
+def declared(crate, file):
+    """What a file of a crate's specs/ declares; `*` stands for all of them."""
+    paths = glob.glob(os.path.join(CRATES, crate, "specs", f"{file}.antt"))
+    return {name for path in paths for name in DECLARED.findall(text_of(path))}
+
+
+def defined(problems):
+    """The words of docs/DEFINITIONS.md, each looked for where it is said to stand."""
+    page, words, crate, files, where = "docs/DEFINITIONS.md", set(), None, [], None
+    for number, row in rows(page):
+        if isinstance(row, str):
+            named = NAME.findall(row)
+            crate = named[0].split("/")[0] if named else None
+            files = [name.split("/")[-1][:-5] for name in named if name.endswith(".antt")]
+        elif row[:2] == ["Name", "Word"]:
+            where = row.index("Where") if "Where" in row else None
+        elif crate:
+            # A name in parentheses is the file of the names before it.
+            cell, _, inside = PLANNED.sub("", row[1]).partition(" (")
+            stands = NAME.findall(inside) or (NAME.findall(row[where]) if where else files)
+            stands = [name[:-5] if name.endswith(".antt") else name for name in stands] or ["*"]
+            for word in NAME.findall(cell):
+                words.add(word)
+                if not any(word in declared(crate, file) for file in stands):
+                    problems.append(f"{page}:{number}: {word} isn't declared in {', '.join(stands)} of {crate}")
+    return words
+
+
+def lemmas(where, cell, problems):
+    """Looks for lemmas, each in a file of proofs/ that the cell names after it."""
+    crate, names = "", []
+    for name in NAME.findall(cell):
+        if not name.endswith(".antt"):
+            names.append(name)
+            continue
+        crate = name.split("/")[0] if "/" in name else crate
+        path = os.path.join(CRATES, crate, "proofs", name.split("/")[-1])
+        text = text_of(path) if os.path.exists(path) else ""
+        problems += [f"{where}: {lemma} isn't in {crate}/proofs/{name.split('/')[-1]}"
+                     for lemma in names or [""] if not re.search(rf"^ *pub {re.escape(lemma)}", text, re.M)]
+        names = []
+
+
+def proved(problems):
+    """Looks for the functions and clauses of docs/PROVED.md."""
+    page, crate, table = "docs/PROVED.md", "ux_run", None
+    for number, row in rows(page):
+        if isinstance(row, str):
+            found = re.search(r"`(ux_\w+)`", row)
+            crate = found[1] if found else crate
+            continue
+        if row[0] in ("Clause of `run`", "Command", "Status", "Crate", "Function", "Law"):
+            table = row[0]
+        if table == "Law":
+            lemmas(f"{page}:{number}", PLANNED.sub("", row[-1]), problems)
+        if table in ("Law", "Command", "Status") or row[0] == table:
+            continue
+        if re.fullmatch(r"`ux_\w+`", row[0]):
+            crate, cell = row[0].strip("`"), row[1]
+        else:
+            cell = row[1] if row[0] == "" else row[0]
+        cell = PLANNED.sub("", cell)
+        source = "".join(map(text_of, glob.glob(os.path.join(CRATES, crate, "src", "*.rt"))))
+        if not source:
+            if NAME.findall(cell):
+                problems.append(f"{page}:{number}: there is no crate {crate}")
+            continue
+        for name in NAME.findall(cell):
+            last = name.split("::")[-1]
+            if re.fullmatch(r"[\w:]+", name) and not re.search(rf"\b(fn|struct|trait) {last}\b", source):
+                problems.append(f"{page}:{number}: {crate} has no {name}")
+        for clauses in re.findall(r"\*([a-z_, ]+)\*", cell):
+            for clause in clauses.split(", "):
+                if not re.search(rf"\bensures {clause} {{", source):
+                    problems.append(f"{page}:{number}: no contract of {crate} has a clause {clause}")
+
+
+def exported(crate):
+    """What a crate's root gives away: the names of its `pub use` lines."""
+    root = os.path.join(CRATES, crate, "src", "lib.rt")
+    text = text_of(root) if os.path.exists(root) else ""
+    lists = re.findall(r"^pub use [\w:]*?(?:\{([^}]*)\}|(\w+));", text, re.M | re.S)
+    return set(re.findall(r"\w+", " ".join(map(" ".join, lists))))
+
+
+HEAD = re.compile(
+    r"^(?:(?P<impl>impl\b[^{]*?(?P<type>\w+)(?:<[^>]*>)?) \{$|pub trait (?P<trait>\w+)|\}$"
+    r"|(?P<indent> *)(?P<pub>pub )?fn (?P<name>\w+)(?P<clauses>.*?)(?=\{\n|;\n))", re.M | re.S)
+
+
+def functions(path):
+    """The public functions of a file, as what they belong to (or nothing), their name and their clauses."""
+    owner, all_public = None, False
+    for found in HEAD.finditer(text_of(path)):
+        if not found["name"]:
+            owner = found["type"] or found["trait"]
+            all_public = bool(found["trait"]) or " for " in (found["impl"] or "")
+        elif found["pub"] or found["indent"] and all_public:
+            yield owner, found["name"], found["clauses"]
+
+
+def cited():
+    """The definitions of this repository that clauses of exported functions cite, with the functions that do."""
+    found = {}
+    for path in sorted(glob.glob(os.path.join(CRATES, "*", "src", "*.rt"))):
+        names = exported(path.split(os.sep)[-3])
+        imports = {}
+        for source, file, listed in IMPORT.findall(text_of(path)):
+            for word in listed.split(", "):
+                word, _, other = word.partition(" as ")
+                imports[other or word] = (word, source, file)
+        for owner, function, clauses in functions(path):
+            if (owner or function) in names:
+                for word in set(re.findall(r"(?<![\w.])[\w-]+", clauses)) & set(imports):
+                    found.setdefault(imports[word], f"{function} in {os.path.relpath(path, CRATES)}")
+    return found
+
+
+def main():
+    problems = []
+    words = defined(problems)
+    proved(problems)
+    for (word, crate, file), function in sorted(cited().items(), key=lambda pair: pair[0][1:]):
+        if word not in words:
+            problems.append(f"docs/DEFINITIONS.md: {word} of {crate}/specs/{file}.antt is missing, cited by {function}")
+    print(*problems, f"{len(words)} definitions, {len(problems)} problems", sep="\n")
+    sys.exit(1 if problems else 0)
+
+
+main()
