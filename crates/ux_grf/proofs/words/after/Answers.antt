@@ -1,5 +1,5 @@
 use Rattle.std.proofs.lemmas.Str.{IsCharBoundary-after_ascii}
-use Rattle.ux_grf.proofs.words.behind.Goals as goal
+use Rattle.ux_grf.proofs.words.after.Goals as goal
 
 pub range_from-requires : goal.range_from-requires
 range_from-requires c =
