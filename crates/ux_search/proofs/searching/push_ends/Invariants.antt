@@ -1,6 +1,6 @@
 use Rattle.std.proofs.Common.{◌≡◌, ◌++◌, take, map}
 use Rattle.ux_search.specs.Searching.{span_to}
-use Rattle.ux_search.proofs.searching.push_hits.Given as goal
+use Rattle.ux_search.proofs.searching.push_ends.Given as goal
 
 -- the spans to the ends so far were added
 abbrev pub invariant-loop-end : goal.invariant-loop-end
