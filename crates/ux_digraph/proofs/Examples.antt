@@ -13,7 +13,7 @@ chain = (1 ∷ []) ∷ [] ∷ []
 circle : List (List ℕ)
 circle = (1 ∷ []) ∷ (0 ∷ []) ∷ []
 
--- nothing lies behind the chain's end
+-- nothing lies after the chain's end
 end_has_no_path : (v : ℕ) → Path chain 1 v → ⊥
 unfolding chain
 end_has_no_path v (one e) = nothing_in e

@@ -8,10 +8,11 @@ use Rattle.std.proofs.lemmas.List.Elements.{Contains-get_or, Contains-append_lef
 use Rattle.ux_digraph.proofs.Lists.{nothing_in, first_or_later, same_or, drop_whole}
 use Rattle.ux_digraph.specs.declared.closing.Rule.{Rule}
 use Rattle.ux_digraph.specs.Rules.{Derived, fact, by, AreRulesInside}
-use Rattle.ux_digraph.specs.Marking.{HaveUses, Marking, Added, Applied, Waiting, IsRowDone, is_marked, unmarked, work_left}
+use Rattle.ux_digraph.specs.Marking.{HaveUses, Marking, Added, Applied, Waiting, IsRowDone, unmarked, work_left}
+use Rattle.ux_digraph.specs.Rules.{is_marked_at}
 
 pub added_before : (marks : List Bool) (work : List ℕ) (place : ℕ) →
-    is_marked marks place ≡ true → Added marks work place marks work
+    is_marked_at marks place ≡ true → Added marks work place marks work
 added_before marks work place h = record {
   here = h;
   kept = λ x e. e;
@@ -40,18 +41,18 @@ added_now marks work later place h is = record {
 }
 
 pub left_now : (marks : List Bool) (work later : List ℕ) (place : ℕ) → place < length marks →
-    is_marked marks place ≡ false → later ≡ work ++ place ∷ [] →
+    is_marked_at marks place ≡ false → later ≡ work ++ place ∷ [] →
     work_left (set marks place true) later ≤ work_left marks work
 left_now marks work later place h e is =
     let s = sum_by-set unmarked marks place true false h in
-    let o : unmarked (is_marked marks place) ≡ 1 = rw e refl in
+    let o : unmarked (is_marked_at marks place) ≡ 1 = rw e refl in
     let l : length later ≡ length work + 1 = ap length is ∙ length-append work (place ∷ []) in
     omega arith
 
 module _ (rules : List Rule) (facts : List ℕ) where
   -- where no rule waits the marks are what follows
   pub marks_all : (marks : List Bool) → Marking rules facts marks (λ r. ⊥) → (x : ℕ) →
-      Derived rules facts x → is_marked marks x ≡ true
+      Derived rules facts x → is_marked_at marks x ≡ true
   marks_all marks s x (fact h) = s.whole x h
   marks_all marks s x (by r h a b) =
       elim (s.closed r h (marks_all marks s r.first a) (marks_all marks s r.second b)) [
@@ -60,13 +61,13 @@ module _ (rules : List Rule) (facts : List ℕ) where
       ]
 
   pub marks_exactly : (marks : List Bool) → Marking rules facts marks (λ r. ⊥) → (x : ℕ) →
-      (is_marked marks x ≡ true) ↔ Derived rules facts x
+      (is_marked_at marks x ≡ true) ↔ Derived rules facts x
   marks_exactly marks s x = (s.sound x, marks_all marks s x)
 
   -- the rule in front was not applied, since a premise is not marked
   passes : (marks : List Bool) (work : List ℕ) (r : Rule) (rest all : List Rule) →
       ((q : Rule) → Contains all q → (r ≡ q) ⊎ Contains rest q) →
-      ((is_marked marks r.first ≡ true) × (is_marked marks r.second ≡ true) → ⊥) →
+      ((is_marked_at marks r.first ≡ true) × (is_marked_at marks r.second ≡ true) → ⊥) →
       Marking rules facts marks (Waiting work all) → Marking rules facts marks (Waiting work rest)
   passes marks work r rest all split not s = record {
     sound = s.sound;
@@ -77,8 +78,8 @@ module _ (rules : List Rule) (facts : List ℕ) where
         | inl x ↦ inr (inl x)
         | inr x ↦ elim (split q x) [
           | inl e ↦ absurd (not (
-            subst (λ (z : Rule). is_marked marks z.first ≡ true) (sym e) a,
-            subst (λ (z : Rule). is_marked marks z.second ≡ true) (sym e) b,
+            subst (λ (z : Rule). is_marked_at marks z.first ≡ true) (sym e) a,
+            subst (λ (z : Rule). is_marked_at marks z.second ≡ true) (sym e) b,
           ))
           | inr y ↦ inr (inr y)
         ]
@@ -89,7 +90,7 @@ module _ (rules : List Rule) (facts : List ℕ) where
   -- the rule in front is applied
   applies : (marks more : List Bool) (work later : List ℕ) (r : Rule) (rest all : List Rule) →
       ((q : Rule) → Contains all q → (r ≡ q) ⊎ Contains rest q) → Contains rules r →
-      is_marked marks r.first ≡ true → is_marked marks r.second ≡ true →
+      is_marked_at marks r.first ≡ true → is_marked_at marks r.second ≡ true →
       Added marks work r.place more later → Marking rules facts marks (Waiting work all) →
       Marking rules facts more (Waiting later rest)
   applies marks more work later r rest all split in_rules a b added s = record {
@@ -111,7 +112,7 @@ module _ (rules : List Rule) (facts : List ℕ) where
               | inr y ↦ inr (inl (inr (added.noted q.second y)))
             ]
             | inr x ↦ elim (split q x) [
-              | inl e ↦ inl (subst (λ (z : Rule). is_marked more z.place ≡ true) e added.here)
+              | inl e ↦ inl (subst (λ (z : Rule). is_marked_at more z.place ≡ true) e added.here)
               | inr y ↦ inr (inr y)
             ]
           ]
@@ -233,7 +234,7 @@ rule_inside row size now i d inside is h =
 
 module _ (rules : List Rule) where
   -- with no fact nothing is marked
-  pub begins : (marks : List Bool) (work : List ℕ) → ((x : ℕ) → is_marked marks x ≡ false) →
+  pub begins : (marks : List Bool) (work : List ℕ) → ((x : ℕ) → is_marked_at marks x ≡ false) →
       Marking rules [] marks (Waiting work [])
   begins marks work none = record {
     sound = λ x e. let n : false ≡ true = sym (none x) ∙ e in cc;
@@ -253,7 +254,7 @@ module _ (rules : List Rule) where
     whole = λ y h. elim (Contains-push_cases facts x y
         (subst (λ (fs : List ℕ). Contains fs y) is h)) [
           | inl o ↦ added.kept y (s.whole y o)
-          | inr e ↦ subst (λ z. is_marked more z ≡ true) e added.here
+          | inr e ↦ subst (λ z. is_marked_at more z ≡ true) e added.here
         ];
     closed = λ q h a b. elim (added.only q.first a) [
       | inr n ↦ inr (inl (inl n.1))

@@ -2,11 +2,7 @@
 -- functions alone speak of it.
 use Rattle.std.specs.Prelude.{◌≡◌, ℕ, ◌+◌, ◌*◌, List, [], length, Contains, ◌⊎◌, Bool, true, false, sum_by, get_or}
 use Rattle.ux_digraph.specs.declared.closing.Rule.{Rule}
-use Rattle.ux_digraph.specs.Rules.{Derived}
-
--- whether the place is marked
-abbrev pub is_marked : List Bool → ℕ → Bool
-is_marked marks x = get_or marks x false
+use Rattle.ux_digraph.specs.Rules.{Derived, is_marked_at}
 
 -- the rules that each place is a premise of
 pub record HaveUses (rules : List Rule) (uses : List (List Rule)) : Type 0 where
@@ -17,26 +13,26 @@ pub record HaveUses (rules : List Rule) (uses : List (List Rule)) : Type 0 where
 -- each place that is marked follows, and each rule is applied but for those that wait
 pub record Marking (rules : List Rule) (facts : List ℕ) (marks : List Bool)
     (Waits : Rule → Type 0) : Type 0 where
-  pub sound : (x : ℕ) → is_marked marks x ≡ true → Derived rules facts x
-  pub whole : (x : ℕ) → Contains facts x → is_marked marks x ≡ true
-  pub closed : (r : Rule) → Contains rules r → is_marked marks r.first ≡ true →
-      is_marked marks r.second ≡ true → (is_marked marks r.place ≡ true) ⊎ Waits r
+  pub sound : (x : ℕ) → is_marked_at marks x ≡ true → Derived rules facts x
+  pub whole : (x : ℕ) → Contains facts x → is_marked_at marks x ≡ true
+  pub closed : (r : Rule) → Contains rules r → is_marked_at marks r.first ≡ true →
+      is_marked_at marks r.second ≡ true → (is_marked_at marks r.place ≡ true) ⊎ Waits r
 
 -- a place was marked, and is noted if it was not
 pub record Added (marks : List Bool) (work : List ℕ) (place : ℕ) (more : List Bool)
     (later : List ℕ) : Type 0 where
-  pub here : is_marked more place ≡ true
-  pub kept : (x : ℕ) → is_marked marks x ≡ true → is_marked more x ≡ true
-  pub only : (x : ℕ) → is_marked more x ≡ true →
-      (is_marked marks x ≡ true) ⊎ ((x ≡ place) × Contains later x)
+  pub here : is_marked_at more place ≡ true
+  pub kept : (x : ℕ) → is_marked_at marks x ≡ true → is_marked_at more x ≡ true
+  pub only : (x : ℕ) → is_marked_at more x ≡ true →
+      (is_marked_at marks x ≡ true) ⊎ ((x ≡ place) × Contains later x)
   pub noted : (x : ℕ) → Contains work x → Contains later x
 
 -- the place of a rule was marked, if both premises are
 abbrev pub Applied : List Bool → List ℕ → Rule → List Bool → List ℕ → Type 0
 Applied marks work r more later =
-    ((is_marked marks r.first ≡ true) × (is_marked marks r.second ≡ true)
+    ((is_marked_at marks r.first ≡ true) × (is_marked_at marks r.second ≡ true)
     × Added marks work r.place more later)
-    ⊎ (((is_marked marks r.first ≡ true) × (is_marked marks r.second ≡ true) → ⊥)
+    ⊎ (((is_marked_at marks r.first ≡ true) × (is_marked_at marks r.second ≡ true) → ⊥)
     × (more ≡ marks) × (later ≡ work))
 
 -- a rule waits at a premise that is noted, or among those that are still to be looked at

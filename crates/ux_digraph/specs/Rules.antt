@@ -1,7 +1,11 @@
 -- Places that follow from facts by rules with two premises. Public: the crate's public contracts
 -- speak of it.
-use Rattle.std.specs.Prelude.{ℕ, ◌<◌, List, Contains}
+use Rattle.std.specs.Prelude.{ℕ, ◌<◌, Bool, false, List, Contains, get_or}
 use Rattle.ux_digraph.specs.declared.closing.Rule.{Rule}
+
+-- whether the place is marked
+abbrev pub is_marked_at : List Bool → ℕ → Bool
+is_marked_at marks x = get_or marks x false
 
 -- a place holds as a fact, or by a rule whose two premises hold
 pub data Derived (rules : List Rule) (facts : List ℕ) : ℕ → Type 0 where

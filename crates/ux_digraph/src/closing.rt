@@ -6,7 +6,7 @@
 //! size, the rules and the facts.
 
 ghost use Rattle.std.specs.Prelude.{◌≡◌, ℕ, ◌<◌, ◌≤◌, ◌↔◌, List, [], ◌∷◌, ◌++◌, length, map, IfOk, OnOk, Contains, get_or, slice_set, false, true};
-ghost use Rattle.ux_digraph.specs.Rules.{Derived, AreRulesInside};
+ghost use Rattle.ux_digraph.specs.Rules.{Derived, AreRulesInside, is_marked_at};
 ghost use Rattle.ux_digraph.specs.Marking.{HaveUses, Added, Applied, IsRowDone, work_left};
 ghost use Rattle.ux_digraph.specs.declared.closing.Rule.{Rule};
 
@@ -29,7 +29,7 @@ pub fn closure(alloc: Global, size: usize, rules: &[Rule], facts: &[usize]) -> M
     requires inside { AreRulesInside size rules.now facts.now }
     ensures len { IfOk result (λ marks. length marks.items ≡ size) }
     ensures marks { IfOk result (λ marks.
-        (x : ℕ) → (get_or marks.items x false ≡ true) ↔ Derived rules.now facts.now x) }
+        (x : ℕ) → (is_marked_at marks.items x ≡ true) ↔ Derived rules.now facts.now x) }
 {
     let uses = uses_of(alloc, size, rules)?;
     let mut marks = vec![in alloc; false; size]?;

@@ -2,6 +2,7 @@
 
 ghost use Rattle.std.specs.Prelude.{◌≡◌, ℕ, ◌<◌, ◌≤◌, ◌↔◌, List, length, take, IfOk, OnOk, Contains, get_or, false, true};
 ghost use Rattle.ux_digraph.specs.Paths.{IsInside, Reaches};
+ghost use Rattle.ux_digraph.specs.Rules.{is_marked_at};
 ghost use Rattle.ux_digraph.specs.EdgeRules.{AreRulesBelow, AreRulesAdded};
 
 use crate::closing::{Rule, closure};
@@ -14,7 +15,7 @@ pub fn reached(alloc: Global, edges: &[Lst<usize>], start: usize) -> Mem<Vec<boo
     requires start { start < length edges.now }
     ensures len { IfOk result (λ marks. length marks.items ≡ length edges.now) }
     ensures marks { IfOk result (λ marks.
-        (v : ℕ) → (get_or marks.items v false ≡ true) ↔ Reaches edges.now start v) }
+        (v : ℕ) → (is_marked_at marks.items v ≡ true) ↔ Reaches edges.now start v) }
 {
     let rules = rules_of(alloc, edges)?;
     let marks = closure(alloc, edges.len(), &rules, &[start])?;

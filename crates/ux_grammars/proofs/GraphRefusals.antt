@@ -6,20 +6,16 @@ use Rattle.ux_grf.specs.declared.error.GrfError.{GrfError}
 use Rattle.ux_grf.specs.declared.error.GrfError.TheVariants.{NoHeader, BadCount, BadBoxLine, BadTarget, BadContent, NoMemory}
 use Rattle.ux_grf.specs.declared.graph.Graph.{Graph}
 use Rattle.ux_grf.specs.BoxLine.{BoxText}
-use Rattle.ux_grf.specs.Boxes.{box_at, texts_of, is_good, HasBadTarget}
+use Rattle.ux_grf.specs.Boxes.{box_at, text_at, is_good, HasBadTarget}
 use Rattle.ux_grf.specs.Content.{content_of, is_read, IsBoxOf}
-use Rattle.ux_grf.specs.File.{IsGraphOf, Refuses, HasBoxLines, Draws, IsFirstBad, count_at, text_at, ways_in}
+use Rattle.ux_grf.specs.File.{IsGraphOf, Refuses, Draws, IsFirstBad, count_at, ways_in}
 use Rattle.ux_grf.specs.Reached.{Reached}
 use Rattle.ux_grf.specs.WellFormed.{box_of_graph}
 use Rattle.ux_grf.specs.declared.graph.GrfBox.{GrfBox}
 use Rattle.ux_grf.specs.declared.item.Item.{Item}
 use Rattle.ux_grf.specs.declared.item.Piece.{Piece}
+use Rattle.ux_grf.proofs.TextsLemmas.{HasTexts-once, count_same, lines_same}
 use Rattle.ux_grf.proofs.UniqueLemmas.{IsContent-once, IsContent-IsFault}
-
--- the lines behind a first line
-abbrev tail_of : List (List ℕ) → List (List ℕ)
-tail_of [] = []
-tail_of (line ∷ lines) = lines
 
 -- a line that is missing or is no box line isn't good
 no_line : (count : ℕ) (box : Option BoxText) → is_good count box ≡ true → box ≡ None → ⊥
@@ -32,51 +28,42 @@ no_target : (count : ℕ) (box : Option BoxText) → is_good count box ≡ true 
 no_target count None good bad = bad
 no_target count (Some text) good bad = both_ways _ bad good
 
-module _ (text : List ℕ) (count other : ℕ) (lines others : List (List ℕ))
-    (has : HasBoxLines text count lines) (tells : HasBoxLines text other others) where
-  same_lines : (tells.first ∷ others) ≡ (has.first ∷ lines)
-  same_lines = same_Some (tells.first ∷ others) (has.first ∷ lines) (sym tells.header ∙ has.header)
-
-  -- the lines and their number are the only ones
-  pub lines_same : others ≡ lines
-  lines_same = ap tail_of same_lines
-
-  pub count_same : other ≡ count
-  count_same = same_Some other count (sym tells.told ∙ (ap count_at same_lines ∙ has.told))
-
 -- a text that draws a graph is refused for want of memory alone
 pub drawn_not_refused : (text : List ℕ) (graph : Graph) (error : GrfError) → IsGraphOf text graph →
     error ≢ NoMemory → Refuses text error → ⊥
 drawn_not_refused text graph NoHeader is other refused =
-    none-some (is.2.first ∷ is.1) (sym refused ∙ is.2.header)
+    none-some (is.1.has.first ∷ is.1.lines) (sym refused ∙ is.1.has.header)
 drawn_not_refused text graph BadCount is other refused =
-    let same = same_Some refused.0 (is.2.first ∷ is.1) (sym refused.1 ∙ is.2.header) in
-    none-some is.0 (sym refused.2 ∙ (ap count_at same ∙ is.2.told))
+    let same =
+    same_Some refused.0 (is.1.has.first ∷ is.1.lines) (sym refused.1 ∙ is.1.has.header) in
+    none-some is.1.count (sym refused.2 ∙ (ap count_at same ∙ is.1.has.told))
 drawn_not_refused text graph (BadBoxLine node) is other refused =
-    let same_count = count_same text is.0 refused.0 is.1 refused.1 is.2 refused.2 in
-    let same_lines = lines_same text is.0 refused.0 is.1 refused.1 is.2 refused.2 in
-    let inside : node < is.0 = subst (λ (n : ℕ). node < n) same_count refused.3.0 in
-    let none : box_at is.1 node ≡ None =
+    let count = is.1.count in
+    let lines = is.1.lines in
+    let same_count = count_same text count refused.0 lines refused.1 is.1.has refused.2 in
+    let same_lines = lines_same text count refused.0 lines refused.1 is.1.has refused.2 in
+    let inside : node < count = subst (λ (n : ℕ). node < n) same_count refused.3.0 in
+    let none : box_at lines node ≡ None =
     subst (λ (ls : List (List ℕ)). box_at ls node ≡ None) same_lines refused.3.2 in
-    no_line is.0 (box_at is.1 node) (is.3 node inside) none
+    no_line count (box_at lines node) (is.1.good node inside) none
 drawn_not_refused text graph (BadTarget node) is other refused =
-    let same_count = count_same text is.0 refused.0 is.1 refused.1 is.2 refused.2 in
-    let same_lines = lines_same text is.0 refused.0 is.1 refused.1 is.2 refused.2 in
-    let inside : node < is.0 = subst (λ (n : ℕ). node < n) same_count refused.3.0 in
-    let bad : HasBadTarget is.0 (box_at is.1 node) =
-    subst (λ (ls : List (List ℕ)). HasBadTarget is.0 (box_at ls node)) same_lines
+    let count = is.1.count in
+    let lines = is.1.lines in
+    let same_count = count_same text count refused.0 lines refused.1 is.1.has refused.2 in
+    let same_lines = lines_same text count refused.0 lines refused.1 is.1.has refused.2 in
+    let inside : node < count = subst (λ (n : ℕ). node < n) same_count refused.3.0 in
+    let bad : HasBadTarget count (box_at lines node) =
+    subst (λ (ls : List (List ℕ)). HasBadTarget count (box_at ls node)) same_lines
     (subst (λ (n : ℕ). HasBadTarget n (box_at refused.1 node)) same_count refused.3.2) in
-    no_target is.0 (box_at is.1 node) (is.3 node inside) bad
+    no_target count (box_at lines node) (is.1.good node inside) bad
 drawn_not_refused text graph (BadContent node place) is other refused =
-    let same_count = count_same text is.0 refused.0 is.1 refused.1 is.2 refused.2 in
-    let same_lines = lines_same text is.0 refused.0 is.1 refused.1 is.2 refused.2 in
-    let texts = texts_of is.0 is.1 in
+    let texts = is.0 in
     let first : IsFirstBad texts node place =
-    subst (λ (ls : List (List ℕ)). IsFirstBad (texts_of is.0 ls) node place) same_lines
-    (subst (λ (n : ℕ). IsFirstBad (texts_of n refused.1) node place) same_count refused.4) in
-    let read = (is.4.reached node first.box.inside).1 first.box.reached in
+    subst (λ (ts : List BoxText). IsFirstBad ts node place)
+    (HasTexts-once text refused.0 texts refused.1 is.1) refused.2 in
+    let read = (is.2.reached node first.box.inside).1 first.box.reached in
     let inner = lt-ltb 1 node first.box.inner in
-    let content = (is.4.boxes node first.box.inside).read (rw read inner) in
+    let content = (is.2.boxes node first.box.inside).read (rw read inner) in
     IsContent-IsFault (content_of (text_at texts node)) first.bad.left
     (record { lines = (box_of_graph graph node).lines; output = (box_of_graph graph node).output })
     content first.bad.fault
@@ -133,16 +120,14 @@ same_boxes d (x ∷ xs) (y ∷ ys) len each =
 pub drawn_once : (text : List ℕ) (one other : Graph) → IsGraphOf text one →
     IsGraphOf text other → one ≡ other
 drawn_once text one other is also =
-    let same_count = count_same text is.0 also.0 is.1 also.1 is.2 also.2 in
-    let same_lines = lines_same text is.0 also.0 is.1 also.1 is.2 also.2 in
-    let texts = texts_of is.0 is.1 in
+    let texts = is.0 in
     let draws : Draws texts other =
-    subst (λ (ls : List (List ℕ)). Draws (texts_of is.0 ls) other) same_lines
-    (subst (λ (n : ℕ). Draws (texts_of n also.1) other) same_count also.4) in
+    subst (λ (ts : List BoxText). Draws ts other) (HasTexts-once text also.0 texts also.1 is.1) also.2
+    in
     ap (λ (boxes : List GrfBox). record { boxes = boxes })
-    (same_boxes _ one.boxes other.boxes (is.4.len ∙ sym draws.len) (λ n low.
-    let inside : n < length texts = (let len = is.4.len in omega (arith, len, low)) in
+    (same_boxes _ one.boxes other.boxes (is.2.len ∙ sym draws.len) (λ n low.
+    let inside : n < length texts = (let len = is.2.len in omega (arith, len, low)) in
     box_once (text_at texts n) n (box_of_graph one n) (box_of_graph other n)
     (same_test (box_of_graph one n).reached (box_of_graph other n).reached
-    (Reached (ways_in texts) n) (is.4.reached n inside) (draws.reached n inside))
-    (is.4.boxes n inside) (draws.boxes n inside)))
+    (Reached (ways_in texts) n) (is.2.reached n inside) (draws.reached n inside))
+    (is.2.boxes n inside) (draws.boxes n inside)))

@@ -1,5 +1,5 @@
 -- The graphs of a grammar, read one after another: what the table of names tells of them.
-use Rattle.std.proofs.Common.{arith, ◌≡◌, ◌≢◌, ℕ, zero, suc, ◌<◌, ◌≤◌, ◌⊎◌, inl, inr, List, [], ◌∷◌, ◌++◌, length, get_or, fold, refl, sym, ◌∙◌, ap, subst, Option, Some, None, String, Global}
+use Rattle.std.proofs.Common.{arith, ◌≡◌, ◌≢◌, ℕ, zero, suc, ◌<◌, ◌≤◌, ◌⊎◌, inl, inr, List, [], ◌∷◌, ◌++◌, length, get_or, refl, sym, ◌∙◌, ap, subst, Option, Some, None, String, Global}
 use Rattle.std.specs.Prelude.{AllPairs, Contains, slice_get, string_bytes}
 use Rattle.std.specs.List.{flat_map}
 use Rattle.std.specs.Option.{option_map}
@@ -10,9 +10,8 @@ use Rattle.ux_base.specs.Outside.{Files, Seen}
 use Rattle.ux_plan.specs.declared.stop.Stop.{Stop}
 use Rattle.ux_plan.specs.declared.stop.Stop.TheVariants.{NoMemory}
 use Rattle.ux_plan.specs.Plans.{Format, Reads, ReadsNext, StopsFile, StopsNext}
-use Rattle.ux_grf.specs.Needs.{called_names}
 use Rattle.ux_grf.specs.declared.graph.Graph.{Graph}
-use Rattle.ux_base.specs.Distinct.{StandOnce, with_text}
+use Rattle.ux_base.specs.Distinct.{GrowsBy, StandOnce}
 use Rattle.ux_tokens.proofs.CutLemmas.{slice_get-push_cases}
 use Rattle.ux_base.proofs.OnceLemmas.{each_once-once}
 use Rattle.ux_net.specs.Boxes.{Drawn, names_of}
@@ -20,7 +19,7 @@ use Rattle.ux_net.specs.Refusing.{AreWhole, calls_in, calls_of, drawn, drawn_of}
 use Rattle.ux_grammars.specs.Graphs.{MOST_GRAPHS}
 use Rattle.ux_grammars.specs.Naming.{file_of, main_name, names_after, next_name}
 use Rattle.ux_grammars.specs.Reading.{AreNamed, AreWholeGraphs, IsGiven, IsReading}
-use Rattle.ux_grammars.proofs.TableLemmas.{each_once-has, fold_keeps, names_grow}
+use Rattle.ux_grammars.proofs.TableLemmas.{each_once-has, name_stays, names_grow}
 
 -- a graph given with its name
 abbrev Given : Type 0
@@ -84,14 +83,13 @@ module _ (word : List ℕ) (names : List (List ℕ)) (graphs : List Given)
   pub reading_more : (table : List (List ℕ)) (graph : Given) (all : List Given) (name : List ℕ)
       (count : ℕ) → count ≡ length graphs → slice_get names count ≡ Some name →
       string_bytes graph.0 ≡ name → IsGiven graph →
-      table ≡ fold with_text names (called_names graph.1) → all ≡ graphs ++ graph ∷ [] →
+      GrowsBy (calls_of (drawn_of graph)) names table → all ≡ graphs ++ graph ∷ [] →
       IsReading word table all
   reading_more table graph all name count place at is given grown pushed =
       subst (λ (l : List Given). IsReading word table l) (sym pushed) (record {
         table =
-            grown ∙ (ap (λ (l : List (List ℕ)). fold with_text l (called_names graph.1)) reading.table
-            ∙ (names_grow word (drawn graphs) (drawn_of graph)
-            ∙ ap (names_after word) (sym more)));
+            names_grow word (drawn graphs) (drawn_of graph) names table reading.table grown
+            ∙ ap (names_after word) (sym more);
         named = λ k d here. by k d (slice_get-push_cases (drawn graphs) (drawn_of graph) k d
             (subst (λ (l : List Drawn). slice_get l k ≡ Some d) more here));
         given = All-append IsGiven graphs (graph ∷ []) reading.given
@@ -102,9 +100,7 @@ module _ (word : List ℕ) (names : List (List ℕ)) (graphs : List Given)
       more = map-append drawn_of graphs (graph ∷ [])
 
       stays : (k : ℕ) (x : List ℕ) → slice_get names k ≡ Some x → slice_get table k ≡ Some x
-      stays k x there =
-          subst (λ (l : List (List ℕ)). slice_get l k ≡ Some x) (sym grown)
-          (fold_keeps names (called_names graph.1) k x there)
+      stays = name_stays word (drawn graphs) (drawn_of graph) names table reading.table grown
 
       by : (k : ℕ) (d : Drawn) → ((k < length (drawn graphs)) × (slice_get (drawn graphs) k ≡ Some d))
           ⊎ ((k ≡ length (drawn graphs)) × (drawn_of graph ≡ d)) → slice_get table k ≡ Some d.name

@@ -8,9 +8,9 @@ use Rattle.ux_grf.specs.Size.{size_of}
 use Rattle.ux_grf.specs.WellFormed.{IsWellFormed}
 use Rattle.ux_grf.specs.declared.graph.Graph.{Graph}
 use Rattle.ux_net.specs.Boxes.{Drawn, box_grammar}
-use Rattle.ux_net.specs.Nets.{net_graph, states_of}
+use Rattle.ux_net.specs.Nets.{net_grammar}
 use Rattle.ux_net.specs.Refusing.{AreWhole, drawn}
-use Rattle.ux_net.specs.Words.{HaveSameWords}
+use Rattle.ux_net.specs.Words.{SayTheSame}
 use Rattle.ux_net.specs.declared.error.NetError.{NetError}
 use Rattle.ux_net.specs.declared.error.NetError.TheVariants.{MissingGraph, NotYet, EmptyLoop, LeftRecursion, NoMemory}
 use Rattle.ux_net.specs.declared.net_graph.NetGraph.{NetGraph}
@@ -54,10 +54,9 @@ IsPlaced (LeftRecursion graph node) = ⊤
 IsPlaced (MissingGraph name) = ⊥
 IsPlaced NoMemory = ⊤
 
--- the graphs have the words of the net's
+-- the net says the same as the graphs
 abbrev pub Compiles : Letters → List Drawn → List NetGraph → Type 0
-Compiles letters graphs net =
-    (g : ℕ) → HaveSameWords ((box_grammar letters graphs).graph g) (net_graph (states_of net g))
+Compiles letters graphs net = SayTheSame (box_grammar letters graphs) (net_grammar net)
 
 -- the net is that of the graphs to which the plan of a grammar comes
 pub record HasNet {R : Type 0} (plan : Plan R (List Drawn)) (told : Option Files)

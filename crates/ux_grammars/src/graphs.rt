@@ -3,12 +3,12 @@
 //! The names that a graph calls are added to a table as the graph is read, each once, so the table
 //! tells which graph is read next, and a grammar has been read when no name is left.
 
-ghost use Rattle.std.specs.Prelude.{◌≡◌, ◌<◌, ◌≤◌, ◌∷◌, ℕ, List, [], All, IfErr, IfOk, OnOk, fold, length, slice_get, Some, string_bytes};
+ghost use Rattle.std.specs.Prelude.{◌≡◌, ◌<◌, ◌≤◌, ◌∷◌, ℕ, List, [], All, IfErr, IfOk, OnOk, length, slice_get, Some, string_bytes};
 ghost use Rattle.ux_base.specs.Outside.{IsLater, MAX};
 ghost use Rattle.ux_plan.specs.Plans.{Comes, Halts, Reads, ReadsNext, StopsFile, StopsNext, StopsTest};
-ghost use Rattle.ux_grf.specs.Needs.{called_names};
+ghost use Rattle.ux_grf.specs.Needs.{calls_of};
 ghost use Rattle.ux_grf.specs.WellFormed.{IsWellFormed};
-ghost use Rattle.ux_base.specs.Distinct.{with_text};
+ghost use Rattle.ux_base.specs.Distinct.{GrowsBy, with_text};
 ghost use Rattle.ux_net.specs.Refusing.{drawn, drawn_of};
 ghost use Rattle.ux_grammars.specs.Graphs.{MOST_GRAPHS, drawing_format, graph_format, graphs_plan};
 ghost use Rattle.ux_grammars.specs.Naming.{file_of as file_of_graph, main_name as main_name_of, next_name};
@@ -150,8 +150,7 @@ fn drawn_graph<R: OfDecode + OfGrammar>(
 /// Adds the names that a graph calls, each that isn't there yet.
 fn add_needs(alloc: Global, graph: &Graph, names: &mut IndexSet<Txt>) -> Mem<()>
     requires { IsWellFormed graph.now }
-    ensures { OnOk result
-        (names.new.keys ≡ fold with_text names.old.keys (called_names graph.now)) }
+    ensures { OnOk result (GrowsBy (calls_of graph.now) names.old.keys names.new.keys) }
 {
     for name in needs(alloc, graph)? {
         add_name(names, name)?;

@@ -1,18 +1,18 @@
 -- A set that grows by one name at a time has the names so far, each at its first place.
-use Rattle.std.proofs.Common.{arith, ◌≡◌, ℕ, zero, suc, ◌↔◌, Bool, true, false, ◌||◌, ◌⊎◌, inl, inr, List, [], ◌∷◌, ◌++◌, cond, map, refl, sym, ◌∙◌, ap, subst, Bor}
+use Rattle.std.proofs.Common.{◌≡◌, ℕ, ◌↔◌, Bool, true, false, ◌||◌, inl, inr, List, [], ◌∷◌, map, refl, sym, ◌∙◌, ap, subst, Bor}
 use Rattle.std.specs.Prelude.{Contains}
 use Rattle.std.specs.List.{flat_map, list_any}
 use Rattle.std.specs.Str.{bytes_eq}
-use Rattle.std.proofs.lemmas.Slice.Eq.{bytes_eq-Decides}
 use Rattle.std.proofs.lemmas.List.{map-append}
-use Rattle.std.proofs.lemmas.List.Elements.{Contains-append_left, Contains-append_right, Contains-append_cases, Contains-push, Contains-push_cases}
+use Rattle.std.proofs.lemmas.List.Elements.{Contains-append_left, Contains-append_right, Contains-append_cases}
 use Rattle.indexmap.specs.IndexSet.{insert_key}
-use Rattle.indexmap.proofs.CallerLemmas.{Contains-list_any}
+use Rattle.ux_base.specs.Distinct.{with_text}
+use Rattle.ux_base.proofs.FirstsLemmas.{Contains-first, Contains-after, Contains-cases, Contains-none}
 use Rattle.ux_grf.specs.declared.graph.Graph.{Graph}
 use Rattle.ux_grf.specs.declared.graph.GrfBox.{GrfBox}
 use Rattle.ux_grf.specs.declared.item.Item.{Item}
 use Rattle.ux_grf.specs.declared.item.Item.TheVariants.{Literal, Quoted, Mask, Brace, Glue, Empty, Call, Begin, End, Positive, Negative, ContextEnd, Cut}
-use Rattle.ux_grf.specs.Needs.{calls_of_item, calls_of_line, calls_of_box, calls_of, with_name, with_names, called_names}
+use Rattle.ux_grf.specs.Needs.{calls_of_item, calls_of_line, calls_of_box, calls_of}
 
 -- the same test on names of a set and on their bytes
 list_any-slices : (text : List ℕ) (slices : List (Bor (List ℕ))) →
@@ -24,13 +24,13 @@ list_any-slices text (s ∷ slices) =
 
 pub names-insert : (slices : List (Bor (List ℕ))) (text : Bor (List ℕ)) →
     map (λ (s : Bor (List ℕ)). s.now) (insert_key (λ x y. bytes_eq x.now y.now) slices text)
-    ≡ with_name (map (λ (s : Bor (List ℕ)). s.now) slices) text.now
+    ≡ with_text (map (λ (s : Bor (List ℕ)). s.now) slices) text.now
 names-insert slices text =
     by (list_any (λ (s : Bor (List ℕ)). bytes_eq text.now s.now) slices) refl
   where
     by : (b : Bool) → list_any (λ (s : Bor (List ℕ)). bytes_eq text.now s.now) slices ≡ b →
         map (λ (s : Bor (List ℕ)). s.now) (insert_key (λ x y. bytes_eq x.now y.now) slices text)
-        ≡ with_name (map (λ (s : Bor (List ℕ)). s.now) slices) text.now
+        ≡ with_text (map (λ (s : Bor (List ℕ)). s.now) slices) text.now
     by true is =
         let there : list_any (bytes_eq text.now) (map (λ (s : Bor (List ℕ)). s.now) slices) ≡ true =
         sym (list_any-slices text.now slices) ∙ is in
@@ -40,70 +40,6 @@ names-insert slices text =
         =
         sym (list_any-slices text.now slices) ∙ is in
         rw (is, there) (map-append (λ (s : Bor (List ℕ)). s.now) slices (text ∷ []))
-
--- a list contains its first element, and those behind it
-pub Contains-first : {X : Type 0} (x : X) (xs : List X) → Contains (x ∷ xs) x
-Contains-first x xs = (0, omega arith, refl)
-
-Contains-behind : {X : Type 0} (x y : X) (xs : List X) → Contains xs y → Contains (x ∷ xs) y
-Contains-behind x y xs (k, lt, is) = (suc k, omega arith, is)
-
-Contains-cases : {X : Type 0} (x y : X) (xs : List X) → Contains (x ∷ xs) y →
-    (x ≡ y) ⊎ Contains xs y
-Contains-cases x y xs (zero, lt, is) = inl is
-Contains-cases x y xs (suc k, lt, is) = inr (k, omega (arith, lt), is)
-
-Contains-none : {X : Type 0} (y : X) → Contains [] y → ⊥
-Contains-none y (k, lt, is) = omega (arith, lt)
-
--- a name that is noted
-with_name-Contains : (names : List (List ℕ)) (more name : List ℕ) →
-    Contains (with_name names more) name ↔ (Contains names name ⊎ (more ≡ name))
-with_name-Contains names more name = by (list_any (bytes_eq more) names) refl
-  where
-    by : (b : Bool) → list_any (bytes_eq more) names ≡ b →
-        Contains (cond b names (names ++ more ∷ [])) name
-        ↔ (Contains names name ⊎ (more ≡ name))
-    by true is =
-        let there = Contains-list_any bytes_eq (λ x y e. (bytes_eq-Decides x y).0 e) names more is in (
-          (λ h. inl h),
-          (λ h. elim h [
-            | inl h ↦ h
-            | inr e ↦ subst (λ (n : List ℕ). Contains names n) e there
-          ]),
-        )
-    by false is = (
-      (λ h. Contains-push_cases names more name h),
-      (λ h. elim h [
-        | inl h ↦ Contains-append_left names (more ∷ []) name h
-        | inr e ↦
-            subst (λ (n : List ℕ). Contains (names ++ more ∷ []) n) e (Contains-push names more)
-      ]),
-    )
-
-with_names-Contains : (more names : List (List ℕ)) (name : List ℕ) →
-    Contains (with_names names more) name ↔ (Contains names name ⊎ Contains more name)
-with_names-Contains [] names name =
-    ((λ h. inl h), (λ h. elim h [ inl h ↦ h | inr h ↦ absurd (Contains-none name h) ]))
-with_names-Contains (first ∷ more) names name =
-    let one = with_name-Contains names first name in
-    let rest = with_names-Contains more (with_name names first) name in (
-      (λ h. elim (rest.0 h) [
-        | inl h ↦ elim (one.0 h) [
-          | inl h ↦ inl h
-          | inr e ↦ inr (subst (λ (n : List ℕ). Contains (first ∷ more) n) e
-              (Contains-first first more))
-        ]
-        | inr h ↦ inr (Contains-behind first name more h)
-      ]),
-      (λ h. elim h [
-        | inl h ↦ rest.1 (inl (one.1 (inl h)))
-        | inr h ↦ elim (Contains-cases first name more h) [
-          | inl e ↦ rest.1 (inl (one.1 (inr e)))
-          | inr h ↦ rest.1 (inr h)
-        ]
-      ]),
-    )
 
 -- what is joined is contained in a part
 flat_map-Contains : {X Y : Type 0} (f : X → List Y) (xs : List X) (y : Y) →
@@ -116,7 +52,7 @@ flat_map-Contains f (x ∷ xs) y =
         | inl h ↦ (x, Contains-first x xs, h)
         | inr h ↦
             let found = rest.0 h in
-            (found.0, Contains-behind x found.0 xs found.1, found.2)
+            (found.0, Contains-after x found.0 xs found.1, found.2)
       ]),
       (λ (z, here, there). elim (Contains-cases x z xs here) [
         | inl e ↦
@@ -147,38 +83,29 @@ calls_only ContextEnd name h = absurd (Contains-none name h)
 calls_only Cut name h = absurd (Contains-none name h)
 
 -- the names are those that some line of some box calls
-pub called_names-Contains : (graph : Graph) (name : List ℕ) →
-    Contains (called_names graph) name
+pub calls_of-Contains : (graph : Graph) (name : List ℕ) →
+    Contains (calls_of graph) name
     ↔ ((b : GrfBox) × (line : List Item) × Contains graph.boxes b × Contains b.lines line
     × Contains line (Call name))
-called_names-Contains graph name = (
-  (λ h. elim ((with_names-Contains (calls_of graph) [] name).0 h) [
-    | inl h ↦ absurd (Contains-none name h)
-    | inr h ↦
-        let box = (flat_map-Contains calls_of_box graph.boxes name).0 h in
-        let line = (flat_map-Contains calls_of_line box.0.lines name).0 box.2 in
-        let item = (flat_map-Contains calls_of_item line.0 name).0 line.2 in (
-          box.0,
-          line.0,
-          box.1,
-          line.1,
-          subst (λ (x : Item). Contains line.0 x)
-              (calls_only item.0 name item.2) item.1,
-        )
-  ]),
+calls_of-Contains graph name = (
+  (λ h.
+      let box = (flat_map-Contains calls_of_box graph.boxes name).0 h in
+      let line = (flat_map-Contains calls_of_line box.0.lines name).0 box.2 in
+      let item = (flat_map-Contains calls_of_item line.0 name).0 line.2 in (
+        box.0,
+        line.0,
+        box.1,
+        line.1,
+        subst (λ (x : Item). Contains line.0 x) (calls_only item.0 name item.2) item.1,
+      )),
   (λ (b, line, in_graph, in_box, in_line).
-      (with_names-Contains (calls_of graph) [] name).1
-      (inr ((flat_map-Contains calls_of_box graph.boxes name).1 (
+      (flat_map-Contains calls_of_box graph.boxes name).1 (
         b,
         in_graph,
         (flat_map-Contains calls_of_line b.lines name).1 (
           line,
           in_box,
-          (flat_map-Contains calls_of_item line name).1 (
-            Call name,
-            in_line,
-            Contains-first name [],
-          ),
+          (flat_map-Contains calls_of_item line name).1 (Call name, in_line, Contains-first name []),
         ),
-      )))),
+      )),
 )

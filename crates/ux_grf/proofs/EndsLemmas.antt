@@ -1,4 +1,4 @@
--- What is left behind a part, or from a fault on, stands at the content's end.
+-- What is left after a part, or from a fault on, stands at the content's end.
 use Rattle.std.proofs.Common.{◌≡◌, ℕ, ◌+◌, List, [], ◌∷◌, ◌++◌, refl, sym, ◌∙◌, ap, subst, cond, Bool, true, false, not, ◌&&◌, inl, inr, length, take, drop, append_assoc, append-nil, length-append, Option, None, Some, eqb}
 use Rattle.std.specs.Str.{chars, IsUtf8}
 use Rattle.std.proofs.lemmas.List.{take-append-drop, take_at}
@@ -14,7 +14,7 @@ use Rattle.ux_grf.specs.Words.{is_gap}
 use Rattle.ux_grf.specs.Protection.{BACKSLASH, first_free, ends_open, resolved}
 use Rattle.ux_grf.specs.Items.{PLUS, SLASH, Beginning, no_more, part, fault, sign_of, some_text, quoted_begin, mask_item, mask_begin, brace_begin, literal_begin, begin_at, begin_of, Reads, line_over, item_then, Fails, fault_here, fault_later}
 use Rattle.ux_grf.specs.declared.item.Item.TheVariants.{Literal}
-use Rattle.ux_grf.specs.Lines.{without_front, line_end, behind_line, IsLine, of_items, of_mark, IsBadLine, in_items, at_mark, AreLines, last_line, line_with_output, line_then, IsBadIn, in_first, in_rest}
+use Rattle.ux_grf.specs.Lines.{without_front, line_end, after_line, IsLine, of_items, of_mark, IsBadLine, in_items, at_mark, AreLines, last_line, line_with_output, line_then, IsBadIn, in_first, in_rest}
 use Rattle.ux_grf.specs.Content.{IsEndOf, IsFault}
 use Rattle.ux_grf.proofs.NumbersLemmas.{and_left}
 
@@ -28,12 +28,12 @@ further : (text rest left : List ℕ) → IsEndOf text rest → IsEndOf rest lef
 further text rest left a b =
     (a.0 ++ b.0, a.1 ∙ (ap (λ r. a.0 ++ r) b.1 ∙ sym (append_assoc a.0 b.0 left)))
 
-behind_one : (b : ℕ) (text rest : List ℕ) → IsEndOf text rest → IsEndOf (b ∷ text) rest
-behind_one b text rest a = (b ∷ a.0, ap (λ t. b ∷ t) a.1)
+after_one : (b : ℕ) (text rest : List ℕ) → IsEndOf text rest → IsEndOf (b ∷ text) rest
+after_one b text rest a = (b ∷ a.0, ap (λ t. b ∷ t) a.1)
 
-behind_sign : (text rest : List ℕ) (b : ℕ) → IsEndOf text (b ∷ rest) → IsEndOf text rest
-behind_sign text rest b a =
-    further text (b ∷ rest) rest a (behind_one b rest rest (itself rest))
+after_sign : (text rest : List ℕ) (b : ℕ) → IsEndOf text (b ∷ rest) → IsEndOf text rest
+after_sign text rest b a =
+    further text (b ∷ rest) rest a (after_one b rest rest (itself rest))
 
 -- a text that ends open ends in a backslash
 open_end : (protected : Bool) (b : ℕ) (text : List ℕ) → ends_open protected (b ∷ text) ≡ true →
@@ -42,7 +42,7 @@ open_end protected b [] e =
     let is : b ≡ BACKSLASH = eqb-true b BACKSLASH (and_left (eqb b BACKSLASH) (not protected) e) in
     ([], ap (λ x. x ∷ []) is)
 open_end protected b (c ∷ text) e =
-    behind_one b (c ∷ text) (BACKSLASH ∷ [])
+    after_one b (c ∷ text) (BACKSLASH ∷ [])
     (open_end (eqb b BACKSLASH && not protected) c text e)
 
 pub open_ends : (text : List ℕ) → ends_open false text ≡ true → IsEndOf text (BACKSLASH ∷ [])
@@ -55,12 +55,12 @@ EndsIn text (part item rest) = IsEndOf text rest
 EndsIn text (fault left) = IsEndOf text left
 
 module _ (b : ℕ) (text : List ℕ) where
-  behind_sign_at : (k : ℕ) → IsEndOf (b ∷ text) (drop k text)
-  behind_sign_at k = behind_one b text (drop k text) (dropped k text)
+  after_sign_at : (k : ℕ) → IsEndOf (b ∷ text) (drop k text)
+  after_sign_at k = after_one b text (drop k text) (dropped k text)
 
   quoted_ends : (end : Option ℕ) → EndsIn (b ∷ text) (quoted_begin (b ∷ text) end)
   quoted_ends None = itself (b ∷ text)
-  quoted_ends (Some k) = behind_sign_at (k + 1)
+  quoted_ends (Some k) = after_sign_at (k + 1)
 
   mask_ends : (end : Option ℕ) → EndsIn (b ∷ text) (mask_begin (b ∷ text) end)
   mask_ends None = itself (b ∷ text)
@@ -69,11 +69,11 @@ module _ (b : ℕ) (text : List ℕ) where
       by : (t : Bool) → EndsIn (b ∷ text) (cond t (fault (b ∷ text))
           (part (Some (mask_item (take k text))) (drop (k + 1) text)))
       by true = itself (b ∷ text)
-      by false = behind_sign_at (k + 1)
+      by false = after_sign_at (k + 1)
 
   brace_ends : (end : Option ℕ) → EndsIn (b ∷ text) (brace_begin (b ∷ text) end)
   brace_ends None = itself (b ∷ text)
-  brace_ends (Some k) = behind_sign_at (k + 1)
+  brace_ends (Some k) = after_sign_at (k + 1)
 
 literal_ends : (text : List ℕ) (end : Option ℕ) → EndsIn text (literal_begin text end)
 literal_ends text None = by (ends_open false text) refl
@@ -88,8 +88,8 @@ sign_ends : (sign : Sign) (b : ℕ) (text : List ℕ) → EndsIn (b ∷ text) (b
 sign_ends Nothing b text = tt
 sign_ends Plus b text = tt
 sign_ends Slash b text = tt
-sign_ends Blank b text = behind_one b text text (itself text)
-sign_ends Sharp b text = behind_one b text text (itself text)
+sign_ends Blank b text = after_one b text text (itself text)
+sign_ends Sharp b text = after_one b text text (itself text)
 sign_ends Quotation b text = quoted_ends b text (first_free Mark false text)
 sign_ends Less b text = mask_ends b text (first_free Greater false text)
 sign_ends OpenBrace b text = brace_ends b text (first_free CloseBrace false text)
@@ -99,12 +99,12 @@ begin_ends : (text : List ℕ) → EndsIn text (begin_of text)
 begin_ends [] = tt
 begin_ends (b ∷ text) = sign_ends (sign_of b) b text
 
--- what stands behind a line, and from a fault of it on
-reads_end : {text behind : List ℕ} {items : List Item} → Reads text items behind →
-    IsEndOf text behind
+-- what stands after a line, and from a fault of it on
+reads_end : {text after : List ℕ} {items : List Item} → Reads text items after →
+    IsEndOf text after
 reads_end {text} (line_over is) = itself text
-reads_end {text} {behind} (item_then {rest = rest} is r) =
-    further text rest behind (subst (EndsIn text) is (begin_ends text)) (reads_end r)
+reads_end {text} {after} (item_then {rest = rest} is r) =
+    further text rest after (subst (EndsIn text) is (begin_ends text)) (reads_end r)
 
 fails_end : {text left : List ℕ} → Fails text left → IsEndOf text left
 fails_end {text} (fault_here is) = subst (EndsIn text) is (begin_ends text)
@@ -117,14 +117,14 @@ front_end (b ∷ text) = by (is_gap Blanks b) (front_end text)
   where
     by : (t : Bool) → IsEndOf text (without_front text) →
         IsEndOf (b ∷ text) (cond t (without_front text) (b ∷ text))
-    by true later = behind_one b text (without_front text) later
+    by true later = after_one b text (without_front text) later
     by false later = itself (b ∷ text)
 
-line_ends : {text behind : List ℕ} {line : List Item} → IsLine text line behind →
-    IsEndOf text behind
+line_ends : {text after : List ℕ} {line : List Item} → IsLine text line after →
+    IsEndOf text after
 line_ends (of_items mark r) = reads_end r
 line_ends (of_mark {text = text} mark is) =
-    further text (without_front text) (behind_line (without_front text)) (front_end text)
+    further text (without_front text) (after_line (without_front text)) (front_end text)
     (dropped (line_end (without_front text)) (without_front text))
 
 bad_line_end : {text left : List ℕ} → IsBadLine text left → IsEndOf text left
@@ -135,14 +135,14 @@ lines_end : {text output : List ℕ} {lines : List (List Item)} → AreLines tex
     IsEndOf text output
 lines_end (last_line is) = line_ends is
 lines_end (line_with_output {text = text} {output = output} is) =
-    behind_sign text output SLASH (line_ends is)
+    after_sign text output SLASH (line_ends is)
 lines_end (line_then {text = text} {rest = rest} {output = output} is ls) =
-    further text rest output (behind_sign text rest PLUS (line_ends is)) (lines_end ls)
+    further text rest output (after_sign text rest PLUS (line_ends is)) (lines_end ls)
 
 bad_in_end : {text left : List ℕ} → IsBadIn text left → IsEndOf text left
 bad_in_end (in_first bad) = bad_line_end bad
 bad_in_end (in_rest {text = text} {rest = rest} {left = left} is bad) =
-    further text rest left (behind_sign text rest PLUS (line_ends is)) (bad_in_end bad)
+    further text rest left (after_sign text rest PLUS (line_ends is)) (bad_in_end bad)
 
 -- what stands from the first fault of a content on
 pub fault_end : (content left : List ℕ) → IsFault content left → IsEndOf content left

@@ -6,19 +6,17 @@ use Rattle.ux_grf.specs.declared.item.Piece.TheVariants.{Chars, Value}
 use Rattle.ux_grf.specs.declared.words.Gap.TheVariants.{Spaces}
 use Rattle.ux_grf.specs.Words.{words_of}
 use Rattle.ux_grf.specs.Numbers.{is_number, is_coordinate}
-use Rattle.ux_grf.specs.Header.{is_mark, count_of, behind_header}
+use Rattle.ux_grf.specs.Header.{is_mark, count_of, after_header}
 use Rattle.ux_grf.specs.declared.protection.Stop.TheVariants.{Mark}
 use Rattle.ux_grf.specs.declared.protection.Layer.TheVariants.{File}
 use Rattle.ux_grf.specs.Protection.{first_free, resolved}
 use Rattle.ux_grf.specs.BoxLine.{box_of}
-use Rattle.ux_grf.specs.Boxes.{distinct}
 use Rattle.ux_grf.specs.Items.{part, fault, begin_of}
 use Rattle.ux_grf.specs.Lines.{marked_item, AreLines, last_line, line_with_output, line_then, of_items, of_mark}
 use Rattle.ux_grf.specs.Items.{line_over, item_then}
 use Rattle.ux_grf.specs.Output.{ArePieces, chars_only, value_then}
 use Rattle.ux_grf.specs.Reached.{ways_of, Reached, start, step}
-use Rattle.ux_grf.specs.Needs.{with_names}
-use Rattle.ux_grf.proofs.CallsLemmas.{Contains-first}
+use Rattle.ux_base.proofs.FirstsLemmas.{Contains-first}
 
 two_words : words_of Spaces (codes " the  cat ") ≡ codes "the" ∷ codes "cat" ∷ []
 two_words = refl
@@ -32,7 +30,7 @@ ten_digits = refl
 a_mark : is_mark (codes "#") (codes "#  ") ≡ true
 a_mark = refl
 
-a_header : behind_header (codes "#Unigraph" ∷ codes "SIZE 1188 840" ∷ codes "#" ∷ codes "4" ∷ [])
+a_header : after_header (codes "#Unigraph" ∷ codes "SIZE 1188 840" ∷ codes "#" ∷ codes "4" ∷ [])
     ≡ Some (codes "4" ∷ [])
 a_header = refl
 
@@ -42,7 +40,7 @@ four_boxes = refl
 one_box : count_of (codes "1") ≡ None
 one_box = refl
 
--- the quotation mark behind a backslash is part of the content
+-- the quotation mark after a backslash is part of the content
 a_protected_mark : first_free Mark false (97 ∷ 92 ∷ 34 ∷ 34 ∷ []) ≡ Some 3
 a_protected_mark = refl
 
@@ -54,9 +52,6 @@ a_protected_text = refl
 a_box_line : box_of (34 ∷ codes "the cat" ++ 34 ∷ codes " 170 248 1 1 ")
     ≡ Some (record { content = codes "the cat"; targets = 1 ∷ [] })
 a_box_line = refl
-
-once : distinct (2 ∷ 1 ∷ 2 ∷ []) ≡ 2 ∷ 1 ∷ []
-once = refl
 
 a_mask : begin_of (codes "<N:p>x") ≡ part (Some (Mask (codes "N:p"))) (codes "x")
 a_mask = refl
@@ -88,9 +83,6 @@ no_items = last_line (of_items refl (item_then refl (line_over refl)))
 a_value : ArePieces (codes "[$x$]")
     (Chars (codes "[") ∷ Value (codes "x") ∷ Chars (codes "]") ∷ [])
 a_value = value_then refl (chars_only refl)
-
-names_once : with_names [] (codes "np" ∷ codes "vp" ∷ codes "np" ∷ []) ≡ codes "np" ∷ codes "vp" ∷ []
-names_once = refl
 
 -- from box 0 by box 2 to box 1
 the_end_is_reached : Reached (ways_of ((2 ∷ []) ∷ [] ∷ (1 ∷ []) ∷ [])) 1

@@ -11,7 +11,7 @@ use Rattle.ux_grf.specs.declared.item.Item.TheVariants.{Empty, Call, Begin, End}
 use Rattle.ux_grf.specs.declared.words.Gap.TheVariants.{Blanks}
 use Rattle.ux_grf.specs.Words.{is_gap}
 use Rattle.ux_grf.specs.Items.{PLUS, SLASH}
-use Rattle.ux_grf.specs.Lines.{COLON, without_front, without_back, put_front, without_ending, is_name, is_name_byte, is_no_name_sign, call_of, bound_of, dollar_item, is_marked, marked_item, line_end, own_text, behind_line, or_empty, IsLine, of_items, of_mark, AreLines, last_line, line_with_output, line_then}
+use Rattle.ux_grf.specs.Lines.{COLON, without_front, without_back, put_front, without_ending, is_name, is_name_byte, is_no_name_sign, call_of, bound_of, dollar_item, is_marked, marked_item, line_end, own_text, after_line, or_empty, IsLine, of_items, of_mark, AreLines, last_line, line_with_output, line_then}
 use Rattle.ux_grf.specs.WellFormed.{HasText, IsFilled}
 use Rattle.ux_grf.specs.Size.{size_of_item, size_of_line}
 use Rattle.ux_grf.proofs.NumbersLemmas.{and_left}
@@ -116,13 +116,13 @@ own_some (b ∷ front) is = by (eqb b PLUS || eqb b SLASH) refl
     by false ends = omega arith
 
 -- a line
-pub record IsGoodLine (text : List ℕ) (line : List Item) (behind : List ℕ) : Type 0 where
+pub record IsGoodLine (text : List ℕ) (line : List Item) (after : List ℕ) : Type 0 where
   pub filled : IsFilled line
-  pub small : size_of_line line + 2 * length behind ≤ 2 * length text + 2
+  pub small : size_of_line line + 2 * length after ≤ 2 * length text + 2
 
-good_or_empty : (text behind : List ℕ) (items : List Item) → AreGoodItems text items behind →
-    IsGoodLine text (or_empty items) behind
-good_or_empty text behind [] g = record {
+good_or_empty : (text after : List ℕ) (items : List Item) → AreGoodItems text items after →
+    IsGoodLine text (or_empty items) after
+good_or_empty text after [] g = record {
   filled = record {
     some = omega arith;
     texts = All-cons HasText Empty [] tt (All-nil HasText);
@@ -130,14 +130,14 @@ good_or_empty text behind [] g = record {
   };
   small = omega (arith, g.small);
 }
-good_or_empty text behind (item ∷ items) g = record {
+good_or_empty text after (item ∷ items) g = record {
   filled = record { some = omega arith; texts = g.texts; shared = inr g.beside };
   small = omega (arith, g.small);
 }
 
 good_alone : (text : List ℕ) (item : Item) → is_marked (without_front text) ≡ true →
     HasGoodText (2 * length (own_text (without_front text))) (Some item) →
-    IsGoodLine text (item ∷ []) (behind_line (without_front text))
+    IsGoodLine text (item ∷ []) (after_line (without_front text))
 good_alone text item mark good = record {
   filled = record {
     some = omega arith;
@@ -154,10 +154,10 @@ good_alone text item mark good = record {
   );
 }
 
-pub good_line : {text behind : List ℕ} {line : List Item} → IsLine text line behind →
-    IsGoodLine text line behind
-good_line (of_items {text = text} {behind = behind} {items = items} mark r) =
-    good_or_empty text behind items (good_items r)
+pub good_line : {text after : List ℕ} {line : List Item} → IsLine text line after →
+    IsGoodLine text line after
+good_line (of_items {text = text} {after = after} {items = items} mark r) =
+    good_or_empty text after items (good_items r)
 good_line (of_mark {text = text} {item = item} mark is) =
     good_alone text item mark
     (subst (HasGoodText (2 * length (own_text (without_front text)))) is
@@ -169,9 +169,9 @@ pub record AreGoodLines (text : List ℕ) (lines : List (List Item)) (output : L
   pub filled : All IsFilled lines
   pub small : sum_by size_of_line lines + 2 * length output ≤ 2 * length text + 2
 
-one_line : (text output behind : List ℕ) (line : List Item) → IsGoodLine text line behind →
-    length output ≤ length behind → AreGoodLines text (line ∷ []) output
-one_line text output behind line g le = record {
+one_line : (text output after : List ℕ) (line : List Item) → IsGoodLine text line after →
+    length output ≤ length after → AreGoodLines text (line ∷ []) output
+one_line text output after line g le = record {
   some = omega arith;
   filled = All-cons IsFilled line [] g.filled (All-nil IsFilled);
   small = omega (arith, g.small, sum_by-cons size_of_line line []);

@@ -6,11 +6,14 @@ mod Examples
 pub mod FilledLemmas
 pub mod LinesLemmas
 pub mod MadeLemmas
+pub mod LongestRuns
 pub mod NumbersLemmas
 pub mod OutputLemmas
 pub mod PartsLemmas
 pub mod ReadLemmas
 pub mod SizeLemmas
+pub mod TargetsLemmas
+pub mod TextsLemmas
 pub mod UniqueLemmas
 pub mod WellFormedLemmas
 pub mod WordsLemmas

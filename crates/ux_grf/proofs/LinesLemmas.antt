@@ -1,4 +1,4 @@
--- The reader of lines goes on behind each part and behind each line.
+-- The reader of lines goes on after each part and after each line.
 use Rattle.std.proofs.Common.{arith, ◌≡◌, ℕ, ◌≤◌, List, [], ◌∷◌, ◌++◌, sym, ◌∙◌, ap, subst, cond, Bool, true, false, inl, inr, length, append-nil, append_assoc, Option, None, Some}
 use Rattle.ux_grf.specs.declared.item.Item.{Item}
 use Rattle.ux_grf.specs.declared.line.Fault.{Fault}
@@ -6,7 +6,7 @@ use Rattle.ux_grf.specs.declared.line.Fault.TheVariants.{At, NoRoom}
 use Rattle.ux_grf.specs.declared.words.Gap.TheVariants.{Blanks}
 use Rattle.ux_grf.specs.Words.{is_gap}
 use Rattle.ux_grf.specs.Items.{PLUS, begin_of, no_more, part, with_first, Reads, line_over, item_then}
-use Rattle.ux_grf.specs.Lines.{without_front, is_marked, marked_item, own_text, behind_line, or_empty, IsLine, of_items, of_mark, IsMarkedLine, IsBadLine, in_items, at_mark, AreLines, last_line, line_with_output, line_then, IsBadIn, in_first, in_rest, IsLastBehind}
+use Rattle.ux_grf.specs.Lines.{without_front, is_marked, marked_item, own_text, after_line, or_empty, IsLine, of_items, of_mark, IsMarkedLine, IsBadLine, in_items, at_mark, AreLines, last_line, line_with_output, line_then, IsBadIn, in_first, in_rest, IsLastRest}
 use Rattle.ux_grf.specs.Content.{StopsItems, StopsMark, StopsLine, StopsLines}
 
 -- an item in front of the later ones
@@ -18,7 +18,7 @@ put_first items (Some item) rest = sym (append_assoc items (item ∷ []) rest)
 module _ (text : List ℕ) (items : List Item) (rest : List ℕ)
     (before : (more : List Item) (end : List ℕ) → Reads rest more end →
     Reads text (items ++ more) end) where
-  -- reading goes on behind a part
+  -- reading goes on after a part
   pub reads_more : (item : Option Item) (next : List ℕ) (now : List Item) →
       begin_of rest ≡ part item next → now ≡ items ++ with_first item [] →
       (more : List Item) (end : List ℕ) → Reads next more end → Reads text (now ++ more) end
@@ -48,8 +48,8 @@ module _ (text front : List ℕ) (is : front ≡ without_front text) where
   pub marked_line : (items : List Item) (end : List ℕ) → is_marked front ≡ true →
       IsMarkedLine front items end → IsLine text items end
   marked_line items end mark line =
-      subst (λ (e : List ℕ). IsLine text items e) (sym (line.rest ∙ ap behind_line is))
-      (subst (λ (i : List Item). IsLine text i (behind_line (without_front text))) (sym line.alone)
+      subst (λ (e : List ℕ). IsLine text items e) (sym (line.rest ∙ ap after_line is))
+      (subst (λ (i : List Item). IsLine text i (after_line (without_front text))) (sym line.alone)
       (of_mark (subst (λ f. is_marked f ≡ true) is mark)
       (subst (λ f. marked_item (own_text f) ≡ Some line.item) is line.is)))
 
@@ -75,7 +75,7 @@ module _ (text rest : List ℕ) (lines : List (List Item))
     (before : (later : List (List Item)) (output : List ℕ) → AreLines rest later output →
     AreLines text (lines ++ later) output)
     (line : List Item) (end : List ℕ) (is : IsLine rest line end) where
-  -- reading goes on behind a line
+  -- reading goes on after a line
   pub lines_more : (next : List ℕ) (now : List (List Item)) → end ≡ PLUS ∷ next →
       now ≡ lines ++ line ∷ [] →
       (later : List (List Item)) (output : List ℕ) → AreLines next later output →
@@ -86,7 +86,7 @@ module _ (text rest : List ℕ) (lines : List (List Item))
       (before (line ∷ later) output (line_then (subst (λ e. IsLine rest line e) plus is) ls))
 
   -- the line is the last
-  pub lines_all : (written : List ℕ) (now : List (List Item)) → IsLastBehind end written →
+  pub lines_all : (written : List ℕ) (now : List (List Item)) → IsLastRest end written →
       now ≡ lines ++ line ∷ [] → AreLines text now written
   lines_all written now (inl slash) put =
       subst (λ (l : List (List Item)). AreLines text l written) (sym put)

@@ -5,14 +5,16 @@ use borrow.Author.Count.{below_more}
 use Rattle.std.proofs.lemmas.List.{get_or_append_left, get_or_push}
 use Rattle.std.proofs.lemmas.Bool.{ltb-true, lt-ltb}
 use Rattle.ux_digraph.specs.Paths.{Reaches, here, step}
+use Rattle.ux_digraph.specs.Rules.{is_marked_at}
 use Rattle.ux_grf.specs.declared.error.GrfError.{GrfError}
 use Rattle.ux_grf.specs.declared.error.GrfError.TheVariants.{NoHeader, BadCount, BadBoxLine, BadTarget, BadContent, NoMemory}
 use Rattle.ux_grf.specs.declared.graph.Graph.{Graph}
 use Rattle.ux_grf.specs.declared.graph.GrfBox.{GrfBox}
 use Rattle.ux_grf.specs.BoxLine.{BoxText}
+use Rattle.ux_grf.specs.Boxes.{text_at}
 use Rattle.ux_grf.specs.Reached.{row_of, Reached, start}
 use Rattle.ux_grf.specs.Content.{content_of, is_read, IsBadAt, IsMade, RefusesRead}
-use Rattle.ux_grf.specs.File.{ways_in, text_at, Draws, IsReadBox, RefusesTexts, mark_at, box_in, AreMade, IsBadMarked, RefusesMarked}
+use Rattle.ux_grf.specs.File.{ways_in, Draws, IsReadBox, RefusesTexts, box_in, AreMade, IsBadMarked, RefusesMarked}
 use Rattle.ux_grf.proofs.NumbersLemmas.{and_left, and_right}
 
 module _ (ways : List (List ℕ)) where
@@ -37,22 +39,22 @@ module _ (ways : List (List ℕ)) where
 pub made_more : (texts : List BoxText) (marks : List Bool) (boxes now : List GrfBox) (node : ℕ)
     (b : GrfBox) →
     length boxes ≡ node → AreMade texts marks boxes node →
-    IsMade (text_at texts node) node (mark_at marks node) b → now ≡ boxes ++ b ∷ [] →
+    IsMade (text_at texts node) node (is_marked_at marks node) b → now ≡ boxes ++ b ∷ [] →
     AreMade texts marks now (node + 1)
 made_more texts marks boxes now node b len made is put =
     subst (λ (bs : List GrfBox). AreMade texts marks bs (node + 1)) (sym put)
-    (below_more (λ m. IsMade (text_at texts m) m (mark_at marks m) (box_in (boxes ++ b ∷ []) m))
+    (below_more (λ m. IsMade (text_at texts m) m (is_marked_at marks m) (box_in (boxes ++ b ∷ []) m))
     node
-    (λ m lt. subst (IsMade (text_at texts m) m (mark_at marks m))
+    (λ m lt. subst (IsMade (text_at texts m) m (is_marked_at marks m))
     (sym (get_or_append_left boxes (b ∷ []) _ m (omega (arith, lt, len)))) (made m lt))
-    (subst (IsMade (text_at texts node) node (mark_at marks node))
+    (subst (IsMade (text_at texts node) node (is_marked_at marks node))
     (sym (get_or_push boxes b _ node len)) is))
 
 -- a box that can't be made is the first bad one
 pub bad_marked : (texts : List BoxText) (marks : List Bool) (boxes : List GrfBox) (node : ℕ)
     (text : BoxText) (e : GrfError) →
     node < length texts → text ≡ text_at texts node → AreMade texts marks boxes node →
-    RefusesRead text node (mark_at marks node) e → RefusesMarked texts marks e
+    RefusesRead text node (is_marked_at marks node) e → RefusesMarked texts marks e
 bad_marked texts marks boxes node text NoHeader lt is made h = h
 bad_marked texts marks boxes node text BadCount lt is made h = h
 bad_marked texts marks boxes node text (BadBoxLine n) lt is made h = h
@@ -72,16 +74,16 @@ bad_marked texts marks boxes node text (BadContent n place) lt is made h =
 bad_marked texts marks boxes node text NoMemory lt is made h = tt
 
 module _ (texts : List BoxText) (marks : List Bool)
-    (reached : (node : ℕ) → (mark_at marks node ≡ true) ↔ Reached (ways_in texts) node) where
-  read_is : (node : ℕ) → node < length texts → is_read node (mark_at marks node) ≡ true →
+    (reached : (node : ℕ) → (is_marked_at marks node ≡ true) ↔ Reached (ways_in texts) node) where
+  read_is : (node : ℕ) → node < length texts → is_read node (is_marked_at marks node) ≡ true →
       IsReadBox texts node
   read_is node lt is = record {
     inside = lt;
-    reached = (reached node).0 (and_left (mark_at marks node) (ltb 1 node) is);
-    inner = ltb-true 1 node (and_right (mark_at marks node) (ltb 1 node) is);
+    reached = (reached node).0 (and_left (is_marked_at marks node) (ltb 1 node) is);
+    inner = ltb-true 1 node (and_right (is_marked_at marks node) (ltb 1 node) is);
   }
 
-  is_read_by : (node : ℕ) → IsReadBox texts node → is_read node (mark_at marks node) ≡ true
+  is_read_by : (node : ℕ) → IsReadBox texts node → is_read node (is_marked_at marks node) ≡ true
   is_read_by node box =
       let mark = (reached node).1 box.reached in
       let inner = lt-ltb 1 node box.inner in
@@ -116,12 +118,12 @@ module _ (texts : List BoxText) (marks : List Bool)
 
 -- the search marks the boxes that are reached
 pub marks_reached : (ways rows : List (List ℕ)) (marks : List Bool) → ways ≡ rows →
-    ((node : ℕ) → (mark_at marks node ≡ true) ↔ Reaches ways 0 node) →
+    ((node : ℕ) → (is_marked_at marks node ≡ true) ↔ Reaches ways 0 node) →
     (same : List Bool) → same ≡ marks →
-    (node : ℕ) → (mark_at same node ≡ true) ↔ Reached rows node
+    (node : ℕ) → (is_marked_at same node ≡ true) ↔ Reached rows node
 marks_reached ways rows marks is met same at node =
     let m = met node in
     let r = Reached-Reaches ways node in
-    subst (λ (ms : List Bool). (mark_at ms node ≡ true) ↔ Reached rows node) (sym at)
-    (subst (λ ws. (mark_at marks node ≡ true) ↔ Reached ws node) is
+    subst (λ (ms : List Bool). (is_marked_at ms node ≡ true) ↔ Reached rows node) (sym at)
+    (subst (λ ws. (is_marked_at marks node ≡ true) ↔ Reached ws node) is
     ((λ e. r.1 (m.0 e)), (λ h. m.1 (r.0 h))))

@@ -1,4 +1,4 @@
--- The reader of an output goes on behind each value.
+-- The reader of an output goes on after each value.
 use Rattle.std.proofs.Common.{◌≡◌, ℕ, ◌+◌, false, List, [], ◌∷◌, ◌++◌, sym, ◌∙◌, ap, subst, append_assoc, Some, None, take, drop}
 use Rattle.ux_grf.specs.declared.item.Piece.{Piece}
 use Rattle.ux_grf.specs.declared.item.Piece.TheVariants.{Value}
@@ -6,18 +6,18 @@ use Rattle.ux_grf.specs.Output.{name_len, first_value, chars_in, ArePieces, char
 
 module _ (text left : List ℕ) (pieces : List Piece)
     (before : (later : List Piece) → ArePieces left later → ArePieces text (pieces ++ later)) where
-  pub pieces_more : (k : ℕ) (front inside behind : List ℕ) (now then : List Piece) →
+  pub pieces_more : (k : ℕ) (front inside after : List ℕ) (now then : List Piece) →
       first_value false left ≡ Some k → front ≡ take k left → inside ≡ drop (k + 1) left →
       now ≡ pieces ++ chars_in front →
       then ≡ now ++ Value (take (name_len inside) inside) ∷ [] →
-      behind ≡ drop (name_len inside + 1) inside →
-      (later : List Piece) → ArePieces behind later → ArePieces text (then ++ later)
-  pieces_more k front inside behind now then place is_front is_inside put_chars put_value is_behind later ps =
+      after ≡ drop (name_len inside + 1) inside →
+      (later : List Piece) → ArePieces after later → ArePieces text (then ++ later)
+  pieces_more k front inside after now then place is_front is_inside put_chars put_value is_after later ps =
       subst (λ (p : List Piece). ArePieces text p) joined
       (before (chars_in (take k left) ++ Value (take (name_len (drop (k + 1) left)) (drop (k + 1)
       left)) ∷ later)
       (value_then place (subst (λ (i : List ℕ). ArePieces (drop (name_len i + 1) i) later) is_inside
-      (subst (λ b. ArePieces b later) is_behind ps))))
+      (subst (λ b. ArePieces b later) is_after ps))))
     where
       joined : pieces ++ (chars_in (take k left) ++ Value (take (name_len (drop (k + 1) left))
           (drop (k + 1) left)) ∷ later) ≡ then ++ later

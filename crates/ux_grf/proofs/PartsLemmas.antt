@@ -179,28 +179,28 @@ good_begin [] = tt
 good_begin (b ∷ text) = good_at (sign_of b) b text
 
 -- the items of a line
-pub record AreGoodItems (text : List ℕ) (items : List Item) (behind : List ℕ) : Type 0 where
+pub record AreGoodItems (text : List ℕ) (items : List Item) (after : List ℕ) : Type 0 where
   pub texts : All HasText items
   pub beside : All (λ (item : Item). may_be_beside item ≡ true) items
-  pub small : sum_by size_of_item items + 2 * length behind ≤ 2 * length text
+  pub small : sum_by size_of_item items + 2 * length after ≤ 2 * length text
 
-one_more : (text rest behind : List ℕ) (item : Option Item) (items : List Item) →
-    IsGoodPart text item rest → AreGoodItems rest items behind →
-    AreGoodItems text (with_first item items) behind
-one_more text rest behind None items p g =
+one_more : (text rest after : List ℕ) (item : Option Item) (items : List Item) →
+    IsGoodPart text item rest → AreGoodItems rest items after →
+    AreGoodItems text (with_first item items) after
+one_more text rest after None items p g =
     record { texts = g.texts; beside = g.beside; small = omega (arith, p.small, g.small) }
-one_more text rest behind (Some item) items p g = record {
+one_more text rest after (Some item) items p g = record {
   texts = All-cons HasText item items p.filled.0 g.texts;
   beside = All-cons (λ (x : Item). may_be_beside x ≡ true) item items p.filled.1 g.beside;
   small = omega (arith, p.small, g.small, sum_by-cons size_of_item item items);
 }
 
-pub good_items : {text behind : List ℕ} {items : List Item} → Reads text items behind →
-    AreGoodItems text items behind
+pub good_items : {text after : List ℕ} {items : List Item} → Reads text items after →
+    AreGoodItems text items after
 good_items {text} (line_over is) = record {
   texts = All-nil HasText;
   beside = All-nil (λ (x : Item). may_be_beside x ≡ true);
   small = omega arith;
 }
-good_items {text} {behind} (item_then {rest = rest} {item = item} {items = items} is r) =
-    one_more text rest behind item items (subst (IsGood text) is (good_begin text)) (good_items r)
+good_items {text} {after} (item_then {rest = rest} {item = item} {items = items} is r) =
+    one_more text rest after item items (subst (IsGood text) is (good_begin text)) (good_items r)

@@ -1,11 +1,8 @@
 -- The boxes of a file, line by line, and the graph that is made of them.
-use Rattle.std.proofs.Common.{arith, ◌≡◌, ◌≢◌, ℕ, zero, suc, ◌+◌, ◌<◌, ◌≤◌, List, [], ◌∷◌, ◌++◌, refl, sym, ◌∙◌, ap, subst, ◌⊎◌, inl, inr, Bool, true, false, length, drop, get_or, length-set, map, Option, None, Some, cond, ltb, eqb}
-use Rattle.std.specs.Prelude.{Contains, fold, slice_get}
-use Rattle.std.specs.List.{list_any}
+use Rattle.std.proofs.Common.{arith, ◌≡◌, ◌≢◌, ℕ, zero, suc, ◌+◌, ◌<◌, ◌≤◌, List, [], ◌∷◌, ◌++◌, refl, sym, ◌∙◌, ap, subst, ◌⊎◌, inl, inr, true, length, drop, get_or, length-set, map, Option, None, Some, ltb}
+use Rattle.std.specs.Prelude.{Contains, slice_get}
 use borrow.Author.Count.{below_more}
-use Rattle.std.proofs.lemmas.List.{get_or-map, length-map, map-append, get_or-set_same, get_or-set_other, get_or_past}
-use Rattle.std.proofs.lemmas.List.FromFn.{map-range_with_len_more, length-map-range_with_len, get_or-map-range_with_len}
-use Rattle.std.proofs.lemmas.List.Folds.{list_all-append}
+use Rattle.std.proofs.lemmas.List.{get_or_append_left, get_or_push, length_push, get_or-map, length-map, map-append, get_or-set_same, get_or-set_other, get_or_past}
 use Rattle.std.proofs.lemmas.List.Sums.{AllPass-from_list_all}
 use Rattle.std.proofs.lemmas.List.Elements.{All-contains}
 use Rattle.std.proofs.lemmas.Bool.{ltb-true}
@@ -13,11 +10,12 @@ use Rattle.ux_grf.specs.declared.box_line.BoxLine.{BoxLine}
 use Rattle.ux_grf.specs.declared.error.GrfError.{GrfError}
 use Rattle.ux_grf.specs.declared.error.GrfError.TheVariants.{NoHeader, BadCount, BadBoxLine, BadTarget, BadContent, NoMemory}
 use Rattle.ux_grf.specs.BoxLine.{BoxText, said_by}
-use Rattle.ux_grf.specs.Boxes.{added, box_in_line, box_at, is_inside, is_good, text_of, texts_of, HasBadTarget, RefusesBox, AreGood, RefusesBoxes}
+use Rattle.ux_grf.specs.Boxes.{box_in_line, box_at, is_inside, is_good, text_at, IsTextOf, AreTexts, HasBadTarget, RefusesBox, AreGood, RefusesBoxes}
 use Rattle.ux_grf.specs.Reached.{row_of, ways_of}
 use Rattle.ux_digraph.specs.Paths.{IsInside}
-use Rattle.ux_grf.specs.File.{text_at, IsFirstBad, RefusesTexts, HasBoxLines, Refuses}
-use Rattle.ux_grf.proofs.NumbersLemmas.{and_left, and_right}
+use Rattle.ux_grf.specs.File.{IsNextCount, RefusesTexts, HasTexts, Refuses}
+use Rattle.ux_grf.specs.Header.{after_header}
+use Rattle.ux_base.specs.Lines.{lines_of}
 
 -- the line in front of what is left
 dropped : (lines : List (List ℕ)) (node : ℕ) → slice_get (drop node lines) 0 ≡ slice_get lines node
@@ -78,15 +76,25 @@ good_more count lines node line good is here =
 
 pub texts_more : (lines : List (List ℕ)) (node : ℕ) (line : Option (List ℕ))
     (boxes more : List BoxLine) (said : BoxLine) →
-    map said_by boxes ≡ texts_of node lines → line ≡ slice_get lines node →
-    said_by said ≡ text_of (box_in_line line) →
-    more ≡ boxes ++ said ∷ [] → map said_by more ≡ texts_of (node + 1) lines
+    AreTexts node lines (map said_by boxes) → line ≡ slice_get lines node →
+    IsTextOf (box_in_line line) (said_by said) →
+    more ≡ boxes ++ said ∷ [] → AreTexts (node + 1) lines (map said_by more)
 texts_more lines node line boxes more said before is here pushed =
-    ap (map said_by) pushed
-    ∙ (map-append said_by boxes (said ∷ [])
-    ∙ (ap (λ ts. ts ++ said_by said ∷ []) before
-    ∙ (ap (λ t. texts_of node lines ++ t ∷ []) (here ∙ ap (λ l. text_of (box_in_line l)) is)
-    ∙ sym (map-range_with_len_more (λ n. text_of (box_at lines n)) 0 node node (omega arith)))))
+    subst (AreTexts (node + 1) lines)
+    (sym (ap (map said_by) pushed ∙ map-append said_by boxes (said ∷ []))) (record {
+      len = length_push texts (said_by said) ∙ ap (λ n. n + 1) before.len;
+      each = below_more (λ m. IsTextOf (box_at lines m) (text_at (texts ++ said_by said ∷ []) m))
+          node
+          (λ m lt. subst (IsTextOf (box_at lines m))
+          (sym (get_or_append_left texts (said_by said ∷ []) _ m (omega (arith, lt, before.len))))
+          (before.each m lt))
+          (subst (IsTextOf (box_at lines node))
+          (sym (get_or_push texts (said_by said) _ node before.len))
+          (subst (λ l. IsTextOf (box_in_line l) (said_by said)) is here));
+    })
+  where
+    texts : List BoxText
+    texts = map said_by boxes
 
 -- what the line at a place says
 pub text_is : (boxes : List BoxLine) (node : ℕ) (line : BoxLine) → node < length boxes →
@@ -129,27 +137,6 @@ ways_inside rows two inside = record {
           (λ e. n (omega arith))
     ]
 
--- targets that are kept once are boxes
-inside_more : (count : ℕ) (seen numbers : List ℕ) → is_inside count seen ≡ true →
-    is_inside count numbers ≡ true →
-    is_inside count (fold added seen numbers) ≡ true
-inside_more count seen [] s n = s
-inside_more count seen (t ∷ numbers) s n =
-    inside_more count (added seen t) numbers
-    (one_more (list_any (λ m. eqb m t) seen))
-    (and_right (ltb t count) (is_inside count numbers) n)
-  where
-    one_more : (b : Bool) → is_inside count (cond b seen (seen ++ t ∷ [])) ≡ true
-    one_more true = s
-    one_more false =
-        list_all-append (λ x. ltb x count) seen (t ∷ [])
-        ∙ rw (s, and_left (ltb t count) (is_inside count numbers) n) refl
-
-pub text_inside : (count : ℕ) (box : Option BoxText) → is_good count box ≡ true →
-    is_inside count (text_of box).targets ≡ true
-text_inside count None e = let no : false ≡ true = e in cc
-text_inside count (Some text) e = inside_more count [] text.targets refl e
-
 contained : (count : ℕ) (numbers : List ℕ) (t : ℕ) → is_inside count numbers ≡ true →
     Contains numbers t → t < count
 contained count numbers t e h =
@@ -157,40 +144,37 @@ contained count numbers t e h =
     (All-contains (λ (x : ℕ). ltb x count ≡ true) numbers t (AllPass-from_list_all
     (λ x. ltb x count) numbers e) h)
 
-pub texts_inside : (count : ℕ) (lines : List (List ℕ)) → AreGood count lines count →
-    IsInside (map (λ (t : BoxText). t.targets) (texts_of count lines))
-texts_inside count lines good = record {
+-- the targets of a good line's box are boxes
+pub targets_inside : (count : ℕ) (said : Option BoxText) (text : BoxText) → is_good count said ≡ true →
+    IsTextOf said text → (t : ℕ) → Contains text.targets t → t < count
+targets_inside count None text good tells t has = absurd tells
+targets_inside count (Some said) text good tells t has =
+    contained count said.targets t good ((tells.1.same t).0 has)
+
+pub texts_inside : (count : ℕ) (lines : List (List ℕ)) (texts : List BoxText) →
+    AreTexts count lines texts → AreGood count lines count →
+    IsInside (map (λ (t : BoxText). t.targets) texts)
+texts_inside count lines texts told good = record {
   inside = λ u v h. elim (less_or u count) [
     | inl lt ↦
         subst (λ n. v < n) (sym len)
-        (contained count (text_of (box_at lines u)).targets v (text_inside count
-        (box_at lines u) (good u lt))
+        (targets_inside count (box_at lines u) (text_at texts u) (good u lt) (told.each u lt) v
         (subst (λ (xs : List ℕ). Contains xs v) (row_is u lt) h))
     | inr past ↦
-        let none : row_of (map (λ (t : BoxText). t.targets) (texts_of count lines)) u ≡ [] =
-        get_or_past (map (λ (t : BoxText). t.targets) (texts_of count lines)) u [] (omega
-        (arith, len)) in
+        let none : row_of (map (λ (t : BoxText). t.targets) texts) u ≡ [] =
+        get_or_past (map (λ (t : BoxText). t.targets) texts) u [] (omega (arith, past, len)) in
         let c = subst (λ (xs : List ℕ). Contains xs v) none h in absurd (omega (arith, c.1))
   ];
 }
   where
-    texts_len : length (texts_of count lines) ≡ count
-    texts_len = length-map-range_with_len (λ n. text_of (box_at lines n)) 0 count
+    len : length (map (λ (t : BoxText). t.targets) texts) ≡ count
+    len = length-map texts (λ (t : BoxText). t.targets) ∙ told.len
 
-    len : length (map (λ (t : BoxText). t.targets) (texts_of count lines)) ≡ count
-    len = length-map (texts_of count lines) (λ (t : BoxText). t.targets) ∙ texts_len
-
-    row_is : (u : ℕ) → u < count → row_of (map (λ (t : BoxText). t.targets)
-        (texts_of count lines)) u ≡ (text_of (box_at lines u)).targets
+    row_is : (u : ℕ) → u < count →
+        row_of (map (λ (t : BoxText). t.targets) texts) u ≡ (text_at texts u).targets
     row_is u lt =
-        get_or-map (λ (t : BoxText). t.targets) (texts_of count lines) u (record {
-          content =
-              [];
-          targets = [];
-        }) [] (omega (arith, texts_len))
-        ∙ ap (λ (t : BoxText). t.targets)
-        (get_or-map-range_with_len (λ n. text_of (box_at lines n)) 0 count u u
-        (record { content = []; targets = [] }) lt (omega arith))
+        get_or-map (λ (t : BoxText). t.targets) texts u (record { content = []; targets = [] }) []
+        (omega (arith, lt, told.len))
 
     less_or : (a b : ℕ) → (a < b) ⊎ (b ≤ a)
     less_or zero zero = inr (omega arith)
@@ -203,29 +187,35 @@ texts_inside count lines good = record {
     ]
 
 pub boxes_len : (count : ℕ) (lines : List (List ℕ)) (boxes : List BoxLine) →
-    map said_by boxes ≡ texts_of count lines →
-    length boxes ≡ count
-boxes_len count lines boxes is =
-    sym (length-map boxes said_by)
-    ∙ (ap (λ (ts : List BoxText). length ts) is
-    ∙ length-map-range_with_len (λ n. text_of (box_at lines n)) 0 count)
+    AreTexts count lines (map said_by boxes) → length boxes ≡ count
+boxes_len count lines boxes told = sym (length-map boxes said_by) ∙ told.len
 
 pub boxes_inside : (count : ℕ) (lines : List (List ℕ)) (boxes : List BoxLine) →
-    map said_by boxes ≡ texts_of count lines →
-    AreGood count lines count → IsInside (map (λ (b : BoxLine). b.targets.items) boxes)
-boxes_inside count lines boxes is good =
-    subst (λ rows. IsInside rows) (ap (map (λ (t : BoxText). t.targets)) (sym is)
-    ∙ targets_said boxes) (texts_inside count lines good)
+    AreTexts count lines (map said_by boxes) → AreGood count lines count →
+    IsInside (map (λ (b : BoxLine). b.targets.items) boxes)
+boxes_inside count lines boxes told good =
+    subst (λ rows. IsInside rows) (targets_said boxes)
+    (texts_inside count lines (map said_by boxes) told good)
+
+-- the boxes that were read are those that the file tells of
+pub has_texts : (text : List ℕ) (count : ℕ) (before lines : List (List ℕ))
+    (boxes read : List BoxLine) → after_header (lines_of text) ≡ Some before →
+    IsNextCount before lines count → AreGood count lines count →
+    AreTexts count lines (map said_by read) → boxes ≡ read → HasTexts text (map said_by boxes)
+has_texts text count before lines boxes read header next good told is = record {
+  count = count;
+  lines = lines;
+  has = record { first = next.0; header = header ∙ ap Some next.1; told = next.2 };
+  good = good;
+  told = subst (λ (bs : List BoxLine). AreTexts count lines (map said_by bs)) (sym is) told;
+}
 
 -- a graph that isn't made refuses the file
-pub texts_refuse : (text : List ℕ) (count : ℕ) (lines : List (List ℕ)) (texts : List BoxText)
-    (e : GrfError) →
-    HasBoxLines text count lines → AreGood count lines count → texts ≡ texts_of count lines →
+pub texts_refuse : (text : List ℕ) (texts : List BoxText) (e : GrfError) → HasTexts text texts →
     RefusesTexts texts e → Refuses text e
-texts_refuse text count lines texts NoHeader has good is h = absurd h
-texts_refuse text count lines texts BadCount has good is h = absurd h
-texts_refuse text count lines texts (BadBoxLine n) has good is h = absurd h
-texts_refuse text count lines texts (BadTarget n) has good is h = absurd h
-texts_refuse text count lines texts (BadContent node place) has good is h =
-    (count, lines, has, good, subst (λ ts. IsFirstBad ts node place) is h)
-texts_refuse text count lines texts NoMemory has good is h = tt
+texts_refuse text texts NoHeader has h = absurd h
+texts_refuse text texts BadCount has h = absurd h
+texts_refuse text texts (BadBoxLine n) has h = absurd h
+texts_refuse text texts (BadTarget n) has h = absurd h
+texts_refuse text texts (BadContent node place) has h = (texts, has, h)
+texts_refuse text texts NoMemory has h = tt

@@ -1,7 +1,6 @@
 -- A graph that is read is at most four times as large as its file.
 use Rattle.std.proofs.Common.{arith, ◌≡◌, ℕ, zero, suc, ◌+◌, ◌*◌, ◌-◌, ◌<◌, ◌≤◌, List, [], ◌∷◌, ◌++◌, refl, ap, subst, cond, Bool, true, false, length, take, drop, get_or, length-take, length-drop, length-append, Option, None, Some, eqb}
 use Rattle.std.specs.Prelude.{sum_by, option_map, codes}
-use Rattle.std.proofs.lemmas.List.FromFn.{length-map-range_with_len, get_or-map-range_with_len}
 use Rattle.std.proofs.lemmas.List.Sums.{sum_by-cons}
 use Rattle.ux_base.specs.Lines.{LINE_FEED, ends_in_return, without_return, last_line, lines_behind, lines_of}
 use Rattle.ux_grf.specs.declared.graph.Graph.{Graph}
@@ -11,10 +10,10 @@ use Rattle.ux_grf.specs.declared.protection.Layer.TheVariants.{File}
 use Rattle.ux_grf.specs.declared.protection.Stop.TheVariants.{Mark}
 use Rattle.ux_grf.specs.declared.words.Gap.TheVariants.{Spaces}
 use Rattle.ux_grf.specs.Words.{SPACE, words_of}
-use Rattle.ux_grf.specs.Header.{is_mark, behind_mark, behind_header}
+use Rattle.ux_grf.specs.Header.{is_mark, after_mark, after_header}
 use Rattle.ux_grf.specs.Protection.{QUOTE, first_free}
 use Rattle.ux_grf.specs.BoxLine.{BoxText, START_MARK, targets_in, box_in, cut_at, content_and_fields, without_mark, quoted, box_of}
-use Rattle.ux_grf.specs.Boxes.{box_at, is_good, text_of, texts_of}
+use Rattle.ux_grf.specs.Boxes.{box_at, text_at, IsTextOf}
 use Rattle.ux_grf.specs.Content.{is_read, IsBoxOf}
 use Rattle.ux_grf.specs.File.{IsGraphOf}
 use Rattle.ux_grf.specs.WellFormed.{box_of_graph}
@@ -64,10 +63,10 @@ abbrev IsTotal : ℕ → Option (List (List ℕ)) → Type 0
 IsTotal n None = Unit {0}
 IsTotal n (Some lines) = total lines ≤ n
 
-behind_mark-total : (lines : List (List ℕ)) → IsTotal (total lines) (behind_mark lines)
-behind_mark-total [] = tt
-behind_mark-total (line ∷ lines) =
-    by (is_mark (codes "#") line) (behind_mark lines) (behind_mark-total lines)
+after_mark-total : (lines : List (List ℕ)) → IsTotal (total lines) (after_mark lines)
+after_mark-total [] = tt
+after_mark-total (line ∷ lines) =
+    by (is_mark (codes "#") line) (after_mark lines) (after_mark-total lines)
   where
     by : (t : Bool) (later : Option (List (List ℕ))) → IsTotal (total lines) later →
         IsTotal (total (line ∷ lines)) (cond t (Some lines) later)
@@ -75,10 +74,10 @@ behind_mark-total (line ∷ lines) =
     by false None le = tt
     by false (Some ls) le = omega (arith, total-cons line lines)
 
-behind_header-total : (lines : List (List ℕ)) → IsTotal (total lines) (behind_header lines)
-behind_header-total [] = tt
-behind_header-total (line ∷ lines) =
-    by (is_mark (codes "#Unigraph") line) (behind_mark lines) (behind_mark-total lines)
+after_header-total : (lines : List (List ℕ)) → IsTotal (total lines) (after_header lines)
+after_header-total [] = tt
+after_header-total (line ∷ lines) =
+    by (is_mark (codes "#Unigraph") line) (after_mark lines) (after_mark-total lines)
   where
     by : (t : Bool) (later : Option (List (List ℕ))) → IsTotal (total lines) later →
         IsTotal (total (line ∷ lines)) (cond t later None)
@@ -151,22 +150,22 @@ box_small said node n b lt is = by (is_read node b.reached) refl
         (is.bare e).0 in
         omega arith
 
-good_small : (count node : ℕ) (line : List ℕ) (said : Option BoxText) (b : GrfBox) →
-    is_good count said ≡ true → IsWithin (length line) said → IsBoxOf (text_of said) node b →
+good_small : (count node : ℕ) (line : List ℕ) (said : Option BoxText) (text : BoxText)
+    (b : GrfBox) → IsWithin (length line) said → IsTextOf said text → IsBoxOf text node b →
     1 + size_of_box b ≤ 4 * length line
-good_small count node line None b good lt is = let no : false ≡ true = good in cc
-good_small count node line (Some text) b good lt is =
-    box_small (text_of (Some text)) node (length line) b lt is
+good_small count node line None text b lt tells is = absurd tells
+good_small count node line (Some said) text b lt tells is =
+    box_small text node (length line) b (omega (arith, lt, ap (λ (l : List ℕ). length l) tells.0)) is
 
 -- the line of a box, which is empty where it is missing
-line_small : (count node place : ℕ) (lines : List (List ℕ)) (b : GrfBox) →
-    is_good count (box_at lines place) ≡ true → IsBoxOf (text_of (box_at lines place)) node b →
+line_small : (count node place : ℕ) (lines : List (List ℕ)) (text : BoxText) (b : GrfBox) →
+    IsTextOf (box_at lines place) text → IsBoxOf text node b →
     1 + size_of_box b ≤ 4 * length (get_or lines place [])
-line_small count node place [] b good is = let no : false ≡ true = good in cc
-line_small count node zero (line ∷ lines) b good is =
-    good_small count node line (box_of line) b good (box_of-within line) is
-line_small count node (suc place) (line ∷ lines) b good is =
-    line_small count node place lines b good is
+line_small count node place [] text b tells is = absurd tells
+line_small count node zero (line ∷ lines) text b tells is =
+    good_small count node line (box_of line) text b (box_of-within line) tells is
+line_small count node (suc place) (line ∷ lines) text b tells is =
+    line_small count node place lines text b tells is
 
 -- boxes that are each no more than four times their line
 boxes_small : (boxes : List GrfBox) (lines : List (List ℕ)) →
@@ -185,23 +184,17 @@ boxes_small (b ∷ boxes) (line ∷ lines) each = omega (
 
 pub graph_small : (text : List ℕ) (graph : Graph) → IsGraphOf text graph →
     size_of graph ≤ 4 * length text
-graph_small text graph (count, lines, has, good, d) = omega (
+graph_small text graph (texts, has, d) = omega (
   arith,
-  boxes_small graph.boxes lines each,
-  subst (IsTotal (total (lines_of text))) has.header (behind_header-total (lines_of text)),
-  total-cons has.first lines,
+  boxes_small graph.boxes has.lines each,
+  subst (IsTotal (total (lines_of text))) has.has.header (after_header-total (lines_of text)),
+  total-cons has.has.first has.lines,
   lines_behind-total text [],
 )
   where
-    texts_len : length (texts_of count lines) ≡ count
-    texts_len = length-map-range_with_len (λ n. text_of (box_at lines n)) 0 count
-
     each : (node : ℕ) → node < length graph.boxes →
-        1 + size_of_box (box_of_graph graph node) ≤ 4 * length (get_or lines node [])
+        1 + size_of_box (box_of_graph graph node) ≤ 4 * length (get_or has.lines node [])
     each node lt =
-        let inside : node < count = omega (arith, lt, d.len, texts_len) in
-        line_small count node node lines (box_of_graph graph node) (good node inside)
-        (subst (λ (t : BoxText). IsBoxOf t node (box_of_graph graph node))
-        (get_or-map-range_with_len (λ n. text_of (box_at lines n)) 0 count node node
-        (record { content = []; targets = [] }) inside (omega arith))
-        (d.boxes node (omega (arith, lt, d.len))))
+        let inside : node < length texts = omega (arith, lt, d.len) in
+        line_small has.count node node has.lines (text_at texts node) (box_of_graph graph node)
+        (has.told.each node (omega (arith, inside, has.told.len))) (d.boxes node inside)

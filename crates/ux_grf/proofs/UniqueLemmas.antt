@@ -83,7 +83,7 @@ IsBadLine-once (in_items mark f) (at_mark also none) = absurd (false≢true (sym
 IsBadLine-once (at_mark mark none) (in_items also g) = absurd (false≢true (sym also ∙ mark))
 IsBadLine-once (at_mark mark none) (at_mark also no_item) = refl
 
--- what can stand behind a line
+-- what can stand after a line
 no_plus : (rest : List ℕ) → let none : List ℕ = [] in none ≡ PLUS ∷ rest → ⊥
 no_plus rest e = cc
 
@@ -150,8 +150,8 @@ IsBadIn-once {text} {left} {other} (in_rest {rest = rest} is bad) (in_rest {rest
     IsBadIn-once bad (subst (λ (t : List ℕ). IsBadIn t other) (sym rests) worse)
 
 -- an output
-abbrev behind_at : List ℕ → ℕ → List ℕ
-behind_at text k = drop (name_len (drop (k + 1) text) + 1) (drop (k + 1) text)
+abbrev after_at : List ℕ → ℕ → List ℕ
+after_at text k = drop (name_len (drop (k + 1) text) + 1) (drop (k + 1) text)
 
 abbrev pieces_at : List ℕ → ℕ → List Piece → List Piece
 pieces_at text k later = chars_in (take k text)
@@ -168,7 +168,7 @@ ArePieces-once {text} (value_then {k = k} {pieces = xs} is ps) (value_then {k = 
     also qs) =
     let places : Some k ≡ Some j = sym is ∙ also in
     let here : k ≡ j = cc in
-    let later = ArePieces-once ps (subst (λ i. ArePieces (behind_at text i) ys) (sym here) qs) in
+    let later = ArePieces-once ps (subst (λ i. ArePieces (after_at text i) ys) (sym here) qs) in
     ap (λ (p : List Piece). pieces_at text k p) later ∙ ap (λ i. pieces_at text i ys) here
 
 pub IsOutput-once : {text : List ℕ} {xs ys : List Piece} → IsOutput text xs → IsOutput text ys →

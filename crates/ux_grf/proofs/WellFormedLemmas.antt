@@ -1,14 +1,9 @@
 -- Every graph that is read is well formed.
-use Rattle.std.proofs.Common.{arith, ◌≡◌, ◌≢◌, ℕ, ◌<◌, ◌≤◌, List, [], ◌∷◌, ◌++◌, refl, sym, ◌∙◌, ap, subst, Bool, true, false, ◌&&◌, ◌↔◌, length, get_or, map, Option, None, Some, cond, ltb, eqb, leb, eq-eqb}
-use Rattle.std.specs.Prelude.{All, AllPairs, fold}
-use Rattle.std.specs.List.{list_any}
+use Rattle.std.proofs.Common.{arith, ◌≡◌, ◌≢◌, ℕ, ◌<◌, ◌≤◌, List, [], ◌∷◌, refl, sym, ◌∙◌, ap, subst, Bool, true, false, ◌&&◌, ◌↔◌, length, get_or, map, Option, None, Some, cond, eqb, leb}
+use Rattle.std.specs.Prelude.{All, AllPairs}
 use Rattle.std.proofs.lemmas.List.{length-map, get_or-map, ext_get_or}
-use Rattle.std.proofs.lemmas.List.FromFn.{length-map-range_with_len, get_or-map-range_with_len}
-use Rattle.std.proofs.lemmas.List.Folds.{list_any_at}
-use Rattle.std.proofs.lemmas.List.Sums.{AllPass-from_list_all}
-use Rattle.std.proofs.lemmas.List.Elements.{All-nil}
-use Rattle.std.proofs.lemmas.List.Quantifiers.{all_pairs_push}
-use Rattle.std.proofs.lemmas.Bool.{ltb-true, leb-true}
+use Rattle.std.proofs.lemmas.List.Elements.{All-nil, Contains-get_or}
+use Rattle.std.proofs.lemmas.Bool.{leb-true}
 use Rattle.ux_grf.specs.declared.graph.Graph.{Graph}
 use Rattle.ux_grf.specs.declared.graph.GrfBox.{GrfBox}
 use Rattle.ux_grf.specs.declared.words.Gap.TheVariants.{Spaces}
@@ -16,42 +11,30 @@ use Rattle.ux_grf.specs.Words.{words_of}
 use Rattle.ux_grf.specs.Numbers.{is_decimal, value_of}
 use Rattle.ux_grf.specs.Header.{count_in}
 use Rattle.ux_grf.specs.BoxLine.{BoxText}
-use Rattle.ux_grf.specs.Boxes.{added, box_at, is_good, text_of, texts_of}
+use Rattle.ux_grf.specs.Boxes.{box_at, is_good, text_at, IsTextOf}
 use Rattle.ux_grf.specs.Reached.{ways_of, Reached}
 use Rattle.ux_grf.specs.Content.{is_read, IsBoxOf}
 use Rattle.ux_grf.specs.File.{Draws, IsGraphOf}
 use Rattle.ux_grf.specs.WellFormed.{box_of_graph, ways_of_graph, IsFilled, IsWellFormedBox, IsWellFormed}
 use Rattle.ux_grf.proofs.NumbersLemmas.{and_left, and_right}
-use Rattle.ux_grf.proofs.ReadLemmas.{text_inside}
+use Rattle.ux_grf.proofs.ReadLemmas.{targets_inside}
 use Rattle.ux_grf.proofs.FilledLemmas.{good_lines}
 
--- no number is kept twice
-once_more : (seen numbers : List ℕ) → AllPairs (λ s t. s ≢ t) seen →
-    AllPairs (λ s t. s ≢ t) (fold added seen numbers)
-once_more seen [] h = h
-once_more seen (t ∷ numbers) h = once_more (added seen t) numbers (one (list_any
-    (λ m. eqb m t) seen) refl)
-  where
-    one : (b : Bool) → list_any (λ m. eqb m t) seen ≡ b →
-        AllPairs (λ s t. s ≢ t) (cond b seen (seen ++ t ∷ []))
-    one true e = h
-    one false e = all_pairs_push (λ s t. s ≢ t) seen t h (λ k d lt same.
-        let met = list_any_at (λ m. eqb m t) seen k d lt (eq-eqb (get_or seen k d) t same) in
-        let no : true ≡ false = sym met ∙ e in cc)
-
-once : (box : Option BoxText) → AllPairs (λ s t. s ≢ t) (text_of box).targets
-once None = λ i j d lt inside. absurd (omega (arith, inside))
-once (Some text) = once_more [] text.targets (λ i j d lt inside. absurd (omega (arith, inside)))
+-- no target is told twice
+once : (said : Option BoxText) (text : BoxText) → IsTextOf said text →
+    AllPairs (λ s t. s ≢ t) text.targets
+once None text tells = absurd tells
+once (Some said) text tells = tells.1.once
 
 -- a box of good targets, with what its content writes
-box_well_formed : (count node : ℕ) (box : Option BoxText) (b : GrfBox) →
-    is_good count box ≡ true → IsBoxOf (text_of box) node b → IsWellFormedBox count node b
-box_well_formed count node box b good is = record {
+box_well_formed : (count node : ℕ) (said : Option BoxText) (text : BoxText) (b : GrfBox) →
+    is_good count said ≡ true → IsTextOf said text → IsBoxOf text node b →
+    IsWellFormedBox count node b
+box_well_formed count node said text b good tells is = record {
   inside = subst (All (λ t. t < count)) (sym is.targets)
-      (λ k d lt. ltb-true (get_or (text_of box).targets k d) count
-      (AllPass-from_list_all (λ t. ltb t count) (text_of box).targets
-      (text_inside count box good) k d lt));
-  once = subst (AllPairs (λ s t. s ≢ t)) (sym is.targets) (once box);
+      (λ k d lt. targets_inside count said text good tells (get_or text.targets k d)
+      (Contains-get_or text.targets k d lt));
+  once = subst (AllPairs (λ s t. s ≢ t)) (sym is.targets) (once said text tells);
   bare = is.bare;
   lined = λ e. (good_lines (is.read e).lines).some;
   filled = filled (is_read node b.reached) refl;
@@ -110,31 +93,25 @@ module _ (texts : List BoxText) (graph : Graph) (d : Draws texts graph) where
       (sym (ap ways_of targets_are)) (d.reached node lt)
 
 pub graph_well_formed : (text : List ℕ) (graph : Graph) → IsGraphOf text graph → IsWellFormed graph
-graph_well_formed text graph (count, lines, has, good, d) = record {
+graph_well_formed text graph (texts, has, d) = record {
   two = omega (arith, len, range.0);
   most = omega (arith, len, range.1);
   boxes = λ node lt. subst (λ n. IsWellFormedBox n node (box_of_graph graph node)) (sym len)
       (made node (omega (arith, lt, len)));
-  reached = λ node lt. reached_is (texts_of count lines) graph d node (omega
-      (arith, lt, len, texts_len));
+  reached = λ node lt. reached_is texts graph d node (omega (arith, lt, len, has.told.len));
 }
   where
-    texts_len : length (texts_of count lines) ≡ count
-    texts_len = length-map-range_with_len (λ n. text_of (box_at lines n)) 0 count
+    len : length graph.boxes ≡ has.count
+    len = d.len ∙ has.told.len
 
-    len : length graph.boxes ≡ count
-    len = d.len ∙ texts_len
+    range : (2 ≤ has.count) × (has.count ≤ 65535)
+    range = count_range (words_of Spaces has.has.first) has.count
+        (none_where (eqb (get_or has.has.first 0 0) 32) (count_in
+        (words_of Spaces has.has.first)) has.count has.has.told)
 
-    range : (2 ≤ count) × (count ≤ 65535)
-    range = count_range (words_of Spaces has.first) count
-        (none_where (eqb (get_or has.first 0 0) 32) (count_in
-        (words_of Spaces has.first)) count has.told)
-
-    made : (node : ℕ) → node < count →
-        IsWellFormedBox count node (box_of_graph graph node)
+    made : (node : ℕ) → node < has.count →
+        IsWellFormedBox has.count node (box_of_graph graph node)
     made node lt =
-        box_well_formed count node (box_at lines node) (box_of_graph graph node) (good node lt)
-        (subst (λ (t : BoxText). IsBoxOf t node (box_of_graph graph node))
-        (get_or-map-range_with_len (λ n. text_of (box_at lines n)) 0 count node node
-        (record { content = []; targets = [] }) lt (omega arith))
-        (d.boxes node (omega (arith, lt, texts_len))))
+        box_well_formed has.count node (box_at has.lines node) (text_at texts node)
+        (box_of_graph graph node) (has.good node lt) (has.told.each node lt)
+        (d.boxes node (omega (arith, lt, has.told.len)))

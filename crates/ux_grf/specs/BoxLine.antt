@@ -33,17 +33,17 @@ word_at words k = slice_index_or words k []
 abbrev pub numbers_in : List (List ℕ) → Option (List ℕ)
 numbers_in words = if list_all is_number words then Some (map value_of words) else None
 
--- the words begin with two coordinates and the number of the words behind that number
+-- the words begin with two coordinates and the number of the words after that number
 abbrev pub are_fields : List (List ℕ) → Bool
 are_fields words =
     is_coordinate (word_at words 0) && (is_coordinate (word_at words 1)
     && (is_number (word_at words 2) && value_of (word_at words 2) == length (drop 3 words)))
 
--- the targets that the words behind the content name
+-- the targets that the words after the content name
 abbrev pub targets_in : List (List ℕ) → Option (List ℕ)
 targets_in words = if are_fields words then numbers_in (drop 3 words) else None
 
--- a content, and the fields behind it, which begin with a space
+-- a content, and the fields after it, which begin with a space
 abbrev pub box_in : (content fields : List ℕ) → Option BoxText
 box_in content fields =
     if slice_index fields 0 == SPACE
@@ -56,7 +56,7 @@ abbrev pub cut_at : List ℕ → Option ℕ → Option BoxText
 cut_at text None = None
 cut_at text (Some end) = box_in (take end text) (drop (end + 1) text)
 
--- what stands behind the first quotation mark
+-- what stands after the first quotation mark
 abbrev pub content_and_fields : List ℕ → Option BoxText
 content_and_fields text = cut_at text (first_free Mark false text)
 
@@ -64,7 +64,7 @@ content_and_fields text = cut_at text (first_free Mark false text)
 abbrev pub without_mark : List ℕ → List ℕ
 without_mark line = if slice_index line 0 == START_MARK then drop 1 line else line
 
--- the text begins with a quotation mark, and a content and fields stand behind it
+-- the text begins with a quotation mark, and a content and fields stand after it
 abbrev pub quoted : List ℕ → Option BoxText
 quoted text =
     if slice_index text 0 == QUOTE then content_and_fields (drop 1 text) else None

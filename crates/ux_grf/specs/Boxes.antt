@@ -1,17 +1,10 @@
 -- The box lines of a graph, and the targets of its boxes. Public, through `File` and `Content`.
-use Rattle.std.specs.Prelude.{◌≡◌, ℕ, ◌==◌, ◌<◌, Bool, true, false, nat_lt, List, [], ◌∷◌, ◌++◌, Option, None, Some, if◌then◌else◌, fold, map, slice_get, length, slice_index, ◌≤◌}
-use Rattle.std.specs.List.{list_any, list_all, range_with_len}
+use Rattle.std.specs.Prelude.{◌≡◌, ℕ, ◌<◌, Bool, true, false, nat_lt, List, [], Option, None, Some, slice_get, length, slice_index, get_or, ◌≤◌, Contains}
+use Rattle.std.specs.List.{list_all}
+use Rattle.ux_base.specs.Distinct.{AreFirsts}
 use Rattle.ux_grf.specs.declared.error.GrfError.{GrfError}
 use Rattle.ux_grf.specs.declared.error.GrfError.TheVariants.{NoHeader, BadCount, BadBoxLine, BadTarget, BadContent, NoMemory}
 use Rattle.ux_grf.specs.BoxLine.{BoxText, box_of}
-
--- the numbers, and this one behind them if it isn't among them
-abbrev pub added : List ℕ → ℕ → List ℕ
-added seen n = if list_any (λ m. m == n) seen then seen else seen ++ n ∷ []
-
--- each number once, at its first place
-abbrev pub distinct : List ℕ → List ℕ
-distinct numbers = fold added [] numbers
 
 -- what a line says, where there is one
 abbrev pub box_in_line : Option (List ℕ) → Option BoxText
@@ -30,10 +23,10 @@ abbrev pub is_good : ℕ → Option BoxText → Bool
 is_good count None = false
 is_good count (Some text) = is_inside count text.targets
 
--- the content, and each target once
-abbrev pub text_of : Option BoxText → BoxText
-text_of None = record { content = []; targets = [] }
-text_of (Some text) = record { content = text.content; targets = distinct text.targets }
+-- what a box line tells of its box: the content, and each target once
+abbrev pub IsTextOf : Option BoxText → BoxText → Type 0
+IsTextOf None text = ⊥
+IsTextOf (Some said) text = (text.content ≡ said.content) × AreFirsts said.targets text.targets
 
 -- there is a box line, and one of its targets is no box
 abbrev pub HasBadTarget : ℕ → Option BoxText → Type 0
@@ -64,15 +57,20 @@ RefusesBoxes count lines (BadTarget n) =
 RefusesBoxes count lines (BadContent n place) = ⊥
 RefusesBoxes count lines NoMemory = Unit {0}
 
--- what the lines of this many boxes say
-abbrev pub texts_of : ℕ → List (List ℕ) → List BoxText
-texts_of count lines = map (λ node. text_of (box_at lines node)) (range_with_len 0 count)
+-- the text of a box, which says nothing where there is none
+abbrev pub text_at : List BoxText → ℕ → BoxText
+text_at texts node = get_or texts node (record { content = []; targets = [] })
+
+-- what the lines tell of so many boxes
+pub record AreTexts (count : ℕ) (lines : List (List ℕ)) (texts : List BoxText) : Type 0 where
+  pub len : length texts ≡ count
+  pub each : (node : ℕ) → node < count → IsTextOf (box_at lines node) (text_at texts node)
 
 -- for each target met so far, and for no other box, the stamp stands at its place
 pub record Stamped (count stamp : ℕ) (stamps kept : List ℕ) : Type 0 where
   pub len : length stamps ≡ count
   pub stamped : (u : ℕ) → u < count → slice_index stamps u ≡ stamp →
-      list_any (λ m. m == u) kept ≡ true
+      Contains kept u
   pub fresh : (u : ℕ) → u < count → (slice_index stamps u ≡ stamp → ⊥) →
-      list_any (λ m. m == u) kept ≡ false
+      Contains kept u → ⊥
   pub below : (u : ℕ) → slice_index stamps u ≤ stamp

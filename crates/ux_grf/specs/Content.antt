@@ -16,7 +16,7 @@ use Rattle.ux_grf.specs.Items.{Fails}
 use Rattle.ux_grf.specs.Lines.{marked_item, own_text, IsBadLine, AreLines, IsBadIn}
 use Rattle.ux_grf.specs.Output.{IsOutput}
 
--- the content writes these lines, and behind its first free `/` this output
+-- the content writes these lines, and after its first free `/` this output
 pub record IsContent (content : List ℕ) (read : Content) : Type 0 where
   pub written : List ℕ
   pub lines : AreLines content read.lines written
@@ -35,7 +35,7 @@ pub record HasOpenOutput (content left : List ℕ) : Type 0 where
 abbrev pub IsFault : (content left : List ℕ) → Type 0
 IsFault content left = IsBadIn content left ⊎ HasOpenOutput content left
 
--- a content has its first fault here: behind so many characters
+-- a content has its first fault here: after so many characters
 pub record IsBadAt (content : List ℕ) (place : ℕ) : Type 0 where
   pub front : List ℕ
   pub left : List ℕ

@@ -2,14 +2,15 @@
 -- of it.
 use Rattle.std.specs.Prelude.{◌≡◌, ℕ, ◌<◌, ◌↔◌, Bool, true, false, List, [], ◌∷◌, Option, None, Some, length, map, get_or}
 use Rattle.ux_base.specs.Lines.{lines_of}
+use Rattle.ux_digraph.specs.Rules.{is_marked_at}
 use Rattle.ux_grf.specs.declared.content.Content.{Content}
 use Rattle.ux_grf.specs.declared.error.GrfError.{GrfError}
 use Rattle.ux_grf.specs.declared.error.GrfError.TheVariants.{NoHeader, BadCount, BadBoxLine, BadTarget, BadContent, NoMemory}
 use Rattle.ux_grf.specs.declared.graph.Graph.{Graph}
 use Rattle.ux_grf.specs.declared.graph.GrfBox.{GrfBox}
-use Rattle.ux_grf.specs.Header.{behind_header, count_of}
+use Rattle.ux_grf.specs.Header.{after_header, count_of}
 use Rattle.ux_grf.specs.BoxLine.{BoxText}
-use Rattle.ux_grf.specs.Boxes.{texts_of, AreGood, RefusesBoxes}
+use Rattle.ux_grf.specs.Boxes.{text_at, AreTexts, AreGood, RefusesBoxes}
 use Rattle.ux_grf.specs.Reached.{ways_of, Reached}
 use Rattle.ux_grf.specs.Content.{content_of, is_read, IsContent, IsBadAt, IsBoxOf, IsMade}
 use Rattle.ux_grf.specs.WellFormed.{box_of_graph}
@@ -17,9 +18,6 @@ use Rattle.ux_grf.specs.WellFormed.{box_of_graph}
 -- the ways from box to box
 abbrev pub ways_in : List BoxText → List (List ℕ)
 ways_in texts = ways_of (map (λ (t : BoxText). t.targets) texts)
-
-abbrev pub text_at : List BoxText → ℕ → BoxText
-text_at texts node = get_or texts node (record { content = []; targets = [] })
 
 -- the graph has these boxes
 pub record Draws (texts : List BoxText) (graph : Graph) : Type 0 where
@@ -51,9 +49,6 @@ RefusesTexts texts (BadTarget node) = ⊥
 RefusesTexts texts (BadContent node place) = IsFirstBad texts node place
 RefusesTexts texts NoMemory = Unit {0}
 
-abbrev pub mark_at : List Bool → ℕ → Bool
-mark_at marks node = get_or marks node false
-
 abbrev pub box_in : List GrfBox → ℕ → GrfBox
 box_in boxes node =
     get_or boxes node (record { reached = false; lines = []; output = []; targets = [] })
@@ -62,14 +57,14 @@ box_in boxes node =
 abbrev pub AreMade : List BoxText → List Bool → List GrfBox → ℕ → Type 0
 AreMade texts marks boxes count =
     (node : ℕ) → node < count →
-    IsMade (text_at texts node) node (mark_at marks node) (box_in boxes node)
+    IsMade (text_at texts node) node (is_marked_at marks node) (box_in boxes node)
 
 -- the first bad content, of the boxes that are marked
 pub record IsBadMarked (texts : List BoxText) (marks : List Bool) (node place : ℕ) : Type 0 where
   pub inside : node < length texts
-  pub read : is_read node (mark_at marks node) ≡ true
+  pub read : is_read node (is_marked_at marks node) ≡ true
   pub bad : IsBadAt (content_of (text_at texts node)) place
-  pub first : (m : ℕ) → m < node → is_read m (mark_at marks m) ≡ true →
+  pub first : (m : ℕ) → m < node → is_read m (is_marked_at marks m) ≡ true →
       (read : Content) × IsContent (content_of (text_at texts m)) read
 
 -- why no boxes are made of texts and marks
@@ -86,28 +81,34 @@ abbrev pub count_at : List (List ℕ) → Option ℕ
 count_at [] = None
 count_at (line ∷ lines) = count_of line
 
--- the first of the lines tells the number, and these stand behind it
+-- the first of the lines tells the number, and these stand after it
 abbrev pub IsNextCount : (lines rest : List (List ℕ)) → ℕ → Type 0
 IsNextCount lines rest count =
     (line : List ℕ) × (lines ≡ line ∷ rest) × (count_of line ≡ Some count)
 
--- the file has so many boxes, and these lines behind their number
+-- the file has so many boxes, and these lines after their number
 pub record HasBoxLines (text : List ℕ) (boxes : ℕ) (lines : List (List ℕ)) : Type 0 where
   pub first : List ℕ
-  pub header : behind_header (lines_of text) ≡ Some (first ∷ lines)
+  pub header : after_header (lines_of text) ≡ Some (first ∷ lines)
   pub told : count_of first ≡ Some boxes
+
+-- the box lines of the file are good, and tell these texts
+pub record HasTexts (text : List ℕ) (texts : List BoxText) : Type 0 where
+  pub count : ℕ
+  pub lines : List (List ℕ)
+  pub has : HasBoxLines text count lines
+  pub good : AreGood count lines count
+  pub told : AreTexts count lines texts
 
 -- the text of a graph file draws the graph
 abbrev pub IsGraphOf : List ℕ → Graph → Type 0
-IsGraphOf text graph =
-    (count : ℕ) × (lines : List (List ℕ)) × HasBoxLines text count lines × AreGood count lines count
-    × Draws (texts_of count lines) graph
+IsGraphOf text graph = (texts : List BoxText) × HasTexts text texts × Draws texts graph
 
 -- why the text of a graph file is refused
 abbrev pub Refuses : List ℕ → GrfError → Type 0
-Refuses text NoHeader = behind_header (lines_of text) ≡ None
+Refuses text NoHeader = after_header (lines_of text) ≡ None
 Refuses text BadCount =
-    (lines : List (List ℕ)) × (behind_header (lines_of text) ≡ Some lines) × (count_at lines ≡ None)
+    (lines : List (List ℕ)) × (after_header (lines_of text) ≡ Some lines) × (count_at lines ≡ None)
 Refuses text (BadBoxLine node) =
     (count : ℕ) × (lines : List (List ℕ)) × HasBoxLines text count lines
     × RefusesBoxes count lines (BadBoxLine node)
@@ -115,6 +116,5 @@ Refuses text (BadTarget node) =
     (count : ℕ) × (lines : List (List ℕ)) × HasBoxLines text count lines
     × RefusesBoxes count lines (BadTarget node)
 Refuses text (BadContent node place) =
-    (count : ℕ) × (lines : List (List ℕ)) × HasBoxLines text count lines × AreGood count lines count
-    × IsFirstBad (texts_of count lines) node place
+    (texts : List BoxText) × HasTexts text texts × IsFirstBad texts node place
 Refuses text NoMemory = Unit {0}

@@ -13,15 +13,15 @@ is_mark mark line =
     pointwise nat_eq (take (length mark) line) mark
     && list_all (λ b. b == SPACE) (drop (length mark) line)
 
--- the lines behind the first line `#`
-abbrev pub behind_mark : List (List ℕ) → Option (List (List ℕ))
-behind_mark [] = None
-behind_mark (line ∷ lines) = if is_mark (codes "#") line then Some lines else behind_mark lines
+-- the lines after the first line `#`
+abbrev pub after_mark : List (List ℕ) → Option (List (List ℕ))
+after_mark [] = None
+after_mark (line ∷ lines) = if is_mark (codes "#") line then Some lines else after_mark lines
 
--- the lines behind the header, which begins with `#Unigraph` and ends with `#`
-abbrev pub behind_header : List (List ℕ) → Option (List (List ℕ))
-behind_header [] = None
-behind_header (line ∷ lines) = if is_mark (codes "#Unigraph") line then behind_mark lines else None
+-- the lines after the header, which begins with `#Unigraph` and ends with `#`
+abbrev pub after_header : List (List ℕ) → Option (List (List ℕ))
+after_header [] = None
+after_header (line ∷ lines) = if is_mark (codes "#Unigraph") line then after_mark lines else None
 
 -- the number that the words of a line write, of boxes that a graph may have
 abbrev pub count_in : List (List ℕ) → Option ℕ

@@ -21,7 +21,7 @@ SLASH = 47
 -- a line ends before `+` or `/`, or at the content's end
 abbrev pub EndsLine : List ℕ → Type 0
 EndsLine [] = Unit {0}
-EndsLine (b ∷ behind) = (b ≡ PLUS) ⊎ (b ≡ SLASH)
+EndsLine (b ∷ after) = (b ≡ PLUS) ⊎ (b ≡ SLASH)
 
 -- the text's first character is one byte
 abbrev pub BeginsInAscii : List ℕ → Type 0
@@ -53,7 +53,7 @@ IsByte OpenBrace text = BeginsInAscii text
 IsByte Other text = Unit {0}
 
 -- what begins at a place of a line: nothing, since the line is over; a part that writes an item or
--- none, and what stands behind it; or a fault, with what stands from there on
+-- none, and what stands after it; or a fault, with what stands from there on
 pub data Beginning : Type 0 where
   no_more : Beginning
   part : Option Item → List ℕ → Beginning
@@ -65,7 +65,7 @@ begin_by Over = no_more
 begin_by (Written item rest) = part item rest.now
 begin_by (Bad rest) = fault rest.now
 
--- a line that is over has ended, and what stands behind a part is shorter
+-- a line that is over has ended, and what stands after a part is shorter
 abbrev pub Leaves : List ℕ → Start → Type 0
 Leaves text Over = EndsLine text
 Leaves text (Written item rest) = length rest.now < length text
@@ -76,7 +76,7 @@ abbrev pub some_text : (List ℕ → Item) → List ℕ → Option Item
 some_text item [] = None
 some_text item (b ∷ text) = Some (item (b ∷ text))
 
--- a quoted text up to the mark at this place behind the first; empty quotes write no item
+-- a quoted text up to the mark at this place after the first; empty quotes write no item
 abbrev pub quoted_begin : List ℕ → Option ℕ → Beginning
 quoted_begin text None = fault text
 quoted_begin text (Some k) =
@@ -86,14 +86,14 @@ quoted_begin text (Some k) =
 abbrev pub mask_item : List ℕ → Item
 mask_item text = if bytes_eq text (codes "E") then Empty else Mask text
 
--- a mask up to the sign at this place behind the first; it isn't empty
+-- a mask up to the sign at this place after the first; it isn't empty
 abbrev pub mask_begin : List ℕ → Option ℕ → Beginning
 mask_begin text None = fault text
 mask_begin text (Some k) =
     if k == 0 then fault text
     else part (Some (mask_item (take k (drop 1 text)))) (drop (k + 1) (drop 1 text))
 
--- a text in braces up to the brace at this place behind the first
+-- a text in braces up to the brace at this place after the first
 abbrev pub brace_begin : List ℕ → Option ℕ → Beginning
 brace_begin text None = fault text
 brace_begin text (Some k) = part (Some (Brace (take (k + 2) text))) (drop (k + 1) (drop 1 text))
@@ -126,12 +126,12 @@ abbrev pub with_first : Option Item → List Item → List Item
 with_first None items = items
 with_first (Some item) items = item ∷ items
 
--- the items of a line, and what stands behind the line
+-- the items of a line, and what stands after the line
 pub data Reads : List ℕ → List Item → List ℕ → Type 0 where
   line_over : {text : List ℕ} → begin_of text ≡ no_more → Reads text [] text
-  item_then : {text rest behind : List ℕ} {item : Option Item} {items : List Item} →
-      begin_of text ≡ part item rest → Reads rest items behind →
-      Reads text (with_first item items) behind
+  item_then : {text rest after : List ℕ} {item : Option Item} {items : List Item} →
+      begin_of text ≡ part item rest → Reads rest items after →
+      Reads text (with_first item items) after
 
 -- what stands from the first fault of a line on
 pub data Fails : List ℕ → List ℕ → Type 0 where

@@ -61,7 +61,7 @@ abbrev pub call_of : List ℕ → Option Item
 call_of name =
     if nat_lt 0 (length name) && not (list_any is_no_name_sign name) then Some (Call name) else None
 
--- the item of a line, from what stands behind its `:`
+-- the item of a line, from what stands after its `:`
 abbrev pub call_item : List ℕ → Option Item
 call_item text = call_of (without_ending (codes ".grf") (without_back (without_front text)))
 
@@ -73,7 +73,7 @@ bound_of name sign =
     else if sign == 41 then Some (End name)
     else None
 
--- the item of a line, from what stands behind its `$`
+-- the item of a line, from what stands after its `$`
 abbrev pub dollar_item : List ℕ → Option Item
 dollar_item text =
     if bytes_eq text (codes "") then Some (Literal (codes "$"))
@@ -105,34 +105,34 @@ pub record IsFirstEnd (text : List ℕ) (end : ℕ) : Type 0 where
   pub sign : EndsLine (drop end text)
   pub ascii : slice_index text end < 128
 
--- such a line's own text, and what stands behind it
+-- such a line's own text, and what stands after it
 abbrev pub own_text : List ℕ → List ℕ
 own_text text = take (line_end text) text
 
-abbrev pub behind_line : List ℕ → List ℕ
-behind_line text = drop (line_end text) text
+abbrev pub after_line : List ℕ → List ℕ
+after_line text = drop (line_end text) text
 
 -- a line without items writes the empty word
 abbrev pub or_empty : List Item → List Item
 or_empty [] = Empty ∷ []
 or_empty (item ∷ items) = item ∷ items
 
--- the items of a line, and what stands behind the line
+-- the items of a line, and what stands after the line
 pub data IsLine : List ℕ → List Item → List ℕ → Type 0 where
-  of_items : {text behind : List ℕ} {items : List Item} →
-      is_marked (without_front text) ≡ false → Reads text items behind →
-      IsLine text (or_empty items) behind
+  of_items : {text after : List ℕ} {items : List Item} →
+      is_marked (without_front text) ≡ false → Reads text items after →
+      IsLine text (or_empty items) after
   of_mark : {text : List ℕ} {item : Item} →
       is_marked (without_front text) ≡ true →
       marked_item (own_text (without_front text)) ≡ Some item →
-      IsLine text (item ∷ []) (behind_line (without_front text))
+      IsLine text (item ∷ []) (after_line (without_front text))
 
--- the text is a line of one item, and what stands behind it
-pub record IsMarkedLine (text : List ℕ) (items : List Item) (behind : List ℕ) : Type 0 where
+-- the text is a line of one item, and what stands after it
+pub record IsMarkedLine (text : List ℕ) (items : List Item) (after : List ℕ) : Type 0 where
   pub item : Item
   pub is : marked_item (own_text text) ≡ Some item
   pub alone : items ≡ item ∷ []
-  pub rest : behind ≡ behind_line text
+  pub rest : after ≡ after_line text
 
 -- what stands from the first fault of a line on; a bad line of one item is named at its sign
 pub data IsBadLine : List ℕ → List ℕ → Type 0 where
@@ -143,7 +143,7 @@ pub data IsBadLine : List ℕ → List ℕ → Type 0 where
       marked_item (own_text (without_front text)) ≡ None →
       IsBadLine text (without_front text)
 
--- the lines of a content, and what stands behind its first free `/`
+-- the lines of a content, and what stands after its first free `/`
 pub data AreLines : List ℕ → List (List Item) → List ℕ → Type 0 where
   last_line : {text : List ℕ} {line : List Item} → IsLine text line [] → AreLines text (line ∷ []) []
   line_with_output : {text output : List ℕ} {line : List Item} → IsLine text line (SLASH ∷ output) →
@@ -152,10 +152,10 @@ pub data AreLines : List ℕ → List (List Item) → List ℕ → Type 0 where
       IsLine text line (PLUS ∷ rest) → AreLines rest lines output →
       AreLines text (line ∷ lines) output
 
--- what stands behind the last line of a content, and the output
-abbrev pub IsLastBehind : (behind output : List ℕ) → Type 0
-IsLastBehind behind output =
-    (behind ≡ SLASH ∷ output) ⊎ ((behind ≡ []) × (output ≡ []))
+-- what stands after the last line of a content, and the output
+abbrev pub IsLastRest : (after output : List ℕ) → Type 0
+IsLastRest after output =
+    (after ≡ SLASH ∷ output) ⊎ ((after ≡ []) × (output ≡ []))
 
 -- what stands from the first fault of the lines on
 pub data IsBadIn : List ℕ → List ℕ → Type 0 where

@@ -1,7 +1,6 @@
 -- The names of the graphs that a graph calls. Public: the crate's public contracts speak of it.
-use Rattle.std.specs.Prelude.{ℕ, List, [], ◌∷◌, ◌++◌, map, fold, if◌then◌else◌}
-use Rattle.std.specs.List.{flat_map, list_any}
-use Rattle.std.specs.Str.{bytes_eq}
+use Rattle.std.specs.Prelude.{ℕ, List, [], ◌∷◌, map}
+use Rattle.std.specs.List.{flat_map}
 use Rattle.indexmap.specs.IndexSet.{IndexSet}
 use denote.Ref.{Bor}
 use Rattle.ux_grf.specs.declared.graph.Graph.{Graph}
@@ -34,17 +33,6 @@ calls_of_box b = flat_map calls_of_line b.lines
 -- the names called in a graph, in order of box and line; boxes that aren't reached have no lines
 abbrev pub calls_of : Graph → List (List ℕ)
 calls_of graph = flat_map calls_of_box graph.boxes
-
--- the names, and this one behind them if it isn't among them
-abbrev pub with_name : List (List ℕ) → List ℕ → List (List ℕ)
-with_name names name = if list_any (bytes_eq name) names then names else names ++ name ∷ []
-
--- the names and these, each at its first place
-abbrev pub with_names : List (List ℕ) → List (List ℕ) → List (List ℕ)
-with_names names more = fold with_name names more
-
-abbrev pub called_names : Graph → List (List ℕ)
-called_names graph = with_names [] (calls_of graph)
 
 -- the names in a set, in order
 abbrev pub names_in : {S : Type 0} → IndexSet (Bor (List ℕ)) S → List (List ℕ)

@@ -32,7 +32,7 @@ some_chars (b ∷ text) = Chars (b ∷ text) ∷ []
 abbrev pub chars_in : List ℕ → List Piece
 chars_in text = some_chars (resolved Language false text)
 
--- characters up to the first value, that value, and the pieces behind it
+-- characters up to the first value, that value, and the pieces after it
 pub data ArePieces : List ℕ → List Piece → Type 0 where
   chars_only : {text : List ℕ} → first_value false text ≡ None → ArePieces text (chars_in text)
   value_then : {text : List ℕ} {k : ℕ} {pieces : List Piece} →

@@ -32,7 +32,7 @@ first_free stop protected (b ∷ text) =
     if is_stop stop b && not protected then Some 0
     else option_map suc (first_free stop (b == BACKSLASH && not protected) text)
 
--- the text ends behind a backslash that protects
+-- the text ends after a backslash that protects
 abbrev pub ends_open : Bool → List ℕ → Bool
 ends_open protected [] = protected
 ends_open protected (b ∷ text) = ends_open (b == BACKSLASH && not protected) text

@@ -1,6 +1,6 @@
 -- The words of a text: its longest runs of bytes that are no gaps. Public, through `File` and
 -- `Content`.
-use Rattle.std.specs.Prelude.{ℕ, ◌≡◌, ◌<◌, true, false, length, slice_index, ◌==◌, Bool, ◌||◌, List, [], ◌∷◌, ◌++◌, if◌then◌else◌}
+use Rattle.std.specs.Prelude.{ℕ, ◌≡◌, ◌<◌, true, false, length, slice_index, ◌==◌, Bool, ◌||◌, List, [], ◌∷◌, filter, if◌then◌else◌}
 use Rattle.ux_grf.specs.declared.words.Gap.{Gap}
 use Rattle.ux_grf.specs.declared.words.Gap.TheVariants.{Spaces, Blanks}
 
@@ -15,20 +15,24 @@ abbrev pub is_gap : Gap → ℕ → Bool
 is_gap Spaces b = b == SPACE
 is_gap Blanks b = b == SPACE || b == TAB
 
--- the one word, which is none where it is empty
-abbrev pub word_in : List ℕ → List (List ℕ)
-word_in [] = []
-word_in (b ∷ word) = (b ∷ word) ∷ []
+-- the runs with this byte before the first of them
+abbrev pub with_byte : ℕ → List (List ℕ) → List (List ℕ)
+with_byte b [] = (b ∷ []) ∷ []
+with_byte b (run ∷ runs) = (b ∷ run) ∷ runs
 
--- the words of a text whose first word began with `front`
-abbrev pub words_behind : Gap → (text front : List ℕ) → List (List ℕ)
-words_behind gap [] front = word_in front
-words_behind gap (b ∷ text) front =
-    if is_gap gap b then word_in front ++ words_behind gap text []
-    else words_behind gap text (front ++ b ∷ [])
+-- what stands before the first gap, between each two gaps and after the last one
+abbrev pub runs_of : Gap → List ℕ → List (List ℕ)
+runs_of gap [] = [] ∷ []
+runs_of gap (b ∷ text) =
+    if is_gap gap b then [] ∷ runs_of gap text else with_byte b (runs_of gap text)
 
+abbrev pub has_byte : List ℕ → Bool
+has_byte [] = false
+has_byte (b ∷ run) = true
+
+-- the words are the runs that aren't empty
 abbrev pub words_of : Gap → List ℕ → List (List ℕ)
-words_of gap text = words_behind gap text []
+words_of gap text = filter has_byte (runs_of gap text)
 
 -- no byte before this place is a gap
 abbrev pub HasNoGapBefore : Gap → List ℕ → ℕ → Type 0

@@ -7,7 +7,7 @@ ghost use Rattle.ux_grf.specs.BoxLine.{without_mark, box_of, box_in, content_and
 
 use crate::number::{is_coordinate_word, number};
 use crate::protection::{Stop, find_free};
-use crate::words::{Gap, before, behind, words};
+use crate::words::{Gap, after, before, words};
 use std::alloc::{AllocError, Global};
 
 /// What a box line says.
@@ -27,20 +27,20 @@ pub fn read_box_line<'a>(alloc: Global, line: &'a str) -> Result<Option<BoxLine<
     if !begins_with(text, b'"') {
         return Ok(None);
     }
-    read_quoted(alloc, behind(text, 0))
+    read_quoted(alloc, after(text, 0))
 }
 
-/// What stands behind the first quotation mark.
+/// What stands after the first quotation mark.
 fn read_quoted<'a>(alloc: Global, text: &'a str) -> Result<Option<BoxLine<'a>>, AllocError>
     ensures { IfOk result (λ said. option_map said_by said ≡ content_and_fields text.now) }
 {
     match find_free(Stop::Mark, text) {
-        Some(end) => read_box(alloc, before(text, end), behind(text, end)),
+        Some(end) => read_box(alloc, before(text, end), after(text, end)),
         None => Ok(None),
     }
 }
 
-/// The content, and what stands behind its end.
+/// The content, and what stands after its end.
 fn read_box<'a>(
     alloc: Global,
     content: &'a str,
@@ -74,13 +74,13 @@ fn without_start_mark(line: &str) -> &str
     ensures { result.now ≡ without_mark line.now }
 {
     if begins_with(line, b's') {
-        behind(line, 0)
+        after(line, 0)
     } else {
         line
     }
 }
 
-/// The targets that the words behind the content name.
+/// The targets that the words after the content name.
 fn read_targets(alloc: Global, words: &[&str]) -> Result<Option<Vec<u32>>, AllocError>
     ensures { IfOk result (λ targets. values_in targets ≡ targets_in (map (λ w. w.now) words.now)) }
 {

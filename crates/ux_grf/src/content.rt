@@ -2,7 +2,7 @@
 //!
 //! `specs/Content.antt` has the definitions. A content is read from left to right in one pass: its
 //! lines by `line`, the items of a line by `start`, lines of one item by `marked`, and what stands
-//! behind the first free `/` by `output`.
+//! after the first free `/` by `output`.
 
 ghost use Rattle.std.specs.Prelude.{◌≡◌, ℕ, List, ◌++◌, length, IfOk, IfErr};
 ghost use Rattle.std.specs.Str.{chars};

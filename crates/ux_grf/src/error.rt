@@ -9,10 +9,10 @@ use thiserror::Error;
 /// Why a graph file is refused. Nodes count boxes from 0.
 #[derive(Clone, Copy, Debug, Error)]
 pub enum GrfError {
-    /// The first line isn't `#Unigraph`, or no line `#` stands behind it.
+    /// The first line isn't `#Unigraph`, or no line `#` stands after it.
     #[error("no header")]
     NoHeader,
-    /// The line behind the header isn't a number of boxes from 2 to 65,535.
+    /// The line after the header isn't a number of boxes from 2 to 65,535.
     #[error("bad number of boxes")]
     BadCount,
     /// The line of this box is missing or isn't of its form.

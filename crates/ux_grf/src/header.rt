@@ -3,7 +3,7 @@
 ghost use Rattle.std.specs.Prelude.{◌≡◌, ◌==◌, ◌≤◌, IfSome, ◌∷◌, [], IfOk, IsTrue, false, None, Some};
 ghost use Rattle.std.specs.List.{list_all};
 ghost use Rattle.ux_grf.specs.Words.{SPACE};
-ghost use Rattle.ux_grf.specs.Header.{is_mark, behind_mark, behind_header, count_of, count_in};
+ghost use Rattle.ux_grf.specs.Header.{is_mark, after_mark, after_header, count_of, count_in};
 
 use crate::error::GrfError;
 use crate::number::decimal;
@@ -13,8 +13,8 @@ use ux_base::Lines;
 
 /// Takes the lines up to the line `#`; whether the header is whole.
 pub fn skip_header(lines: &mut Lines<'_>) -> bool
-    ensures yes { IsTrue result → behind_header lines.old ≡ Some lines.new }
-    ensures no { result ≡ false → behind_header lines.old ≡ None }
+    ensures yes { IsTrue result → after_header lines.old ≡ Some lines.new }
+    ensures no { result ≡ false → after_header lines.old ≡ None }
 {
     match lines.next() {
         Some(line) => is_mark_line(b"#Unigraph", line) && skip_to_mark(lines),
@@ -24,8 +24,8 @@ pub fn skip_header(lines: &mut Lines<'_>) -> bool
 
 /// Takes the lines up to a line `#`; whether there is one.
 fn skip_to_mark(lines: &mut Lines<'_>) -> bool
-    ensures yes { IsTrue result → behind_mark lines.old ≡ Some lines.new }
-    ensures no { result ≡ false → behind_mark lines.old ≡ None }
+    ensures yes { IsTrue result → after_mark lines.old ≡ Some lines.new }
+    ensures no { result ≡ false → after_mark lines.old ≡ None }
 {
     while let Some(line) = lines.next() {
         if is_mark_line(b"#", line) {

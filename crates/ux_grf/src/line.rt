@@ -5,13 +5,13 @@
 
 ghost use Rattle.std.specs.Prelude.{◌≡◌, ◌≢◌, ◌<◌, ◌≤◌, ◌∷◌, ◌++◌, [], true, length, slice_index, MatchOption, IfOk, IfErr, IfSome, IfNone, OnOk};
 ghost use Rattle.ux_grf.specs.Items.{PLUS, EndsLine, Reads, with_first};
-ghost use Rattle.ux_grf.specs.Lines.{IsLine, AreLines, is_marked, IsMarkedLine, own_text, behind_line, line_end, or_empty, IsFirstEnd, IsLastBehind};
+ghost use Rattle.ux_grf.specs.Lines.{IsLine, AreLines, is_marked, IsMarkedLine, own_text, after_line, line_end, or_empty, IsFirstEnd, IsLastRest};
 ghost use Rattle.ux_grf.specs.Content.{StopsItems, StopsMark, StopsLine, StopsLines};
 
 use crate::item::Item;
 use crate::marked::{begins_with_mark, marked, skip_blanks};
 use crate::start::{Start, read_start};
-use crate::words::{before, behind, from};
+use crate::words::{after, before, from};
 use std::alloc::{AllocError, AllocFailed, Global};
 use ux_base::Lst;
 
@@ -51,8 +51,8 @@ impl<'a, T: Drop> From<AllocFailed<T>> for Fault<'a> {
 pub struct Line<'a> {
     /// The items.
     pub items: Vec<Item>,
-    /// What stands behind the line.
-    pub behind: &'a str,
+    /// What stands after the line.
+    pub after: &'a str,
 }
 
 /// The lines of a content.
@@ -60,7 +60,7 @@ pub struct Line<'a> {
 pub struct Parts<'a> {
     /// The lines.
     pub lines: Vec<Lst<Item>>,
-    /// What stands behind the first free `/`.
+    /// What stands after the first free `/`.
     pub output: &'a str,
 }
 
@@ -74,17 +74,17 @@ pub fn read_lines<'a>(alloc: Global, text: &'a str) -> Result<Parts<'a>, Fault<'
     loop {
         let line = read_line(alloc, rest)?;
         lines.push(Lst::new(line.items))?;
-        match strip_sign(line.behind, b'+') {
+        match strip_sign(line.after, b'+') {
             Some(next) => rest = next,
             None => {
-                let output = last_output(line.behind);
+                let output = last_output(line.after);
                 return Ok(Parts { lines, output });
             },
         }
     }
 }
 
-/// What stands behind the sign, where the text begins with it.
+/// What stands after the sign, where the text begins with it.
 fn strip_sign(text: &str, sign: u8) -> Option<&str>
     requires some { 0 < sign }
     requires ascii { sign < 128 }
@@ -92,17 +92,17 @@ fn strip_sign(text: &str, sign: u8) -> Option<&str>
     ensures some { IfSome result (λ rest. text.now ≡ sign ∷ rest.now) }
 {
     if text.as_bytes().first() == Some(&sign) {
-        Some(behind(text, 0))
+        Some(after(text, 0))
     } else {
         None
     }
 }
 
-/// The output, from what stands behind the last line.
+/// The output, from what stands after the last line.
 fn last_output(text: &str) -> &str
     requires ends { EndsLine text.now }
     requires last { slice_index text.now 0 ≢ PLUS }
-    ensures { IsLastBehind text.now result.now }
+    ensures { IsLastRest text.now result.now }
 {
     match strip_sign(text, b'/') {
         Some(output) => output,
@@ -112,9 +112,9 @@ fn last_output(text: &str) -> &str
 
 /// The first line of the text.
 fn read_line<'a>(alloc: Global, text: &'a str) -> Result<Line<'a>, Fault<'a>>
-    ensures line { IfOk result (λ line. IsLine text.now line.items.items line.behind.now) }
-    ensures ends { IfOk result (λ line. EndsLine line.behind.now) }
-    ensures shorter { IfOk result (λ line. length line.behind.now ≤ length text.now) }
+    ensures line { IfOk result (λ line. IsLine text.now line.items.items line.after.now) }
+    ensures ends { IfOk result (λ line. EndsLine line.after.now) }
+    ensures shorter { IfOk result (λ line. length line.after.now ≤ length text.now) }
     ensures bad { IfErr result (StopsLine text.now) }
 {
     let front = skip_blanks(text);
@@ -124,7 +124,7 @@ fn read_line<'a>(alloc: Global, text: &'a str) -> Result<Line<'a>, Fault<'a>>
     let line = read_items(alloc, text)?;
     Ok(Line {
         items: fill_empty(line.items)?,
-        behind: line.behind,
+        after: line.after,
     })
 }
 
@@ -142,17 +142,17 @@ fn fill_empty(items: Vec<Item>) -> Result<Vec<Item>, AllocError>
 /// The line of one item that begins with a mark.
 fn read_marked<'a>(alloc: Global, text: &'a str) -> Result<Line<'a>, Fault<'a>>
     requires { is_marked text.now ≡ true }
-    ensures line { IfOk result (λ line. IsMarkedLine text.now line.items.items line.behind.now) }
-    ensures ends { IfOk result (λ line. EndsLine line.behind.now) }
-    ensures shorter { IfOk result (λ line. length line.behind.now ≤ length text.now) }
+    ensures line { IfOk result (λ line. IsMarkedLine text.now line.items.items line.after.now) }
+    ensures ends { IfOk result (λ line. EndsLine line.after.now) }
+    ensures shorter { IfOk result (λ line. length line.after.now ≤ length text.now) }
     ensures bad { IfErr result (StopsMark text.now) }
 {
-    let (own, behind) = split_line(text);
+    let (own, after) = split_line(text);
     match marked(alloc, own)? {
         Some(item) => {
             let mut items = Vec::new(alloc);
             items.push(item)?;
-            Ok(Line { items, behind })
+            Ok(Line { items, after })
         },
         None => Err(Fault::At(text)),
     }
@@ -161,7 +161,7 @@ fn read_marked<'a>(alloc: Global, text: &'a str) -> Result<Line<'a>, Fault<'a>>
 /// What stands before the first `+` or `/`, and what stands from there on.
 fn split_line(text: &str) -> (&str, &str)
     ensures own { result.0.now ≡ own_text text.now }
-    ensures behind { result.1.now ≡ behind_line text.now }
+    ensures after { result.1.now ≡ after_line text.now }
     ensures ends { EndsLine result.1.now }
     ensures shorter { length result.1.now ≤ length text.now }
 {
@@ -185,29 +185,26 @@ fn find_line_end(text: &str) -> Option<usize>
 
 /// The items that the text begins with, up to the line's end.
 fn read_items<'a>(alloc: Global, text: &'a str) -> Result<Line<'a>, Fault<'a>>
-    ensures line { IfOk result (λ line. Reads text.now line.items.items line.behind.now) }
-    ensures ends { IfOk result (λ line. EndsLine line.behind.now) }
-    ensures shorter { IfOk result (λ line. length line.behind.now ≤ length text.now) }
+    ensures line { IfOk result (λ line. Reads text.now line.items.items line.after.now) }
+    ensures ends { IfOk result (λ line. EndsLine line.after.now) }
+    ensures shorter { IfOk result (λ line. length line.after.now ≤ length text.now) }
     ensures bad { IfErr result (StopsItems text.now) }
 {
     let mut items = Vec::new(alloc);
     let mut rest = text;
     loop {
         match read_start(alloc, rest)? {
-            Start::Over => return Ok(Line {
-                items,
-                behind: rest,
-            }),
-            Start::Written(item, behind) => {
+            Start::Over => return Ok(Line { items, after: rest }),
+            Start::Written(item, after) => {
                 put(&mut items, item)?;
-                rest = behind;
+                rest = after;
             },
             Start::Bad(left) => return Err(Fault::At(left)),
         }
     }
 }
 
-/// Puts the item behind the items, where there is one.
+/// Puts the item after the items, where there is one.
 fn put(items: &mut Vec<Item>, item: Option<Item>) -> Result<(), AllocError>
     ensures { OnOk result (items.new.items ≡ items.old.items ++ with_first item []) }
 {

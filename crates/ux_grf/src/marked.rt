@@ -10,7 +10,7 @@ ghost use Rattle.ux_grf.specs.declared.words.Gap.TheVariants.{Blanks};
 ghost use Rattle.ux_grf.specs.Lines.{without_front, without_back, without_ending, begins_blank, ends_blank, is_name, is_name_byte, is_no_name_sign, call_of, call_item, bound_of, dollar_item, is_marked, marked_item};
 
 use crate::item::Item;
-use crate::words::{Gap, before, behind, is_gap_byte};
+use crate::words::{Gap, after, before, is_gap_byte};
 use std::alloc::{AllocError, Global};
 use ux_base::Txt;
 
@@ -26,7 +26,7 @@ pub fn marked(alloc: Global, text: &str) -> Result<Option<Item>, AllocError>
     requires { is_marked text.now ≡ true }
     ensures { IfOk result (λ item. item ≡ marked_item text.now) }
 {
-    let rest = behind(text, 0);
+    let rest = after(text, 0);
     if text.as_bytes().first() == Some(&b':') {
         called(alloc, without_grf(trimmed(skip_blanks(rest))))
     } else {
@@ -57,7 +57,7 @@ fn is_other_sign(byte: u8) -> bool
     matches!(byte, b':' | b'\\' | b'"' | b'<' | b'{')
 }
 
-/// The item of a line, from what stands behind its `$`.
+/// The item of a line, from what stands after its `$`.
 fn dollar(alloc: Global, text: &str) -> Result<Option<Item>, AllocError>
     ensures { IfOk result (λ item. item ≡ dollar_item text.now) }
 {
@@ -141,7 +141,7 @@ pub fn skip_blanks(text: &str) -> &str
 {
     let mut rest = text;
     while begins_in_blank(rest) {
-        rest = behind(rest, 0);
+        rest = after(rest, 0);
     }
     rest
 }

@@ -10,7 +10,7 @@ ghost use Rattle.ux_grf.specs.Output.{IsOutput, ArePieces, chars_in, first_value
 use crate::item::Piece;
 use crate::marked::is_name_sign;
 use crate::protection::{Layer, resolve};
-use crate::words::{before, behind};
+use crate::words::{after, before};
 use std::alloc::{AllocError, Global};
 use ux_base::Txt;
 
@@ -32,15 +32,15 @@ fn read_pieces(alloc: Global, text: &str) -> Result<Vec<Piece>, AllocError>
     let mut rest = text;
     while let Some(place) = find_value(rest) {
         put_chars(alloc, &mut pieces, before(rest, place))?;
-        let inside = behind(rest, place);
+        let inside = after(rest, place);
         put_value(alloc, &mut pieces, inside)?;
-        rest = behind_name(inside);
+        rest = after_name(inside);
     }
     put_chars(alloc, &mut pieces, rest)?;
     Ok(pieces)
 }
 
-/// Puts the characters behind the pieces, where there are any.
+/// Puts the characters after the pieces, where there are any.
 fn put_chars(alloc: Global, pieces: &mut Vec<Piece>, text: &str) -> Result<(), AllocError>
     ensures { OnOk result (pieces.new.items ≡ pieces.old.items ++ chars_in text.now) }
 {
@@ -51,7 +51,7 @@ fn put_chars(alloc: Global, pieces: &mut Vec<Piece>, text: &str) -> Result<(), A
     Ok(())
 }
 
-/// Puts the value whose name begins the text behind the pieces.
+/// Puts the value whose name begins the text after the pieces.
 fn put_value(alloc: Global, pieces: &mut Vec<Piece>, text: &str) -> Result<(), AllocError>
     requires { names_value text.now ≡ true }
     ensures { OnOk result (pieces.new.items
@@ -62,12 +62,12 @@ fn put_value(alloc: Global, pieces: &mut Vec<Piece>, text: &str) -> Result<(), A
     Ok(())
 }
 
-/// What stands behind the value whose name begins the text.
-fn behind_name(text: &str) -> &str
+/// What stands after the value whose name begins the text.
+fn after_name(text: &str) -> &str
     requires { names_value text.now ≡ true }
     ensures { result.now ≡ drop (name_len text.now + 1) text.now }
 {
-    behind(text, name_length(text.as_bytes()))
+    after(text, name_length(text.as_bytes()))
 }
 
 /// The place of the first `$` that begins a value and isn't protected.

@@ -1,12 +1,12 @@
 //! Backslashes: the signs that they protect, and texts without them.
 //!
-//! `specs/Protection.antt` has the definitions. A backslash protects the character behind it, so no
+//! `specs/Protection.antt` has the definitions. A backslash protects the character after it, so no
 //! text is cut within a character: places are those of ASCII signs.
 
 ghost use Rattle.std.specs.Prelude.{◌≡◌, ◌+◌, ◌<◌, ◌++◌, false, true, length, take, drop, slice_index, string_bytes, IfOk, IfSome, IfNone};
 ghost use Rattle.ux_grf.specs.Protection.{ends_literal, is_stop, first_free, ends_open, protects, resolved, BACKSLASH};
 
-use crate::words::{before, behind};
+use crate::words::{after, before};
 use std::alloc::{AllocError, Global};
 
 /// The signs at which a part of a text ends.
@@ -84,7 +84,7 @@ pub fn resolve(alloc: Global, layer: Layer, text: &str) -> Result<String, AllocE
     let mut protected = false;
     while let Some(place) = find_backslash(layer, protected, rest.as_bytes()) {
         plain.push_str(before(rest, place))?;
-        rest = behind(rest, place);
+        rest = after(rest, place);
         protected = true;
     }
     plain.push_str(rest)?;

@@ -7,7 +7,7 @@ ghost use Rattle.ux_grf.specs.Size.{size_of};
 ghost use Rattle.ux_grf.specs.WellFormed.{IsWellFormed};
 ghost use Rattle.ux_digraph.specs.Paths.{IsInside};
 ghost use Rattle.ux_grf.specs.declared.error.GrfError.TheVariants.{BadCount, NoMemory};
-ghost use Rattle.ux_grf.specs.Boxes.{box_in_line, box_at, is_good, text_of, texts_of, is_inside, RefusesBox, RefusesBoxes, AreGood};
+ghost use Rattle.ux_grf.specs.Boxes.{box_in_line, box_at, is_good, IsTextOf, AreTexts, is_inside, RefusesBox, RefusesBoxes, AreGood};
 
 use crate::box_line::{BoxLine, read_box_line};
 use crate::boxes::make_boxes;
@@ -64,7 +64,7 @@ fn read_boxes<'a>(
     lines: &mut Lines<'a>,
     count: u32,
 ) -> Result<Vec<BoxLine<'a>>, GrfError>
-    ensures texts { IfOk result (λ boxes. map said_by boxes.items ≡ texts_of count lines.old) }
+    ensures texts { IfOk result (λ boxes. AreTexts count lines.old (map said_by boxes.items)) }
     ensures good { OnOk result (AreGood count lines.old count) }
     ensures refused { IfErr result (RefusesBoxes count lines.old) }
 {
@@ -81,7 +81,7 @@ fn stamped_boxes<'a>(
 ) -> Result<Vec<BoxLine<'a>>, GrfError>
     requires len { length stamps.now.items ≡ count }
     requires fresh { (u : ℕ) → slice_index stamps.now.items u ≤ 0 }
-    ensures texts { IfOk result (λ boxes. map said_by boxes.items ≡ texts_of count lines.old) }
+    ensures texts { IfOk result (λ boxes. AreTexts count lines.old (map said_by boxes.items)) }
     ensures good { OnOk result (AreGood count lines.old count) }
     ensures refused { IfErr result (RefusesBoxes count lines.old) }
 {
@@ -112,7 +112,7 @@ fn good_box<'a>(
     requires node { node < count }
     requires len { length stamps.now.items ≡ count }
     requires fresh { (u : ℕ) → slice_index stamps.now.items u ≤ node }
-    ensures text { IfOk result (λ said. said_by said ≡ text_of (box_in_line (option_copied line.entry))) }
+    ensures text { IfOk result (λ said. IsTextOf (box_in_line (option_copied line.entry)) (said_by said)) }
     ensures good { OnOk result (is_good count (box_in_line (option_copied line.entry)) ≡ true) }
     ensures refused { IfErr result (RefusesBox count node (box_in_line (option_copied line.entry))) }
     ensures len { OnOk result (length stamps.new.items ≡ count) }

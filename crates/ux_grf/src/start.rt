@@ -11,7 +11,7 @@ ghost use Rattle.ux_grf.specs.declared.start.Sign.TheVariants.{Other};
 
 use crate::item::Item;
 use crate::protection::{Layer, Stop, find_free, is_open, resolve};
-use crate::words::{before, behind, from, through};
+use crate::words::{after, before, from, through};
 use std::alloc::{AllocError, Global};
 use ux_base::Txt;
 
@@ -56,8 +56,8 @@ pub fn read_start<'a>(alloc: Global, text: &'a str) -> Result<Start<'a>, AllocEr
 {
     match first_sign(text) {
         Sign::Nothing | Sign::Plus | Sign::Slash => Ok(Start::Over),
-        Sign::Blank => Ok(Start::Written(None, behind(text, 0))),
-        Sign::Sharp => Ok(Start::Written(Some(Item::Glue), behind(text, 0))),
+        Sign::Blank => Ok(Start::Written(None, after(text, 0))),
+        Sign::Sharp => Ok(Start::Written(Some(Item::Glue), after(text, 0))),
         Sign::Quotation => start_quoted(alloc, text),
         Sign::Less => start_mask(alloc, text),
         Sign::OpenBrace => start_brace(alloc, text),
@@ -99,12 +99,12 @@ fn start_quoted<'a>(alloc: Global, text: &'a str) -> Result<Start<'a>, AllocErro
         ≡ quoted_begin text.now (first_free Mark false (drop 1 text.now))) }
     ensures leaves { IfOk result (Leaves text.now) }
 {
-    let inside = behind(text, 0);
+    let inside = after(text, 0);
     let Some(end) = find_free(Stop::Mark, inside) else {
         return Ok(Start::Bad(text));
     };
     let quoted = Txt::new(resolve(alloc, Layer::Language, before(inside, end))?);
-    Ok(Start::Written(quoted_item(quoted), behind(inside, end)))
+    Ok(Start::Written(quoted_item(quoted), after(inside, end)))
 }
 
 /// The item of a quoted text that isn't empty.
@@ -125,12 +125,12 @@ fn start_mask<'a>(alloc: Global, text: &'a str) -> Result<Start<'a>, AllocError>
         ≡ mask_begin text.now (first_free Greater false (drop 1 text.now))) }
     ensures leaves { IfOk result (Leaves text.now) }
 {
-    let inside = behind(text, 0);
+    let inside = after(text, 0);
     match find_free(Stop::Greater, inside) {
         None | Some(0) => Ok(Start::Bad(text)),
         Some(end) => Ok(Start::Written(
             Some(read_mask(alloc, before(inside, end))?),
-            behind(inside, end),
+            after(inside, end),
         )),
     }
 }
@@ -153,13 +153,13 @@ fn start_brace<'a>(alloc: Global, text: &'a str) -> Result<Start<'a>, AllocError
         ≡ brace_begin text.now (first_free CloseBrace false (drop 1 text.now))) }
     ensures leaves { IfOk result (Leaves text.now) }
 {
-    let inside = behind(text, 0);
+    let inside = after(text, 0);
     let Some(end) = find_free(Stop::CloseBrace, inside) else {
         return Ok(Start::Bad(text));
     };
     let _len = text.len();
     let whole = Txt::from_str(alloc, through(text, end + 1))?;
-    Ok(Start::Written(Some(Item::Brace(whole)), behind(inside, end)))
+    Ok(Start::Written(Some(Item::Brace(whole)), after(inside, end)))
 }
 
 /// A literal, or a fault where a backslash ends the content.

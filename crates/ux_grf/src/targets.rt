@@ -1,7 +1,8 @@
 //! The targets of boxes: each once, and as the ways of a search.
 
-ghost use Rattle.std.specs.Prelude.{◌≡◌, ℕ, ◌<◌, ◌≤◌, length, map, IfOk, OnOk, slice_index, Contains};
-ghost use Rattle.ux_grf.specs.Boxes.{distinct, added, Stamped};
+ghost use Rattle.std.specs.Prelude.{◌≡◌, ℕ, ◌<◌, ◌≤◌, [], ◌∷◌, length, map, IfOk, OnOk, slice_index, Contains};
+ghost use Rattle.ux_base.specs.Distinct.{AreFirsts, GrowsBy};
+ghost use Rattle.ux_grf.specs.Boxes.{Stamped};
 ghost use Rattle.ux_grf.specs.Reached.{ways_of};
 
 use crate::box_line::BoxLine;
@@ -18,7 +19,7 @@ pub fn each_once(
 ) -> Result<Vec<u32>, AllocError>
     requires inside { (i : ℕ) → i < length targets.now → slice_index targets.now i < length stamps.now.items }
     requires fresh { (u : ℕ) → slice_index stamps.now.items u < stamp }
-    ensures once { IfOk result (λ kept. kept.items ≡ distinct targets.now) }
+    ensures once { IfOk result (λ kept. AreFirsts targets.now kept.items) }
     ensures len { OnOk result (length stamps.new.items ≡ length stamps.old.items) }
     ensures below { OnOk result ((u : ℕ) → slice_index stamps.new.items u ≤ stamp) }
 {
@@ -40,7 +41,7 @@ fn keep(
     requires stamped { Stamped (length stamps.now.items) stamp stamps.now.items kept.now.items }
     ensures len { OnOk result (length stamps.new.items ≡ length stamps.old.items) }
     ensures stamped { OnOk result (Stamped (length stamps.old.items) stamp stamps.new.items kept.new.items) }
-    ensures kept { OnOk result (kept.new.items ≡ added kept.old.items target) }
+    ensures kept { OnOk result (GrowsBy (target ∷ []) kept.old.items kept.new.items) }
 {
     if stamps[target as usize] == stamp {
         return Ok(());

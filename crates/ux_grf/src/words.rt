@@ -2,8 +2,8 @@
 //!
 //! `specs/Words.antt` has the definition. Words are lent slices of the text.
 
-ghost use Rattle.std.specs.Prelude.{◌≡◌, ◌+◌, ◌<◌, ◌++◌, length, take, drop, map, IfOk, MatchOption, slice_index};
-ghost use Rattle.ux_grf.specs.Words.{is_gap, word_in, words_of, HasNoGapBefore, IsFirstGap};
+ghost use Rattle.std.specs.Prelude.{◌≡◌, ◌+◌, ◌<◌, [], ◌∷◌, ◌++◌, filter, length, take, drop, map, IfOk, MatchOption, slice_index};
+ghost use Rattle.ux_grf.specs.Words.{has_byte, is_gap, words_of, HasNoGapBefore, IsFirstGap};
 
 use std::alloc::{AllocError, Global};
 
@@ -23,23 +23,24 @@ pub fn words<'a>(alloc: Global, gap: Gap, text: &'a str) -> Result<Vec<&'a str>,
     let mut words = Vec::new(alloc);
     let mut rest = text;
     while !rest.is_empty() {
-        let (word, behind) = first_word(gap, rest);
+        let (word, after) = first_word(gap, rest);
         if !word.is_empty() {
             words.push(word)?;
         }
-        rest = behind;
+        rest = after;
     }
     Ok(words)
 }
 
-/// What stands before the first gap, and what stands behind that gap.
+/// What stands before the first gap, and what stands after that gap.
 fn first_word(gap: Gap, text: &str) -> (&str, &str)
     requires { 0 < length text.now }
-    ensures words { words_of gap text.now ≡ word_in result.0.now ++ words_of gap result.1.now }
+    ensures words { words_of gap text.now
+        ≡ filter has_byte (result.0.now ∷ []) ++ words_of gap result.1.now }
     ensures shorter { length result.1.now < length text.now }
 {
     match first_gap(gap, text) {
-        Some(end) => (&text[..end], behind(text, end)),
+        Some(end) => (&text[..end], after(text, end)),
         None => (text, &text[text.len()..]),
     }
 }
@@ -63,8 +64,8 @@ pub fn is_gap_byte(gap: Gap, byte: u8) -> bool
     }
 }
 
-/// What stands behind an ASCII character.
-pub fn behind(text: &str, place: usize) -> &str
+/// What stands after an ASCII character.
+pub fn after(text: &str, place: usize) -> &str
     requires inside { place < length text.now }
     requires ascii { slice_index text.now place < 128 }
     ensures { result.now ≡ drop (place + 1) text.now }

@@ -1,11 +1,11 @@
 -- The numbers of an admissible grammar, cut into rows, are ranks of its places.
-use Rattle.std.proofs.Common.{arith, ◌≡◌, ℕ, zero, suc, ◌-◌, ◌<◌, ◌≤◌, List, [], ◌∷◌, ◌++◌, length, refl, ap, subst, sym, ◌∙◌, inl, inr, get_or, Bool, true, false}
+use Rattle.std.proofs.Common.{arith, ◌≡◌, ℕ, zero, suc, ◌<◌, ◌≤◌, List, [], ◌∷◌, ◌++◌, length, refl, ap, subst, sym, ◌∙◌, inl, inr, get_or, Bool, true, false}
 use Rattle.std.specs.Prelude.{All}
 use Rattle.std.proofs.lemmas.List.{get_or_past}
 use Rattle.ux_digraph.proofs.Lists.{less_or}
 use Rattle.ux_net.specs.declared.label.Label.TheVariants.{Call}
 use Rattle.ux_net.specs.declared.place.Place.{Place}
-use Rattle.ux_net.specs.Words.{Step, stop, along, letters}
+use Rattle.ux_net.specs.Words.{Step, stop, along, letters, put_by}
 use Rattle.ux_net.specs.Places.{places_of, place_grammar, IsPlaceStep}
 use Rattle.ux_net.specs.Fit.{IsFit}
 use Rattle.ux_net.specs.Admissible.{IsFree, none, IsOnEmptyLoop, IsLeftRecursive}
@@ -13,29 +13,25 @@ use Rattle.ux_net.specs.Numbers.{number_of, all_places}
 use Rattle.ux_net.specs.Ways.{AreFreeMarks, EndsFreely}
 use Rattle.ux_net.specs.Cycles.{AreNumbered}
 use Rattle.ux_net.specs.Rows.{cut}
-use Rattle.ux_net.specs.Admission.{rank_at, is_free_at, AreRows, IsLowerPlace, ArePlaceRanks}
+use Rattle.ux_net.specs.Admission.{place_rank, is_place_free, AreRows, IsLowerPlace, ArePlaceRanks}
 use Rattle.ux_net.proofs.NumbersLemmas.{places_at, before_more, before_rises}
-use Rattle.ux_net.proofs.FreeLemmas.{free_append, still_free, nullable_call}
-use Rattle.ux_net.proofs.StepsLemmas.{step_inside, start_inside, target_from}
+use Rattle.ux_net.proofs.FreeLemmas.{free_append, along_free, silent_free, nullable_call}
+use Rattle.ux_net.proofs.StepsLemmas.{step_inside, step_plain, start_inside, target_from}
 use Rattle.ux_net.proofs.MarksLemmas.{ends_nullable}
 use Rattle.ux_net.proofs.CyclesLemmas.{numbers_fall}
 use Rattle.ux_net.proofs.CutLemmas.{length-cut, entry_is, entry_below, row_length}
 
 rank_is : (graphs : List (List Place)) (numbers : List ℕ) (g n : ℕ) →
     n < length (places_of graphs g) →
-    rank_at (cut graphs numbers) g n ≡ get_or numbers (number_of graphs g n) 0
+    place_rank (cut graphs numbers) g n ≡ get_or numbers (number_of graphs g n) 0
 rank_is graphs numbers zero n h = absurd (omega (arith, h))
-rank_is graphs numbers (suc k) n h =
-    let e : suc k - 1 ≡ k = omega arith in
-    rw e (entry_is graphs numbers k n 0 h)
+rank_is graphs numbers (suc k) n h = entry_is graphs numbers k n 0 h
 
 free_is : (graphs : List (List Place)) (marks : List Bool) (g n : ℕ) →
     n < length (places_of graphs g) →
-    is_free_at (cut graphs marks) g n ≡ get_or marks (number_of graphs g n) false
+    is_place_free (cut graphs marks) g n ≡ get_or marks (number_of graphs g n) false
 free_is graphs marks zero n h = absurd (omega (arith, h))
-free_is graphs marks (suc k) n h =
-    let e : suc k - 1 ≡ k = omega arith in
-    rw e (entry_is graphs marks k n false h)
+free_is graphs marks (suc k) n h = entry_is graphs marks k n false h
 
 -- a list with an entry for each place has rows with one
 rows_are : {A : Type 0} (graphs : List (List Place)) (items : List A) →
@@ -56,11 +52,11 @@ module _ (graphs : List (List Place)) (fit : All (IsFit (length graphs)) graphs)
     (no_recursion : (g node : ℕ) → IsLeftRecursive (place_grammar graphs) g node → ⊥) where
   -- a place that leads freely to an end is marked
   ends_marked : (g a : ℕ) → a < length (places_of graphs g) → EndsFreely graphs g a →
-      is_free_at (cut graphs marks) g a ≡ true
+      is_place_free (cut graphs marks) g a ≡ true
   ends_marked g a h e = free_is graphs marks g a h ∙ (marked.marked g a h).1 e
 
   marked_ends : (g a : ℕ) → a < length (places_of graphs g) →
-      is_free_at (cut graphs marks) g a ≡ true → EndsFreely graphs g a
+      is_place_free (cut graphs marks) g a ≡ true → EndsFreely graphs g a
   marked_ends g a h e = (marked.marked g a h).0 (sym (free_is graphs marks g a h) ∙ e)
 
   lower : (g : ℕ) (s : Step) → IsPlaceStep (places_of graphs g) s →
@@ -85,16 +81,17 @@ module _ (graphs : List (List Place)) (fit : All (IsFit (length graphs)) graphs)
             let e = marked_ends g s.to inside.1 m in
             ends_marked g s.from inside.0 (record {
               last = e.last;
-              word = letters s.labels ++ e.word;
+              word = (put_by s ++ letters s.labels) ++ e.word;
               ends = e.ends;
-              run = along s i e.run;
-              free = free_append (place_grammar graphs) f e.free;
+              run = along s i (step_plain graphs fit g s i) e.run;
+              free =
+                  free_append (place_grammar graphs) (along_free (place_grammar graphs) s f) e.free;
             });
       }
 
   enters_lower : (g h : ℕ) (s : Step) → IsPlaceStep (places_of graphs g) s →
       s.labels ≡ Call h ∷ [] →
-      rank_at (cut graphs numbers) h 0 < rank_at (cut graphs numbers) g s.from
+      place_rank (cut graphs numbers) h 0 < place_rank (cut graphs numbers) g s.from
   enters_lower g h s i c =
       let inside = step_inside (places_of graphs g) s i in
       let start = start_inside graphs fit g h s i c in
@@ -121,12 +118,16 @@ module _ (graphs : List (List Place)) (fit : All (IsFit (length graphs)) graphs)
         | inr p ↦ let b = get_or_past numbers u 0 (omega arith) in omega arith
       ]
 
+  ranks_below : (g n : ℕ) → place_rank (cut graphs numbers) g n ≤ all_places graphs
+  ranks_below zero n = omega arith
+  ranks_below (suc k) n = entry_below graphs numbers (all_places graphs) numbers_below k n
+
   pub ranks_are : ArePlaceRanks graphs (cut graphs numbers) (cut graphs marks)
   ranks_are = record {
     ranked = rows_are graphs numbers (numbered.components.len ∙ numbered.all.len);
     marked = rows_are graphs marks marked.len;
-    below = λ g n. entry_below graphs numbers (all_places graphs) numbers_below (g - 1) n;
-    still = λ g s i st. lower g s i (still_free (place_grammar graphs) s.labels st);
+    below = ranks_below;
+    silent = λ g s i st. lower g s i (silent_free (place_grammar graphs) s.labels st);
     calls = λ g h s i c. (
       enters_lower g h s i c,
       λ m.

@@ -1,5 +1,5 @@
 -- The net that is built of the places: its names, its states and its words.
-use Rattle.std.proofs.Common.{arith, ◌≡◌, ℕ, zero, suc, ◌<◌, ◌≤◌, List, [], refl, sym, ◌∙◌, ap, subst, Bool, ◌⊎◌, inl, inr, length, get_or, map, None, Some}
+use Rattle.std.proofs.Common.{arith, ◌≡◌, ℕ, zero, suc, ◌<◌, ◌≤◌, List, [], refl, sym, ◌∙◌, ap, subst, Bool, ◌⊎◌, inl, inr, length, get_or, map, None, Some, true}
 use Rattle.std.specs.Prelude.{slice_get}
 use Rattle.std.specs.Option.{option_map}
 use Rattle.std.proofs.lemmas.Option.{slice_get_cases, slice_get-map, slice_get_within, slice_get_past}
@@ -8,15 +8,17 @@ use Rattle.ux_base.specs.Distinct.{StandOnce}
 use Rattle.ux_net.specs.declared.net_graph.NetGraph.{NetGraph}
 use Rattle.ux_net.specs.declared.place.Place.{Place}
 use Rattle.ux_net.specs.declared.state.State.{State}
-use Rattle.ux_net.specs.Boxes.{Drawn, boxes_of, names_of, box_graph, box_grammar}
+use Rattle.ux_net.specs.Boxes.{Drawn, names_of, box_grammar}
 use Rattle.ux_net.specs.Compiling.{AreSplit, IsConstructedOf, IsConstructed}
-use Rattle.ux_net.specs.Nets.{graph_at, states_in, net_graph}
+use Rattle.ux_net.specs.Nets.{graph_at, states_in, net_graph, net_grammar}
 use Rattle.ux_net.specs.Nets.{states_of as net_states}
-use Rattle.ux_net.specs.Places.{places_in, places_of, place_graph}
+use Rattle.ux_net.specs.Places.{places_in, places_of, is_reached, reached_in, place_grammar}
 use Rattle.ux_net.specs.Ranks.{AreAllFit, AreBuilt}
-use Rattle.ux_net.specs.Words.{HaveSameWords}
-use Rattle.ux_net.proofs.ConstructLaw.{construction_keeps_words}
-use Rattle.ux_net.proofs.SameGrammar.{word_within}
+use Rattle.ux_net.specs.Refusing.{AreCompiled}
+use Rattle.ux_net.specs.Words.{SayTheSame}
+use Rattle.ux_net.proofs.ConstructLaw.{number_in, construction_same}
+use Rattle.ux_net.proofs.RefineLemmas.{IsSame, each_same}
+use Rattle.ux_net.proofs.SameGrammar.{say_within}
 use Rattle.ux_net.proofs.SplitLemmas.{none_there, to_places, to_boxes}
 use Rattle.ux_net.proofs.StepsLemmas.{target_from}
 
@@ -43,49 +45,55 @@ module _ (alphabet : Letters) (graphs : List Drawn) (places : List (List Place))
       IsConstructed alphabet graphs net
   constructed names = record { count = made.count ∙ are.count; each = constructed_of names }
 
--- without places and states there is no word
-none_words : (places : List Place) (states : List State) → places ≡ [] → states ≡ [] →
-    HaveSameWords (place_graph places) (net_graph states)
-none_words places states no_place no_state word = (
-  λ w. absurd (none_there places w.last no_place (target_from places w.last 1 w.ends.1)),
-  λ w.
-      let inside = slice_get_within states w.last w.ends.state w.ends.found in
-      let len = ap (λ (l : List State). length l) no_state in
-      absurd (omega (arith, inside, len)),
-)
-
 module _ (places : List (List Place)) (ranks : List (List ℕ)) (free : List (List Bool))
     (net : List NetGraph) (fit : AreAllFit places) (made : AreBuilt places ranks free net) where
-  -- each graph of the net has the words of its places
-  place_words : (g : ℕ) →
-      HaveSameWords (place_graph (places_of places g)) (net_graph (net_states net g))
-  place_words zero = none_words [] [] refl refl
-  place_words (suc n) = by (slice_get_cases net n).1
+  -- without places and states there is no word and no body
+  none_same : (g : ℕ) (states : List State) → places_of places g ≡ [] → states ≡ [] →
+      IsSame (place_grammar places) (number_in places) g (net_graph states)
+  none_same g states no_place no_state = record {
+    words = λ v w. absurd (none_there (places_of places g) w.last no_place
+        (target_from (places_of places g) w.last 1 w.ends.1));
+    words_back = λ w word.
+        let inside = slice_get_within states word.last word.ends.state word.ends.found in
+        let len = ap (λ (l : List State). length l) no_state in
+        absurd (omega (arith, inside, len));
+    bodies = λ opening closing a b v body. absurd (no_place_at opening a.1);
+    bodies_back = λ opening closing a b w body. absurd (no_place_at opening a.1);
+  }
+    where
+      no_place_at : (n : ℕ) → is_reached (places_of places g) n ≡ true → ⊥
+      no_place_at n on =
+          let off = ap reached_in (slice_get_past (places_of places g) n
+          (rw no_place (omega arith))) in cc
+
+  -- each graph of the net says the same as its places
+  place_same : (g : ℕ) →
+      IsSame (place_grammar places) (number_in places) g (net_graph (net_states net g))
+  place_same zero = none_same 0 [] refl refl
+  place_same (suc n) = by (slice_get_cases net n).1
     where
       by : ((x : NetGraph) × (n < length net) × (slice_get net n ≡ Some x) × (get_or net n x ≡ x))
           ⊎ ((length net ≤ n) × (slice_get net n ≡ None)) →
-          HaveSameWords (place_graph (places_of places (suc n))) (net_graph (net_states net (suc n)))
+          IsSame (place_grammar places) (number_in places) (suc n)
+          (net_graph (net_states net (suc n)))
       by (inl h) =
           subst (λ (s : List State).
-          HaveSameWords (place_graph (places_of places (suc n))) (net_graph s))
+          IsSame (place_grammar places) (number_in places) (suc n) (net_graph s))
           (sym (ap states_in h.2 ∙ (made.each (suc n) h.0 h.2).states))
-          (construction_keeps_words (places_of places (suc n)) (fit (suc n) (omega arith)
+          (construction_same places (suc n) (fit (suc n) (omega arith)
           (let lt = h.1 in let c = made.count in omega (arith, lt, c))))
       by (inr past) =
-          none_words (places_of places (suc n)) (net_states net (suc n))
+          none_same (suc n) (net_states net (suc n))
           (ap places_in (slice_get_past places n
           (let p = past.0 in let c = made.count in omega (arith, p, c))))
           (ap states_in past.1)
 
-  -- and so those of its boxes
-  pub box_words : (alphabet : Letters) (graphs : List Drawn) → StandOnce (names_of graphs) →
-      AreSplit alphabet graphs places → (g : ℕ) →
-      HaveSameWords ((box_grammar alphabet graphs).graph g) (net_graph (net_states net g))
-  box_words alphabet graphs once are g word =
-      let boxes = box_graph alphabet (names_of graphs) (boxes_of graphs g) in
-      let of_places = place_graph (places_of places g) in (
-        λ w. (place_words g word).0
-            (word_within boxes of_places (to_places alphabet graphs places once are g) word w),
-        λ w. word_within of_places boxes (to_boxes alphabet graphs places once are g) word
-            ((place_words g word).1 w),
-      )
+  -- and so the net says the same as the boxes
+  pub boxes_same : (alphabet : Letters) (graphs : List Drawn) → StandOnce (names_of graphs) →
+      AreSplit alphabet graphs places → AreCompiled graphs →
+      SayTheSame (box_grammar alphabet graphs) (net_grammar net)
+  boxes_same alphabet graphs once are compiled =
+      say_within (box_grammar alphabet graphs) (place_grammar places) (net_grammar net)
+      (to_places alphabet graphs places once are compiled)
+      (to_boxes alphabet graphs places once are compiled)
+      (each_same (place_grammar places) (number_in places) (net_grammar net) place_same)

@@ -12,14 +12,15 @@ use Rattle.ux_alphabet.specs.Letters.{Letters}
 use Rattle.ux_grf.specs.declared.graph.GrfBox.{GrfBox}
 use Rattle.ux_grf.specs.declared.item.Item.{Item}
 use Rattle.ux_grf.specs.declared.item.Item.TheVariants as item
-use Rattle.ux_grf.proofs.CallsLemmas.{called_names-Contains}
+use Rattle.ux_grf.proofs.CallsLemmas.{calls_of-Contains}
 use Rattle.ux_net.specs.declared.net_graph.NetGraph.{NetGraph}
 use Rattle.ux_net.specs.declared.place.Place.{Place}
 use Rattle.ux_net.specs.Boxes.{Drawn, boxes_of, names_of}
 use Rattle.ux_net.specs.Compiling.{AreSplit}
 use Rattle.ux_net.specs.Nets.{graph_at}
 use Rattle.ux_net.specs.Places.{ArePlaces, places_of}
-use Rattle.ux_net.specs.Ranks.{ranks_of, frees_of, IsBuilt, AreBuilt}
+use Rattle.ux_net.specs.Admission.{row_at}
+use Rattle.ux_net.specs.Ranks.{IsBuilt, AreBuilt}
 use Rattle.ux_net.specs.Refusing.{drawn_of, drawn, is_named, is_beyond, has_beyond_line, has_beyond, HasNoBeyond, AreCompiled, AreWhole, calls_in, calls_of}
 use Rattle.ux_net.specs.Splitting.{IsSplittable, IsSplittableBox}
 use Rattle.ux_net.proofs.NumbersLemmas.{places_at}
@@ -97,14 +98,6 @@ pub record AreBuiltTo (graphs : List Given) (places : List (List Place)) (ranks 
 
 module _ (graphs : List Given) (places : List (List Place)) (ranks : List (List ℕ))
     (free : List (List Bool)) where
-  pub built_start : AreBuiltTo graphs places ranks free [] 0
-  built_start = record {
-    count = refl;
-    each = λ n graph found.
-        let w = slice_get_within [] n graph found in absurd (omega (arith, w));
-    names = refl;
-  }
-
   -- one graph more
   pub built_more : (net : List NetGraph) (i : ℕ) (graph : Given) (one : NetGraph) →
       i < length graphs → graph ≡ get_or graphs i graph →
@@ -141,7 +134,7 @@ module _ (graphs : List Given) (places : List (List Place)) (ranks : List (List 
   }
     where
       each : (g : ℕ) (graph : NetGraph) → graph_at net g ≡ Some graph →
-          IsBuilt (places_of places g) (ranks_of ranks g) (frees_of free g) graph
+          IsBuilt (places_of places g) (row_at ranks g) (row_at free g) graph
       each zero graph found = cc
       each (suc n) graph found = so_far.each n graph found
 
@@ -180,7 +173,7 @@ splittable names item.ContextEnd b there = cc
 splittable names item.Cut b there = cc
 
 -- where no element passes a test, each fails it
-none_passes : {A : Type 0} (p : A → Bool) (xs : List A) (x : A) → list_any p xs ≡ false →
+pub none_passes : {A : Type 0} (p : A → Bool) (xs : List A) (x : A) → list_any p xs ≡ false →
     Contains xs x → p x ≡ false
 none_passes p xs x none (k, lt, is) = by (p x) refl
   where
@@ -192,7 +185,7 @@ none_passes p xs x none (k, lt, is) = by (p x) refl
         absurd cc
 
 -- of two tests neither of which passes, the first doesn't
-first_fails : (a b : Bool) → (a || b) ≡ false → a ≡ false
+pub first_fails : (a b : Bool) → (a || b) ≡ false → a ≡ false
 first_fails false b h = refl
 first_fails true b h = cc
 
@@ -225,7 +218,7 @@ module _ (graphs : List Given) (whole : AreWhole (drawn graphs))
           here of_graph)) of_box) of_line)
           (λ name call. whole n name
           (subst (λ (l : List (List ℕ)). Contains l name) (sym calls_at)
-          ((called_names-Contains (record { boxes = graph.1.boxes }) name).1
+          ((calls_of-Contains (record { boxes = graph.1.boxes }) name).1
           (box, line, of_graph, of_box, subst (λ (y : Item). Contains line y) call of_line))))
         where
           at : slice_get (drawn graphs) n ≡ Some (drawn_of graph)

@@ -1,20 +1,23 @@
--- The states that are made of places have the words of the places, and their edges stay inside.
+-- The states that are made of places say the same as the places, and their edges stay inside.
 use Rattle.std.proofs.Common.{arith, ◌≡◌, ◌≢◌, ℕ, zero, suc, ◌+◌, ◌-◌, ◌<◌, ◌≤◌, List, [], ◌∷◌, ◌++◌, refl, sym, ◌∙◌, ap, subst, ◌⊎◌, inl, inr, length, append-nil, get_or, drop, drop-cons, Bool, true, false, cond, add-one, rules}
-use Rattle.std.specs.Prelude.{Some, slice_get, Contains, ltb, nat_eq, ◌||◌}
+use Rattle.std.specs.Prelude.{Some, slice_get, Contains, ltb, nat_eq, ◌||◌, map, All}
 use Rattle.std.specs.List.{range_with_len, list_any, flat_map}
 use Rattle.std.proofs.lemmas.Option.{same_Some, slice_get_within, slice_get-get_or}
 use Rattle.std.proofs.lemmas.Bool.{eqb-true}
+use Rattle.std.proofs.lemmas.List.Elements.{All-nil, All-cons, All-contains, Contains-get_or}
+use Rattle.ux_grf.specs.declared.item.Piece.{Piece}
 use Rattle.ux_net.specs.declared.label.Label.{Label}
 use Rattle.ux_net.specs.declared.label.Label.TheVariants.{Empty}
 use Rattle.ux_net.specs.declared.place.Place.{Place}
 use Rattle.ux_net.specs.declared.state.Edge.{Edge}
 use Rattle.ux_net.specs.declared.state.State.{State}
-use Rattle.ux_net.specs.Words.{Step, StepGraph, letter_of, letters, Run, stop, along, HaveSameWords}
-use Rattle.ux_net.specs.Places.{label_lines, place_targets, IsPlaceStep, IsEndPlace, place_graph}
-use Rattle.ux_net.specs.Nets.{IsNetStep, IsNetEnd, net_graph}
-use Rattle.ux_net.specs.Construct.{labels_in, has_state, number, labels_at, chain_len, first_chain, target_of, edge_of, edges_to, place_state, chain_state, at_place, along_lines, states_of, AreFit, AreTargetsInside}
+use Rattle.ux_net.specs.Words.{Step, StepGraph, Letter, piece, ordinary, mark_of, letter_of, letters, Run, stop, along}
+use Rattle.ux_net.specs.Places.{label_lines, place_targets, is_reached, places_of, IsPlaceStep, IsEndPlace, place_grammar}
+use Rattle.ux_net.specs.Nets.{IsNetStep, IsNetEnd, net_graph, IsPlain}
+use Rattle.ux_net.specs.Construct.{labels_in, has_state, number, labels_at, chain_len, first_chain, target_of, edge_of, edges_to, place_state, chain_state, at_place, along_lines, by_state, states_of, AreFit, AreTargetsInside}
 use Rattle.ux_net.proofs.JoinedLemmas.{less_or, nothing_in, first_or_later, contains_first, contains_later, contains_joined, contained_joined, contains_mapped, contained_mapped, contains_range, contained_range}
-use Rattle.ux_net.proofs.RefineLemmas.{Refines, same_words}
+use Rattle.ux_net.proofs.FreeLemmas.{plain_ordinary}
+use Rattle.ux_net.proofs.RefineLemmas.{letters_along, IsSame, Refines, refined_same}
 use Rattle.ux_net.proofs.StatesLemmas.{total, total_few, line_there, line_some, place_inside, get_place, get_chain, length_by_state, Stands, of_a_place, of_a_line, stands}
 
 -- tests
@@ -74,6 +77,21 @@ module _ (places : List Place) (fit : AreFit places) where
   abbrev label : ℕ → ℕ → ℕ → Label
   label b l k = get_or (labels_at places b l) k Empty
 
+  -- the labels of a line are plain
+  label_plain : (b l k : ℕ) → l < length (lines_of b) → k < length (labels_at places b l) →
+      IsPlain (label b l k)
+  label_plain b l k at lt =
+      All-contains IsPlain (labels_at places b l) (label b l k)
+      (All-contains (All IsPlain) (label_lines places b) (labels_at places b l) (fit.plain b)
+      (line_there places b l at)) (Contains-get_or (labels_at places b l) k Empty lt)
+
+  label_ordinary : (x : Label) → IsPlain x → mark_of (x ∷ []) ≡ ordinary
+  label_ordinary x is = plain_ordinary (x ∷ []) (All-cons IsPlain x [] is (All-nil IsPlain))
+
+  place_ordinary : (s : Step) → IsPlaceStep places s → mark_of s.labels ≡ ordinary
+  place_ordinary s step = plain_ordinary s.labels
+      (All-contains (All IsPlain) (label_lines places s.to) s.labels (fit.plain s.to) step.line)
+
   -- a place with a line has a state
   pub has_line : (b l : ℕ) → l < length (lines_of b) → has_state places b ≡ true
   has_line b l at = go (has_state places b) refl
@@ -95,7 +113,7 @@ module _ (places : List Place) (fit : AreFit places) where
   starts = fit.start
 
   -- where a chain state stands, and the letters from there to its place
-  record InChain (n b : ℕ) (u : List Label) : Type 0 where
+  record InChain (n b : ℕ) (u : List Letter) : Type 0 where
     pub line : ℕ
     pub inside : line < length (lines_of b)
     pub k : ℕ
@@ -103,7 +121,7 @@ module _ (places : List Place) (fit : AreFit places) where
     pub at : n ≡ first_chain places b line + k
     pub rest : u ≡ letters (drop (k + 1) (labels_at places b line))
 
-  abbrev Ahead : ℕ → ℕ → List Label → Type 0
+  abbrev Ahead : ℕ → ℕ → List Letter → Type 0
   Ahead n b u = (has_state places b ≡ true) × (((n ≡ number places b) × (u ≡ [])) ⊎ InChain n b u)
 
   -- behind a label of a line the letters of its later labels lie ahead
@@ -135,15 +153,20 @@ module _ (places : List Place) (fit : AreFit places) where
   -- a step along label k of a line
   record AlongLabel (t : Step) (b l k : ℕ) : Type 0 where
     to : t.to ≡ target_of places b l k
+    output : t.output ≡ []
     labels : t.labels ≡ label b l k ∷ []
+
+  no_output : (t : Step) → t.output ≡ [] → letters_along t ≡ letters t.labels
+  no_output t none = ap (λ (o : List Piece). map piece o ++ letters t.labels) none
 
   step_letters : (t : Step) (b l k : ℕ) → AlongLabel t b l k → k < length (labels_at places b l) →
       letters (drop k (labels_at places b l))
-      ≡ letters t.labels ++ letters (drop (k + 1) (labels_at places b l))
+      ≡ letters_along t ++ letters (drop (k + 1) (labels_at places b l))
   step_letters t b l k step lt =
       letters_more (labels_at places b l) k lt
       ∙ ap (λ x. x ++ letters (drop (k + 1) (labels_at places b l)))
-      (sym (ap letters step.labels ∙ append-nil (letter_of (label b l k))))
+      (sym (no_output t step.output
+      ∙ (ap letters step.labels ∙ append-nil (letter_of (label b l k)))))
 
   step_behind : (t : Step) (b l k : ℕ) → AlongLabel t b l k → l < length (lines_of b) →
       k < length (labels_at places b l) →
@@ -153,9 +176,10 @@ module _ (places : List Place) (fit : AreFit places) where
       (behind b l k at lt)
 
   along_edge : (t : Step) (b l k : ℕ) (edge : Edge) → edge_of places b l k ≡ edge →
-      t.to ≡ edge.target → t.labels ≡ edge.label ∷ [] → AlongLabel t b l k
-  along_edge t b l k edge is to labels = record {
+      t.to ≡ edge.target → t.output ≡ [] → t.labels ≡ edge.label ∷ [] → AlongLabel t b l k
+  along_edge t b l k edge is to output labels = record {
     to = to ∙ ap (λ (e : Edge). e.target) (sym is);
+    output = output;
     labels = labels ∙ ap (λ (e : Edge). e.label ∷ []) (sym is);
   }
 
@@ -196,13 +220,15 @@ module _ (places : List Place) (fit : AreFit places) where
       (place_inside places b (has_line b l at)) at lt))
 
   -- from where the edge of label k begins, the letters from there lead to the place
-  edge_run : (m b l k n : ℕ) (state : State) → l < length (lines_of b) →
+  edge_run : (g m b l k n : ℕ) (state : State) → l < length (lines_of b) →
       k + 1 + m ≡ length (labels_at places b l) → slice_get (states_of places) n ≡ Some state →
       Contains state.edges (edge_of places b l k) →
-      Run new n (number places b) (letters (drop k (labels_at places b l)))
-  edge_run zero b l k n state at e found inside =
-      let t : Step = record { from = n; to = target_of places b l k; labels = label b l k ∷ [] } in
-      let along_label : AlongLabel t b l k = record { to = refl; labels = refl } in
+      Run g new n (number places b) (letters (drop k (labels_at places b l)))
+  edge_run g zero b l k n state at e found inside =
+      let t : Step =
+      record { from = n; to = target_of places b l k; output = []; labels = label b l k ∷ [] } in
+      let along_label : AlongLabel t b l k =
+      record { to = refl; output = refl; labels = refl } in
       let step : IsNetStep (states_of places) t = record {
         state = state;
         found = found;
@@ -210,7 +236,9 @@ module _ (places : List Place) (fit : AreFit places) where
         inside = inside;
         to = refl;
         label = refl;
+        puts = refl;
       } in
+      let mark = label_ordinary (label b l k) (label_plain b l k at (omega arith)) in
       let to : target_of places b l k ≡ number places b =
       lt_else (k + 1) (length (labels_at places b l)) (first_chain places b l + k)
       (number places b) (omega arith) in
@@ -219,11 +247,13 @@ module _ (places : List Place) (fit : AreFit places) where
       let word : letters t.labels ++ [] ≡ letters (drop k (labels_at places b l)) =
       ap (λ x. letters t.labels ++ x) (sym none)
       ∙ sym (step_letters t b l k along_label (omega arith)) in
-      subst (λ w. Run new n (number places b) w) word
-      (along t step (subst (λ m. Run new m (number places b) []) (sym to) stop))
-  edge_run (suc m) b l k n state at e found inside =
-      let t : Step = record { from = n; to = target_of places b l k; labels = label b l k ∷ [] } in
-      let along_label : AlongLabel t b l k = record { to = refl; labels = refl } in
+      subst (λ w. Run g new n (number places b) w) word
+      (along t step mark (subst (λ m. Run g new m (number places b) []) (sym to) stop))
+  edge_run g (suc m) b l k n state at e found inside =
+      let t : Step =
+      record { from = n; to = target_of places b l k; output = []; labels = label b l k ∷ [] } in
+      let along_label : AlongLabel t b l k =
+      record { to = refl; output = refl; labels = refl } in
       let step : IsNetStep (states_of places) t = record {
         state = state;
         found = found;
@@ -231,68 +261,75 @@ module _ (places : List Place) (fit : AreFit places) where
         inside = inside;
         to = refl;
         label = refl;
+        puts = refl;
       } in
+      let mark = label_ordinary (label b l k) (label_plain b l k at (omega arith)) in
       let to : target_of places b l k ≡ first_chain places b l + k =
       lt_then (k + 1) (length (labels_at places b l)) (first_chain places b l + k)
       (number places b) (omega arith) in
       let there = get_chain places (place_state places) (chain_state places) b l k
       (place_inside places b (has_line b l at)) at (omega arith) in
-      let later : Run new (first_chain places b l + k) (number places b)
+      let later : Run g new (first_chain places b l + k) (number places b)
       (letters (drop (k + 1) (labels_at places b l))) =
-      edge_run m b l (k + 1) (first_chain places b l + k) (chain_state places b l k) at
+      edge_run g m b l (k + 1) (first_chain places b l + k) (chain_state places b l k) at
       (omega arith) there (contains_first (edge_of places b l (k + 1)) []) in
-      subst (λ w. Run new n (number places b) w)
+      subst (λ w. Run g new n (number places b) w)
       (sym (step_letters t b l k along_label (omega arith)))
-      (along t step (subst (λ i. Run new i (number places b)
+      (along t step mark (subst (λ i. Run g new i (number places b)
       (letters (drop (k + 1) (labels_at places b l)))) (sym to) later))
 
-  forth : (s : Step) → has_state places s.from ≡ true → IsPlaceStep places s →
-      Run new (number places s.from) (number places s.to) (letters s.labels)
-  forth s has step =
+  forth : (g : ℕ) (s : Step) → has_state places s.from ≡ true → IsPlaceStep places s →
+      Run g new (number places s.from) (number places s.to) (letters_along s)
+  forth g s has step =
       let l = line_number places s.to s.labels step.line in
       let some = line_some places fit s.to l.0 l.1 in
-      subst (λ (line : List Label).
-      Run new (number places s.from) (number places s.to) (letters line))
-      l.2
-      (edge_run (length (labels_at places s.to l.0) - 1) s.to l.0 0 (number places s.from)
+      subst (λ w. Run g new (number places s.from) (number places s.to) w)
+      (ap letters l.2 ∙ sym (no_output s step.puts))
+      (edge_run g (length (labels_at places s.to l.0) - 1) s.to l.0 0 (number places s.from)
       (place_state places s.from) l.1 (omega arith)
       (get_place places (place_state places) (chain_state places) s.from has)
       (to_target s.from s.to l.0 step.leads l.1))
 
-  abbrev Back : Step → ℕ → List Label → Type 0
-  Back t b u = ((v : List Label) × Ahead t.to b v × (u ≡ letters t.labels ++ v))
-      ⊎ ((u ≡ []) × (s : Step) × IsPlaceStep places s × (s.from ≡ b)
-      × (v : List Label) × Ahead t.to s.to v × (letters s.labels ≡ letters t.labels ++ v))
+  abbrev Back : Step → ℕ → List Letter → Type 0
+  Back t b u = ((v : List Letter) × Ahead t.to b v × (u ≡ letters_along t ++ v))
+      ⊎ ((u ≡ []) × (s : Step) × IsPlaceStep places s × (mark_of s.labels ≡ ordinary)
+      × (s.from ≡ b) × (v : List Letter) × Ahead t.to s.to v
+      × (letters_along s ≡ letters_along t ++ v))
 
-  back_place : (t : Step) (a : ℕ) (u : List Label) → has_state places a ≡ true →
+  back_place : (t : Step) (a : ℕ) (u : List Letter) → has_state places a ≡ true →
       IsNetStep (states_of places) t → t.from ≡ number places a → u ≡ [] → Back t a u
   back_place t a u has step from none =
       let same = place_is a t.from step.state has from step.found in
       let e = of_target a step.edge
       (subst (λ (x : State). Contains x.edges step.edge) same step.inside) in
-      let label = along_edge t e.0 e.2 0 step.edge e.4 step.to step.label in
+      let label = along_edge t e.0 e.2 0 step.edge e.4 step.to step.puts step.label in
       let some = line_some places fit e.0 e.2 e.3 in
+      let s : Step =
+      record { from = a; to = e.0; output = []; labels = labels_at places e.0 e.2 } in
+      let old : IsPlaceStep places s = record {
+        before_end = not_end a has;
+        leads = e.1;
+        line = line_there places e.0 e.2 e.3;
+        puts = refl;
+      } in
       inr (
         none,
-        record { from = a; to = e.0; labels = labels_at places e.0 e.2 },
-        record {
-          before_end = not_end a has;
-          leads = e.1;
-          line = line_there places e.0 e.2 e.3;
-        },
+        s,
+        old,
+        place_ordinary s old,
         refl,
         letters (drop (0 + 1) (labels_at places e.0 e.2)),
         step_behind t e.0 e.2 0 label e.3 some,
         step_letters t e.0 e.2 0 label some,
       )
 
-  back_chain : (t : Step) (b : ℕ) (u : List Label) → IsNetStep (states_of places) t →
+  back_chain : (t : Step) (b : ℕ) (u : List Letter) → IsNetStep (states_of places) t →
       InChain t.from b u → Back t b u
   back_chain t b u step c =
       let same = chain_is b c.line c.k t.from step.state c.inside c.more c.at step.found in
       let is = only_edge (edge_of places b c.line (c.k + 1)) step.edge
       (subst (λ (x : State). Contains x.edges step.edge) same step.inside) in
-      let label = along_edge t b c.line (c.k + 1) step.edge is step.to step.label in
+      let label = along_edge t b c.line (c.k + 1) step.edge is step.to step.puts step.label in
       let lt : c.k + 1 < length (labels_at places b c.line) = let m = c.more in omega arith in
       inl (
         letters (drop ((c.k + 1) + 1) (labels_at places b c.line)),
@@ -300,7 +337,7 @@ module _ (places : List Place) (fit : AreFit places) where
         c.rest ∙ step_letters t b c.line (c.k + 1) label lt,
       )
 
-  ending : (n b : ℕ) (u : List Label) → Ahead n b u → IsNetEnd (states_of places) n →
+  ending : (n b : ℕ) (u : List Letter) → Ahead n b u → IsNetEnd (states_of places) n →
       (u ≡ []) × IsEndPlace places b
   ending n b u ahead e = elim ahead.1 [
     | inl here ↦
@@ -311,32 +348,6 @@ module _ (places : List Place) (fit : AreFit places) where
         let same = chain_is b c.line c.k n e.state c.inside c.more c.at e.found in
         absurd (let f : false ≡ true = subst (λ (x : State). x.is_final ≡ true) same e.final in cc)
   ]
-
-  refines : Refines (number places) (λ a. has_state places a ≡ true) Ahead (place_graph places) new
-  refines = record {
-    start = starts;
-    keeps = λ s has step.
-        let l = line_number places s.to s.labels step.line in has_line s.to l.0 l.1;
-    here = λ a has. (has, inl (refl, refl));
-    starts = refl;
-    ends = λ a has e. record {
-      state = place_state places a;
-      found = get_place places (place_state places) (chain_state places) a has;
-      final = has_one (place_targets places a) e.1;
-    };
-    ends_back = λ n b u ahead e. ending n b u ahead e;
-    forth = forth;
-    back = λ t b u step ahead. elim ahead.1 [
-      | inl here ↦ back_place t b u ahead.0 step here.0 here.1
-      | inr c ↦ back_chain t b u step c
-    ];
-  }
-
-  -- the law: the states have the words of the places
-  pub construction_keeps_words : HaveSameWords (place_graph places) (net_graph (states_of places))
-  construction_keeps_words =
-      same_words (number places) (λ a. has_state places a ≡ true) Ahead (place_graph places) new
-      refines
 
   -- the list that the code makes in two parts
   pub built : (states front : List State) →
@@ -427,3 +438,87 @@ module _ (places : List Place) (fit : AreFit places) where
   targets_inside n state edge found inside =
       let o = of_label n state edge found inside in
       edge_inside o.place o.line o.k edge o.inside o.below o.is
+
+  -- each edge of a state has a plain label
+  pub edges_plain : (n : ℕ) (state : State) (edge : Edge) →
+      slice_get (states_of places) n ≡ Some state → Contains state.edges edge → IsPlain edge.label
+  edges_plain n state edge found inside =
+      let o = of_label n state edge found inside in
+      subst (λ (e : Edge). IsPlain e.label) o.is (label_plain o.place o.line o.k o.inside o.below)
+
+  net_ordinary : (t : Step) → IsNetStep (states_of places) t → mark_of t.labels ≡ ordinary
+  net_ordinary t step =
+      ap mark_of step.label
+      ∙ label_ordinary step.edge.label
+      (edges_plain t.from step.state step.edge step.found step.inside)
+
+  -- the places other than the end that are reached are those with a state
+  stateful : (a : ℕ) → (a ≢ 1) × (is_reached places a ≡ true) → has_state places a ≡ true
+  stateful a p = go (nat_eq a 1) refl
+    where
+      go : (t : Bool) → nat_eq a 1 ≡ t → has_state places a ≡ true
+      go true is = absurd (p.0 (eqb-true a 1 is))
+      go false is = ap (λ (t : Bool). cond t false (is_reached places a)) is ∙ p.1
+
+  placed : (a : ℕ) → has_state places a ≡ true → (a ≢ 1) × (is_reached places a ≡ true)
+  placed a has = (not_end a has, go (nat_eq a 1) refl)
+    where
+      go : (t : Bool) → nat_eq a 1 ≡ t → is_reached places a ≡ true
+      go true is = absurd (not_end a has (eqb-true a 1 is))
+      go false is = sym (ap (λ (t : Bool). cond t false (is_reached places a)) is) ∙ has
+
+  -- two places with a state have one number only if they are the same
+  number_once : (a b : ℕ) → has_state places a ≡ true → has_state places b ≡ true →
+      number places a ≡ number places b → a ≡ b
+  number_once a b has_a has_b same =
+      let itself : ℕ → ℕ = λ n. n in
+      let nothing : ℕ → ℕ → ℕ → ℕ = λ b l k. 0 in
+      same_Some a b (sym (get_place places itself nothing a has_a)
+      ∙ (ap (slice_get (by_state places itself nothing)) same
+      ∙ get_place places itself nothing b has_b))
+
+-- the number of a place is that of its state
+abbrev pub number_in : List (List Place) → (g place : ℕ) → ℕ
+number_in graphs g a = number (places_of graphs g) a
+
+module _ (graphs : List (List Place)) (g : ℕ) (fit : AreFit (places_of graphs g)) where
+  abbrev here : List Place
+  here = places_of graphs g
+
+  refines : Refines (place_grammar graphs) (number_in graphs) g (Ahead here fit)
+      (net_graph (states_of here))
+  refines = record {
+    start = placed here fit 0 (starts here fit);
+    keeps = λ s at step.
+        let l = line_number here s.to s.labels step.line in
+        placed here fit s.to (has_line here fit s.to l.0 l.1);
+    apart = λ a b at_a at_b same.
+        number_once here fit a b (stateful here fit a at_a) (stateful here fit b at_b) same;
+    here = λ a at. (stateful here fit a at, inl (refl, refl));
+    place = λ n b u ahead. placed here fit b ahead.0;
+    starts = refl;
+    ends = λ a at e. record {
+      state = place_state here a;
+      found = get_place here (place_state here) (chain_state here) a (stateful here fit a at);
+      final = has_one (place_targets here a) e.1;
+    };
+    ends_back = λ n b u ahead e. ending here fit n b u ahead e;
+    forth = λ s at step mark. forth here fit g s (stateful here fit s.from at) step;
+    forth_opens = λ s sign at step mark. let never = place_ordinary here fit s step in absurd cc;
+    forth_closes = λ s at step mark. let never = place_ordinary here fit s step in absurd cc;
+    back = λ t b u step mark ahead. elim ahead.1 [
+      | inl there ↦ back_place here fit t b u ahead.0 step there.0 there.1
+      | inr c ↦ back_chain here fit t b u step c
+    ];
+    back_opens = λ t sign b u step mark ahead.
+        let never = net_ordinary here fit t step in absurd cc;
+    back_closes = λ t b u step mark ahead.
+        let never = net_ordinary here fit t step in absurd cc;
+  }
+
+  -- the law: the states say the same as the places
+  pub construction_same : IsSame (place_grammar graphs) (number_in graphs) g
+      (net_graph (states_of here))
+  construction_same =
+      refined_same (place_grammar graphs) (number_in graphs) g (Ahead here fit)
+      (net_graph (states_of here)) refines

@@ -1,13 +1,12 @@
 -- Empty loops and left recursion are steps inside the components of the edges.
-use Rattle.std.proofs.Common.{arith, ◌≡◌, ℕ, ◌<◌, List, [], length, refl, ap, subst, sym, ◌∙◌, ◌⊎◌, inl, inr, ◌↔◌, get_or}
+use Rattle.std.proofs.Common.{arith, ◌≡◌, ℕ, ◌<◌, List, [], ◌++◌, length, refl, ap, subst, sym, ◌∙◌, ◌⊎◌, inl, inr, ◌↔◌, get_or}
 use Rattle.std.specs.Prelude.{Contains, All}
 use Rattle.ux_digraph.specs.Paths.{row_of, Path, Reaches, here, step, IsInside}
 use Rattle.ux_digraph.specs.Components.{AreComponents}
 use Rattle.ux_digraph.proofs.Lists.{same_or}
 use Rattle.ux_digraph.proofs.PathsLemmas.{edge_from, reaches_joined, reaches_then, path_apart}
-use Rattle.ux_net.specs.declared.label.Label.{Label}
 use Rattle.ux_net.specs.declared.place.Place.{Place}
-use Rattle.ux_net.specs.Words.{Step, Run, stop, along, letters}
+use Rattle.ux_net.specs.Words.{Step, Letter, Run, stop, along, across, letters, put_by}
 use Rattle.ux_net.specs.Places.{places_of, place_graph, place_grammar, IsPlaceStep}
 use Rattle.ux_net.specs.Fit.{IsFit}
 use Rattle.ux_net.specs.Admissible.{IsFree, none, LeadsFreely, Enters, EntersInTurns, once, IsOnEmptyLoop, IsLeftRecursive}
@@ -16,7 +15,7 @@ use Rattle.ux_net.specs.Ways.{IsFreeEdge, IsEntryEdge}
 use Rattle.ux_net.specs.Cycles.{AreFreeEdges, AreAllEdges, IsLoopStep, IsEntryStep}
 use Rattle.ux_net.proofs.NumbersLemmas.{same_place, place_so, number_below, graph_so}
 use Rattle.ux_net.proofs.FreeLemmas.{free_parts, leads_joined, step_leads}
-use Rattle.ux_net.proofs.StepsLemmas.{step_inside, step_line, start_inside, call_alone, back_run}
+use Rattle.ux_net.proofs.StepsLemmas.{step_inside, step_line, step_plain, start_inside, call_alone, back_run}
 
 module _ (edges : List (List ℕ)) where
   pub path_reaches : {u v : ℕ} → Path edges u v → Reaches edges u v
@@ -40,30 +39,35 @@ module _ (edges : List (List ℕ)) where
       | inr n ↦ path_reaches (components.joined u v i j e n).1
     ]
 
-module _ (graphs : List (List Place)) (edges : List (List ℕ))
-    (has : (u v : ℕ) → IsFreeEdge graphs u v → Contains (row_of edges u) v) where
-  run_reaches : (g : ℕ) {a b : ℕ} {word : List Label} →
-      Run (place_graph (places_of graphs g)) a b word → IsFree (place_grammar graphs) word →
+module _ (graphs : List (List Place)) (fit : All (IsFit (length graphs)) graphs)
+    (edges : List (List ℕ)) (has : (u v : ℕ) → IsFreeEdge graphs u v → Contains (row_of edges u) v) where
+  run_reaches : (g : ℕ) {a b : ℕ} {word : List Letter} →
+      Run g (place_graph (places_of graphs g)) a b word → IsFree (place_grammar graphs) word →
       Reaches edges (number_of graphs g a) (number_of graphs g b)
   run_reaches g stop f = here
-  run_reaches g (along {word = word} s i r) f =
-      let p = free_parts (place_grammar graphs) (letters s.labels) word f in
+  run_reaches g (along {word = word} s i m r) f =
+      let p = free_parts (place_grammar graphs) (put_by s ++ letters s.labels) word f in
+      let l = free_parts (place_grammar graphs) (put_by s) (letters s.labels) p.0 in
       step (has (number_of graphs g s.from) (number_of graphs g s.to) (record {
         graph = g;
         step = s;
         of_graph = i;
-        free = p.0;
+        free = l.1;
         from = refl;
         to = refl;
       })) (run_reaches g r p.1)
+  run_reaches g (across sign s t i m body j n r) f =
+      let never = step_plain graphs fit g s i in absurd cc
 
   pub leads_reaches : (g a b : ℕ) → LeadsFreely (place_grammar graphs) g a b →
       Reaches edges (number_of graphs g a) (number_of graphs g b)
   leads_reaches g a b l = run_reaches g l.1 l.2
 
-edge_leads : (graphs : List (List Place)) (u v : ℕ) (f : IsFreeEdge graphs u v) →
-    LeadsFreely (place_grammar graphs) f.graph f.step.from f.step.to
-edge_leads graphs u v f = step_leads (place_grammar graphs) f.graph f.step f.of_graph f.free
+edge_leads : (graphs : List (List Place)) → All (IsFit (length graphs)) graphs → (u v : ℕ)
+    (f : IsFreeEdge graphs u v) → LeadsFreely (place_grammar graphs) f.graph f.step.from f.step.to
+edge_leads graphs fit u v f =
+    step_leads (place_grammar graphs) f.graph f.step f.of_graph
+    (step_plain graphs fit f.graph f.step f.of_graph) f.free
 
 module _ (graphs : List (List Place)) (fit : All (IsFit (length graphs)) graphs) where
   -- a step that may take nothing, with a run back that may, is a loop
@@ -74,7 +78,7 @@ module _ (graphs : List (List Place)) (fit : All (IsFit (length graphs)) graphs)
   loop_at g s i f back =
       let inside = step_inside (places_of graphs g) s i in
       let here = graph_so (IsFit (length graphs)) graphs fit g s.from inside.0 in
-      let run = back_run (length graphs) (places_of graphs g) here s back.0 i back.1 in
+      let run = back_run g (length graphs) (places_of graphs g) here s back.0 i back.1 in
       record {
         word = run.0;
         reached = run.1;
@@ -101,7 +105,7 @@ module _ (graphs : List (List Place)) (fit : All (IsFit (length graphs)) graphs)
         place_so graphs (λ k n. (k ≡ h) × LeadsFreely (place_grammar graphs) k n b) g f.graph a
         f.step.from i inside.0 (sym ex ∙ f.from) (
           later.0,
-          leads_joined (place_grammar graphs) f.graph (edge_leads graphs u v f) later.1,
+          leads_joined (place_grammar graphs) f.graph (edge_leads graphs fit u v f) later.1,
         )
 
     pub free_inside : IsInside edges
@@ -123,7 +127,7 @@ module _ (graphs : List (List Place)) (fit : All (IsFit (length graphs)) graphs)
             let u = number_of graphs g o.step.from in
             let v = number_of graphs g o.step.to in
             let there : Reaches edges v u = subst (λ n. Reaches edges v (number_of graphs g n))
-            (sym o.begins) (leads_reaches graphs edges (λ u v f. (free_edges.edge u v).1 f) g
+            (sym o.begins) (leads_reaches graphs fit edges (λ u v f. (free_edges.edge u v).1 f) g
             o.step.to node o.back) in
             record {
               step = o.step;
@@ -172,7 +176,7 @@ module _ (graphs : List (List Place)) (fit : All (IsFit (length graphs)) graphs)
     free_reaches : (g a b : ℕ) → LeadsFreely (place_grammar graphs) g a b →
         Reaches edges (number_of graphs g a) (number_of graphs g b)
     free_reaches g a b l =
-        leads_reaches graphs edges (λ u v f. (all_edges.edge u v).1 (inl f)) g a b l
+        leads_reaches graphs fit edges (λ u v f. (all_edges.edge u v).1 (inl f)) g a b l
 
     -- a call before a token is an entering edge
     enters_edge : (g h node : ℕ) (e : Enters (place_grammar graphs) g h node) →
@@ -235,7 +239,7 @@ module _ (graphs : List (List Place)) (fit : All (IsFit (length graphs)) graphs)
           place_so graphs (λ k n. ((k ≡ g) ⊎ EntersInTurns (place_grammar graphs) k g)
           × LeadsFreely (place_grammar graphs) g 0 a) h f.graph b f.step.from i inside.0 at
           (split p f.graph g f.step.to a inside.1 j f.to ey
-          (leads_joined (place_grammar graphs) f.graph leads (edge_leads graphs u v f)))
+          (leads_joined (place_grammar graphs) f.graph leads (edge_leads graphs fit u v f)))
       | inr t ↦
           let inside = step_inside (places_of graphs t.graph) t.step t.of_graph in
           let at = sym ex ∙ t.from in
@@ -336,7 +340,7 @@ module _ (graphs : List (List Place)) (fit : All (IsFit (length graphs)) graphs)
                   (elim (cut r f.graph h f.step.to b inside.1 j f.to ey) [
                     | inl l ↦ inl (
                       l.0,
-                      leads_joined (place_grammar graphs) f.graph (edge_leads graphs u v f) l.1,
+                      leads_joined (place_grammar graphs) f.graph (edge_leads graphs fit u v f) l.1,
                     )
                     | inr c ↦ inr (c.0, c.1, c.2, step e c.3, c.4)
                   ])

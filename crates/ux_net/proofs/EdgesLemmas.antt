@@ -17,14 +17,14 @@ use Rattle.ux_net.specs.Ways.{CallsAt, IsWay, AreWays, AreFreeMarks, IsOpen, IsF
 use Rattle.ux_net.specs.Cycles.{IsLoopStep, IsEntryStep, AreFreeEdges, AreAllEdges}
 use Rattle.ux_net.specs.Gains.{Gains, SoOfOne}
 use Rattle.ux_net.specs.Spots.{IsFreePair, IsEntryPair, IsLoopSpot, IsEntrySpot}
-use Rattle.ux_net.proofs.FreeLemmas.{free_still, call_nullable}
-use Rattle.ux_net.proofs.StepsLemmas.{step_inside, step_line, start_inside}
+use Rattle.ux_net.proofs.FreeLemmas.{free_silent, call_nullable}
+use Rattle.ux_net.proofs.StepsLemmas.{step_inside, step_cases, start_inside}
 use Rattle.ux_net.proofs.NumbersLemmas.{number_below}
 use Rattle.ux_net.proofs.GainsLemmas.{gains_all}
 use Rattle.ux_net.proofs.MarksLemmas.{is_way, line_free, nullable_ends}
 
 way_step : (way : Way) → List Label → Step
-way_step way line = record { from = way.source; to = way.target; labels = line }
+way_step way line = record { from = way.source; to = way.target; output = []; labels = line }
 
 -- the start of the graph that a line calls is the one that is called
 calls_start : (graphs : List (List Place)) (called : Option ℕ) (line : List Label) (start : ℕ) →
@@ -50,7 +50,7 @@ module _ (graphs : List (List Place)) (fit : All (IsFit (length graphs)) graphs)
     free_open : (g : ℕ) (s : Step) → IsPlaceStep (places_of graphs g) s →
         IsFree (place_grammar graphs) (letters s.labels) →
         (called : Option ℕ) × CallsAt graphs called s.labels × IsOpen marks called
-    free_open g s i f = elim (step_line graphs fit g s i) [
+    free_open g s i f = elim (step_cases graphs fit g s i) [
       | inl c ↦
           let start = start_inside graphs fit g c.0 s i c.1 in
           let free = subst (λ l. IsFree (place_grammar graphs) (letters l)) c.1 f in (
@@ -59,7 +59,7 @@ module _ (graphs : List (List Place)) (fit : All (IsFit (length graphs)) graphs)
             (marked.marked c.0 0 start).1
                 (nullable_ends graphs fit c.0 (call_nullable (place_grammar graphs) free)),
           )
-      | inr n ↦ (None, free_still (place_grammar graphs) s.labels n.1 f, tt)
+      | inr n ↦ (None, free_silent (place_grammar graphs) s.labels n f, tt)
     ]
 
     pub free_pairs : (u v : ℕ) → SoOfOne ways (IsFreePair marks) (u, v) ↔ IsFreeEdge graphs u v

@@ -1,27 +1,47 @@
 -- Words that may take nothing, and the runs along them as paths through nullable edges.
-use Rattle.std.proofs.Common.{◌≡◌, ℕ, List, [], ◌∷◌, ◌++◌, refl, subst, sym, true, false, append_assoc, append-nil}
+use Rattle.std.proofs.Common.{◌≡◌, ◌⊎◌, inl, inr, ℕ, List, [], ◌∷◌, ◌++◌, map, refl, subst, sym, ◌∙◌, true, false, append_assoc, append-nil}
 use Rattle.std.specs.Prelude.{All}
-use Rattle.std.proofs.lemmas.List.Elements.{All-nil, All-cons, All-head, All-tail}
+use Rattle.std.proofs.lemmas.List.Elements.{All-head, All-tail}
+use Rattle.ux_grf.specs.declared.item.Piece.{Piece}
 use Rattle.ux_net.specs.declared.label.Label.{Label}
-use Rattle.ux_net.specs.declared.label.Label.TheVariants.{Empty, Fold, Exact, Space, Glue, Call}
-use Rattle.ux_net.specs.Words.{Step, StepGraph, Grammar, Run, stop, along, letters}
-use Rattle.ux_net.specs.Fit.{is_call}
-use Rattle.ux_net.specs.Admissible.{IsFree, none, glue, call, IsNullable, LeadsFreely}
-use Rattle.ux_net.specs.Ways.{takes_nothing, IsStill}
+use Rattle.ux_net.specs.declared.label.Label.TheVariants.{Empty, Fold, Exact, Mask, Brace, Space, Glue, Begin, End, Positive, Negative, ContextEnd, Cut, Call}
+use Rattle.ux_net.specs.Words.{Step, StepGraph, Grammar, Letter, plain, piece, context, ordinary, mark_of, Run, stop, along, across, letters, put_by}
+use Rattle.ux_net.specs.Nets.{IsPlain}
+use Rattle.ux_net.specs.Construct.{is_call}
+use Rattle.ux_net.specs.Admissible.{IsSilent, IsFree, none, silent, call, IsNullable, LeadsFreely}
+use Rattle.ux_net.specs.Silent.{is_silent, are_silent}
+
+-- a line of labels that are compiled neither opens nor closes a context
+pub plain_ordinary : (line : List Label) → All IsPlain line → mark_of line ≡ ordinary
+plain_ordinary [] all = refl
+plain_ordinary (Empty ∷ line) all = refl
+plain_ordinary (Fold text ∷ line) all = refl
+plain_ordinary (Exact text ∷ line) all = refl
+plain_ordinary (Mask text ∷ line) all = refl
+plain_ordinary (Brace text ∷ line) all = refl
+plain_ordinary (Space ∷ line) all = refl
+plain_ordinary (Glue ∷ line) all = refl
+plain_ordinary (Begin name ∷ line) all = refl
+plain_ordinary (End name ∷ line) all = refl
+plain_ordinary (Positive ∷ line) all = absurd (All-head IsPlain Positive line all)
+plain_ordinary (Negative ∷ line) all = absurd (All-head IsPlain Negative line all)
+plain_ordinary (ContextEnd ∷ line) all = absurd (All-head IsPlain ContextEnd line all)
+plain_ordinary (Cut ∷ line) all = refl
+plain_ordinary (Call graph ∷ line) all = refl
 
 module _ (grammar : Grammar) where
-  pub free_append : {u v : List Label} → IsFree grammar u → IsFree grammar v →
+  pub free_append : {u v : List Letter} → IsFree grammar u → IsFree grammar v →
       IsFree grammar (u ++ v)
   free_append none g = g
-  free_append (glue f) g = glue (free_append f g)
+  free_append (silent s f) g = silent s (free_append f g)
   free_append (call w c f) g = call w c (free_append f g)
 
-  free_first : {x : Label} {v : List Label} → IsFree grammar (x ∷ v) →
+  free_first : {x : Letter} {v : List Letter} → IsFree grammar (x ∷ v) →
       IsFree grammar (x ∷ []) × IsFree grammar v
-  free_first (glue f) = (glue none, f)
+  free_first (silent s f) = (silent s none, f)
   free_first (call w c f) = (call w c none, f)
 
-  pub free_parts : (u v : List Label) → IsFree grammar (u ++ v) →
+  pub free_parts : (u v : List Letter) → IsFree grammar (u ++ v) →
       IsFree grammar u × IsFree grammar v
   free_parts [] v f = (none, f)
   free_parts (x ∷ u) v f =
@@ -29,69 +49,122 @@ module _ (grammar : Grammar) where
       let r = free_parts u v p.1 in
       (free_append p.0 r.0, r.1)
 
-  pub still_free : (line : List Label) → IsStill line → IsFree grammar (letters line)
-  still_free [] s = none
-  still_free (Empty ∷ line) s =
-      still_free line (All-tail (λ x. takes_nothing x ≡ true) Empty line s)
-  still_free (Glue ∷ line) s =
-      glue (still_free line (All-tail (λ x. takes_nothing x ≡ true) Glue line s))
-  still_free (Fold text ∷ line) s =
-      let no = All-head (λ x. takes_nothing x ≡ true) (Fold text) line s in absurd (cc)
-  still_free (Exact text ∷ line) s =
-      let no = All-head (λ x. takes_nothing x ≡ true) (Exact text) line s in absurd (cc)
-  still_free (Space ∷ line) s =
-      let no = All-head (λ x. takes_nothing x ≡ true) Space line s in absurd (cc)
-  still_free (Call h ∷ line) s =
-      let no = All-head (λ x. takes_nothing x ≡ true) (Call h) line s in absurd (cc)
+  -- an output takes nothing
+  put_free : (parts : List Piece) → IsFree grammar (map piece parts)
+  put_free [] = none
+  put_free (part ∷ parts) = silent {letter = piece part} tt (put_free parts)
+
+  -- a step is free where its labels are
+  pub along_free : (s : Step) → IsFree grammar (letters s.labels) →
+      IsFree grammar (put_by s ++ letters s.labels)
+  along_free s f = free_append (put_free s.output) f
+
+  pub silent_free : (line : List Label) → are_silent line ≡ true → IsFree grammar (letters line)
+  silent_free [] s = none
+  silent_free (Empty ∷ line) s = silent_free line s
+  silent_free (Glue ∷ line) s = silent {letter = plain Glue} refl (silent_free line s)
+  silent_free (Begin name ∷ line) s =
+      silent {letter = plain (Begin name)} refl (silent_free line s)
+  silent_free (End name ∷ line) s = silent {letter = plain (End name)} refl (silent_free line s)
+  silent_free (Cut ∷ line) s = silent {letter = plain Cut} refl (silent_free line s)
+  silent_free (Fold text ∷ line) s = cc
+  silent_free (Exact text ∷ line) s = cc
+  silent_free (Mask text ∷ line) s = cc
+  silent_free (Brace text ∷ line) s = cc
+  silent_free (Space ∷ line) s = cc
+  silent_free (Positive ∷ line) s = cc
+  silent_free (Negative ∷ line) s = cc
+  silent_free (ContextEnd ∷ line) s = cc
+  silent_free (Call h ∷ line) s = cc
+
+  -- a letter that may take nothing is silent or a call
+  takes_a_token : {x : Letter} → IsFree grammar (x ∷ []) →
+      IsSilent x ⊎ ((h : ℕ) × (x ≡ plain (Call h)))
+  takes_a_token (silent s f) = inl s
+  takes_a_token (call {h = h} w c f) = inr (h, refl)
+
+  no_token : (x : Label) → is_silent x ≡ false → is_call x ≡ false →
+      IsFree grammar (plain x ∷ []) → ⊥
+  no_token x loud calls f = elim (takes_a_token f) [
+    | inl s ↦ let both : true ≡ false = sym s ∙ loud in cc
+    | inr c ↦ called x c.0 calls c.1
+  ]
+    where
+      called : (x : Label) (h : ℕ) → is_call x ≡ false → plain x ≡ plain (Call h) → ⊥
+      called x h calls e = cc
 
   -- only a line with no call may be nullable without one
-  pub free_still : (line : List Label) → All (λ (x : Label). is_call x ≡ false) line →
-      IsFree grammar (letters line) → IsStill line
-  free_still [] calls f = All-nil (λ x. takes_nothing x ≡ true)
-  free_still (Empty ∷ line) calls f = All-cons (λ x. takes_nothing x ≡ true) Empty line refl
-      (free_still line (All-tail (λ (x : Label). is_call x ≡ false) Empty line calls) f)
-  free_still (Glue ∷ line) calls f = All-cons (λ x. takes_nothing x ≡ true) Glue line refl
-      (free_still line (All-tail (λ (x : Label). is_call x ≡ false) Glue line calls)
-      (free_parts (Glue ∷ []) (letters line) f).1)
-  free_still (Fold text ∷ line) calls f = absurd (no_token (free_first f).0)
-    where
-      no_token : IsFree grammar (Fold text ∷ []) → ⊥
-      no_token f = elim f [ ]
-  free_still (Exact text ∷ line) calls f = absurd (no_token (free_first f).0)
-    where
-      no_token : IsFree grammar (Exact text ∷ []) → ⊥
-      no_token f = elim f [ ]
-  free_still (Space ∷ line) calls f = absurd (no_token (free_first f).0)
-    where
-      no_token : IsFree grammar (Space ∷ []) → ⊥
-      no_token f = elim f [ ]
-  free_still (Call h ∷ line) calls f =
+  pub free_silent : (line : List Label) → All (λ (x : Label). is_call x ≡ false) line →
+      IsFree grammar (letters line) → are_silent line ≡ true
+  free_silent [] calls f = refl
+  free_silent (Empty ∷ line) calls f =
+      free_silent line (All-tail (λ (x : Label). is_call x ≡ false) Empty line calls) f
+  free_silent (Glue ∷ line) calls f =
+      free_silent line (All-tail (λ (x : Label). is_call x ≡ false) Glue line calls)
+      (free_first f).1
+  free_silent (Begin name ∷ line) calls f =
+      free_silent line (All-tail (λ (x : Label). is_call x ≡ false) (Begin name) line calls)
+      (free_first f).1
+  free_silent (End name ∷ line) calls f =
+      free_silent line (All-tail (λ (x : Label). is_call x ≡ false) (End name) line calls)
+      (free_first f).1
+  free_silent (Cut ∷ line) calls f =
+      free_silent line (All-tail (λ (x : Label). is_call x ≡ false) Cut line calls)
+      (free_first f).1
+  free_silent (Fold text ∷ line) calls f =
+      absurd (no_token (Fold text) refl refl (free_first f).0)
+  free_silent (Exact text ∷ line) calls f =
+      absurd (no_token (Exact text) refl refl (free_first f).0)
+  free_silent (Mask text ∷ line) calls f =
+      absurd (no_token (Mask text) refl refl (free_first f).0)
+  free_silent (Brace text ∷ line) calls f =
+      absurd (no_token (Brace text) refl refl (free_first f).0)
+  free_silent (Space ∷ line) calls f =
+      absurd (no_token Space refl refl (free_first f).0)
+  free_silent (Positive ∷ line) calls f =
+      absurd (no_token Positive refl refl (free_first f).0)
+  free_silent (Negative ∷ line) calls f =
+      absurd (no_token Negative refl refl (free_first f).0)
+  free_silent (ContextEnd ∷ line) calls f =
+      absurd (no_token ContextEnd refl refl (free_first f).0)
+  free_silent (Call h ∷ line) calls f =
       let no = All-head (λ (x : Label). is_call x ≡ false) (Call h) line calls in absurd (cc)
 
-  pub call_nullable : {h : ℕ} → IsFree grammar (Call h ∷ []) → IsNullable grammar h
+  pub call_nullable : {h : ℕ} → IsFree grammar (plain (Call h) ∷ []) → IsNullable grammar h
+  call_nullable (silent s f) = absurd (cc)
   call_nullable (call {called = called} w c f) = (called, w, c)
 
-  pub nullable_call : (h : ℕ) → IsNullable grammar h → IsFree grammar (Call h ∷ [])
+  pub nullable_call : (h : ℕ) → IsNullable grammar h → IsFree grammar (plain (Call h) ∷ [])
   nullable_call h n = call n.1 n.2 none
 
-module _ (graph : StepGraph) where
-  pub run_joined : {a b c : ℕ} {u v : List Label} → Run graph a b u → Run graph b c v →
-      Run graph a c (u ++ v)
+module _ (g : ℕ) (graph : StepGraph) where
+  pub run_joined : {a b c : ℕ} {u v : List Letter} → Run g graph a b u → Run g graph b c v →
+      Run g graph a c (u ++ v)
   run_joined stop q = q
-  run_joined {c = c} {v = v} (along {word = word} s i r) q =
-      subst (λ w. Run graph s.from c w)
-      (sym (append_assoc (letters s.labels) word v)) (along s i (run_joined r q))
+  run_joined {c = c} {v = v} (along {word = word} s i m r) q =
+      subst (λ w. Run g graph s.from c w)
+      (sym (append_assoc (put_by s ++ letters s.labels) word v)) (along s i m (run_joined r q))
+  run_joined {c = c} {v = v} (across {word = word} sign s t i m body j n r) q =
+      subst (λ w. Run g graph s.from c w)
+      (sym (append_assoc (put_by s) (context sign g s.to t.to ∷ word) v))
+      (across sign s t i m body j n (run_joined r q))
 
-  pub one_step : (s : Step) → graph.IsStep s → Run graph s.from s.to (letters s.labels)
-  one_step s i = subst (λ w. Run graph s.from s.to w) (append-nil (letters s.labels))
-      (along s i stop)
+  pub one_step : (s : Step) → graph.IsStep s → mark_of s.labels ≡ ordinary →
+      Run g graph s.from s.to (put_by s ++ letters s.labels)
+  one_step s i m = subst (λ w. Run g graph s.from s.to w)
+      (append-nil (put_by s ++ letters s.labels)) (along s i m stop)
 
 module _ (grammar : Grammar) where
   pub leads_joined : (g : ℕ) {a b c : ℕ} → LeadsFreely grammar g a b → LeadsFreely grammar g b c →
       LeadsFreely grammar g a c
   leads_joined g p q =
-      (p.0 ++ q.0, run_joined (grammar.graph g) p.1 q.1, free_append grammar p.2 q.2)
+      (p.0 ++ q.0, run_joined g (grammar.graph g) p.1 q.1, free_append grammar p.2 q.2)
 
   pub step_leads : (g : ℕ) (s : Step) → (grammar.graph g).IsStep s →
-      IsFree grammar (letters s.labels) → LeadsFreely grammar g s.from s.to
-  step_leads g s i f = (letters s.labels, one_step (grammar.graph g) s i, f)
+      mark_of s.labels ≡ ordinary → IsFree grammar (letters s.labels) →
+      LeadsFreely grammar g s.from s.to
+  step_leads g s i m f = (
+    put_by s ++ letters s.labels,
+    one_step g (grammar.graph g) s i m,
+    along_free grammar s f,
+  )

@@ -17,11 +17,6 @@ gains_none before IsSo never = λ x. (
   ],
 )
 
--- nothing is so below 0
-pub gains_begin : {A : Type 0} (before : List A) (IsSo : ℕ → A → Type 0) →
-    Gains before before (SoBelow 0 IsSo)
-gains_begin before IsSo = gains_none before (SoBelow 0 IsSo) (λ x s. absurd (omega (arith, s.1)))
-
 -- one is added that alone is so
 pub gains_one : {A : Type 0} (before after : List A) (y : A) (IsSo : A → Type 0) →
     after ≡ before ++ y ∷ [] → IsSo y → ((x : A) → IsSo x → y ≡ x) → Gains before after IsSo

@@ -7,8 +7,8 @@ pub mod StepsLemmas
 pub mod MarksLemmas
 pub mod CyclesLemmas
 pub mod GainsLemmas
-pub mod ListedLemmas
-pub mod ListedExact
+pub mod WayLemmas
+pub mod WaysExact
 pub mod MapLemmas
 pub mod SpotsLemmas
 pub mod EdgesLemmas
@@ -19,6 +19,7 @@ pub mod AdmissionLemmas
 pub mod PlacesLemmas
 pub mod RefusingLemmas
 pub mod SameGraph
+pub mod PlainLemmas
 pub mod SplittingLemmas
 pub mod JoinedLemmas
 pub mod RefineLemmas
@@ -33,3 +34,4 @@ pub mod SizesLemmas
 pub mod CompileLemmas
 pub mod AllFitLemmas
 pub mod BuiltLemmas
+pub mod WordsExamples

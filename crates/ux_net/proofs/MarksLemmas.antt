@@ -1,23 +1,25 @@
 -- What follows by the rules of the ways is which places lead freely to an end of their graph.
 use Rattle.std.proofs.Common.{arith, ◌≡◌, ℕ, ◌<◌, List, [], ◌∷◌, ◌++◌, length, refl, ap, subst, sym, ◌∙◌, inl, inr, ◌↔◌, true, false, map}
 use Rattle.std.specs.Prelude.{All, Option, Some, None, unwrap_or}
-use Rattle.std.proofs.lemmas.List.Elements.{All-nil, All-cons, All-head, All-tail}
+use Rattle.std.proofs.lemmas.List.Elements.{All-head, All-tail}
 use Rattle.ux_digraph.specs.declared.closing.Rule.{Rule}
 use Rattle.ux_digraph.specs.Rules.{Derived, fact, by, AreRulesInside}
 use Rattle.ux_net.specs.declared.label.Label.{Label}
-use Rattle.ux_net.specs.declared.label.Label.TheVariants.{Empty, Fold, Exact, Space, Glue, Call}
+use Rattle.ux_net.specs.declared.label.Label.TheVariants.{Empty, Fold, Exact, Mask, Brace, Space, Glue, Begin, End, Positive, Negative, ContextEnd, Cut, Call}
 use Rattle.ux_net.specs.declared.place.Place.{Place}
 use Rattle.ux_net.specs.declared.way.Way.{Way}
-use Rattle.ux_net.specs.Words.{Step, Run, stop, along, letters}
+use Rattle.ux_net.specs.Words.{Step, Letter, plain, piece, context, Run, stop, along, across, letters, put_by}
 use Rattle.ux_net.specs.Places.{places_of, place_graph, place_grammar, IsPlaceStep, IsEndPlace}
-use Rattle.ux_net.specs.Fit.{IsFit, is_call}
-use Rattle.ux_net.specs.Admissible.{IsFree, none, glue, call, IsNullable}
+use Rattle.ux_net.specs.Fit.{IsFit}
+use Rattle.ux_net.specs.Construct.{is_call}
+use Rattle.ux_net.specs.Admissible.{IsSilent, IsFree, none, silent, call, IsNullable}
 use Rattle.ux_net.specs.Numbers.{number_of, all_places}
-use Rattle.ux_net.specs.Ways.{CallsAt, IsStill, takes_nothing, IsWay, EndsFreely, way_at, rule_of, AreFreeRules, AreEnds, AreWays}
+use Rattle.ux_net.specs.Silent.{are_silent}
+use Rattle.ux_net.specs.Ways.{CallsAt, IsWay, EndsFreely, way_at, rule_of, AreFreeRules, AreEnds, AreWays}
 use Rattle.ux_net.proofs.MapLemmas.{map_exactly}
 use Rattle.ux_net.proofs.NumbersLemmas.{place_so, number_below}
-use Rattle.ux_net.proofs.FreeLemmas.{free_append, still_free, nullable_call}
-use Rattle.ux_net.proofs.StepsLemmas.{step_inside, step_line, start_inside, target_from}
+use Rattle.ux_net.proofs.FreeLemmas.{free_append, silent_free, nullable_call}
+use Rattle.ux_net.proofs.StepsLemmas.{bare_step, step_inside, step_cases, step_plain, start_inside, target_from}
 
 module _ (graphs : List (List Place)) (fit : All (IsFit (length graphs)) graphs) where
   -- a step has a way
@@ -25,7 +27,7 @@ module _ (graphs : List (List Place)) (fit : All (IsFit (length graphs)) graphs)
       CallsAt graphs called s.labels → IsWay graphs (way_at graphs g s.from s.to called)
   is_way g s i called c = record {
     line = s.labels;
-    step = i;
+    step = bare_step (places_of graphs g) s i;
     along = record {
       graph = refl;
       source = refl;
@@ -52,7 +54,7 @@ module _ (graphs : List (List Place)) (fit : All (IsFit (length graphs)) graphs)
   pub line_free : (called : Option ℕ) (line : List Label) → CallsAt graphs called line →
       ((h : ℕ) → line ≡ Call h ∷ [] → called ≡ Some (number_of graphs h 0) →
       EndsFreely graphs h 0) → IsFree (place_grammar graphs) (letters line)
-  line_free None line c ends = still_free (place_grammar graphs) line c
+  line_free None line c ends = silent_free (place_grammar graphs) line c
   line_free (Some start) line c ends =
       subst (λ l. IsFree (place_grammar graphs) (letters l)) (sym c.1)
       (nullable_call (place_grammar graphs) c.0
@@ -76,7 +78,8 @@ module _ (graphs : List (List Place)) (fit : All (IsFit (length graphs)) graphs)
         let f = (by_ways r).0 h in
         let way = f.0 in
         let is = f.1 in
-        let s : Step = record { from = way.source; to = way.target; labels = is.line } in
+        let s : Step =
+        record { from = way.source; to = way.target; output = []; labels = is.line } in
         let inside = step_inside (places_of graphs way.graph) s is.step in
         let here = sound first way.graph way.target inside.1
         (sym (ap (λ (q : Rule). q.first) f.2) ∙ is.along.to) in
@@ -88,38 +91,45 @@ module _ (graphs : List (List Place)) (fit : All (IsFit (length graphs)) graphs)
           last = here.last;
           word = letters is.line ++ here.word;
           ends = here.ends;
-          run = along s is.step here.run;
+          run = along s is.step (step_plain graphs fit way.graph s is.step) here.run;
           free = free_append (place_grammar graphs) free here.free;
         })
 
     -- a letter that takes nothing: what it calls has a marked start
-    abbrev Passes : Label → Type 0
-    Passes Empty = Unit {0}
-    Passes Glue = Unit {0}
-    Passes (Fold text) = ⊥
-    Passes (Exact text) = ⊥
-    Passes Space = ⊥
-    Passes (Call h) = Derived rules facts (number_of graphs h 0)
+    abbrev Passes : Letter → Type 0
+    Passes (plain (Call h)) = Derived rules facts (number_of graphs h 0)
+    Passes letter = IsSilent letter
 
-    abbrev AllPass : List Label → Type 0
+    abbrev AllPass : List Letter → Type 0
     AllPass [] = Unit {0}
     AllPass (x ∷ word) = Passes x × AllPass word
 
-    pass_parts : (u v : List Label) → AllPass (u ++ v) → AllPass u × AllPass v
+    pass_parts : (u v : List Letter) → AllPass (u ++ v) → AllPass u × AllPass v
     pass_parts [] v p = (tt, p)
     pass_parts (x ∷ u) v p = let r = pass_parts u v p.1 in ((p.0, r.0), r.1)
 
-    pass_still : (line : List Label) → All (λ (x : Label). is_call x ≡ false) line →
-        AllPass (letters line) → IsStill line
-    pass_still [] calls p = All-nil (λ x. takes_nothing x ≡ true)
-    pass_still (Empty ∷ line) calls p = All-cons (λ x. takes_nothing x ≡ true) Empty line refl
-        (pass_still line (All-tail (λ (x : Label). is_call x ≡ false) Empty line calls) p)
-    pass_still (Glue ∷ line) calls p = All-cons (λ x. takes_nothing x ≡ true) Glue line refl
-        (pass_still line (All-tail (λ (x : Label). is_call x ≡ false) Glue line calls) p.1)
-    pass_still (Fold text ∷ line) calls p = absurd p.0
-    pass_still (Exact text ∷ line) calls p = absurd p.0
-    pass_still (Space ∷ line) calls p = absurd p.0
-    pass_still (Call h ∷ line) calls p =
+    pass_silent : (line : List Label) → All (λ (x : Label). is_call x ≡ false) line →
+        AllPass (letters line) → are_silent line ≡ true
+    pass_silent [] calls p = refl
+    pass_silent (Empty ∷ line) calls p =
+        pass_silent line (All-tail (λ (x : Label). is_call x ≡ false) Empty line calls) p
+    pass_silent (Glue ∷ line) calls p =
+        pass_silent line (All-tail (λ (x : Label). is_call x ≡ false) Glue line calls) p.1
+    pass_silent (Begin name ∷ line) calls p =
+        pass_silent line (All-tail (λ (x : Label). is_call x ≡ false) (Begin name) line calls) p.1
+    pass_silent (End name ∷ line) calls p =
+        pass_silent line (All-tail (λ (x : Label). is_call x ≡ false) (End name) line calls) p.1
+    pass_silent (Cut ∷ line) calls p =
+        pass_silent line (All-tail (λ (x : Label). is_call x ≡ false) Cut line calls) p.1
+    pass_silent (Fold text ∷ line) calls p = p.0
+    pass_silent (Exact text ∷ line) calls p = p.0
+    pass_silent (Mask text ∷ line) calls p = p.0
+    pass_silent (Brace text ∷ line) calls p = p.0
+    pass_silent (Space ∷ line) calls p = p.0
+    pass_silent (Positive ∷ line) calls p = p.0
+    pass_silent (Negative ∷ line) calls p = p.0
+    pass_silent (ContextEnd ∷ line) calls p = p.0
+    pass_silent (Call h ∷ line) calls p =
         let no = All-head (λ (x : Label). is_call x ≡ false) (Call h) line calls in absurd (cc)
 
     -- a rule for a step whose target, and the start that it calls, follow
@@ -133,24 +143,45 @@ module _ (graphs : List (List Place)) (fit : All (IsFit (length graphs)) graphs)
         ((by_ways (rule_of way)).1 (way, is_way g s i called c, refl)) first second in
         d
 
-    run_derived : (g : ℕ) {a b : ℕ} {word : List Label} →
-        Run (place_graph (places_of graphs g)) a b word → AllPass word →
+    run_derived : (g : ℕ) {a b : ℕ} {word : List Letter} →
+        Run g (place_graph (places_of graphs g)) a b word → AllPass word →
         IsEndPlace (places_of graphs g) b → Derived rules facts (number_of graphs g a)
     run_derived g (stop {a = a}) p ends =
         fact ((at_ends (number_of graphs g a)).1 (g, a, ends, refl))
-    run_derived g (along {word = word} s i r) p ends =
-        let parts = pass_parts (letters s.labels) word p in
+    run_derived g (across sign s t i m body j n r) p ends =
+        let never = step_plain graphs fit g s i in absurd cc
+    run_derived g (along {word = word} s i m r) p ends =
+        let parts = pass_parts (put_by s ++ letters s.labels) word p in
+        let line = (pass_parts (put_by s) (letters s.labels) parts.0).1 in
         let later = run_derived g r parts.1 ends in
-        elim (step_line graphs fit g s i) [
+        elim (step_cases graphs fit g s i) [
           | inl c ↦
-              let called = subst (λ l. AllPass (letters l)) c.1 parts.0 in
+              let called = subst (λ l. AllPass (letters l)) c.1 line in
               by_step g s i (Some (number_of graphs c.0 0)) (c.0, c.1, refl) later called.0
-          | inr n ↦ by_step g s i None (pass_still s.labels n.1 parts.0) later later
+          | inr n ↦ by_step g s i None (pass_silent s.labels n line) later later
         ]
 
-    free_pass : {word : List Label} → IsFree (place_grammar graphs) word → AllPass word
+    silent_passes : (x : Letter) → IsSilent x → Passes x
+    silent_passes (plain Empty) s = s
+    silent_passes (plain (Fold text)) s = s
+    silent_passes (plain (Exact text)) s = s
+    silent_passes (plain (Mask text)) s = s
+    silent_passes (plain (Brace text)) s = s
+    silent_passes (plain Space) s = s
+    silent_passes (plain Glue) s = s
+    silent_passes (plain (Begin name)) s = s
+    silent_passes (plain (End name)) s = s
+    silent_passes (plain Positive) s = s
+    silent_passes (plain Negative) s = s
+    silent_passes (plain ContextEnd) s = s
+    silent_passes (plain Cut) s = s
+    silent_passes (plain (Call h)) s = absurd (cc)
+    silent_passes (piece part) s = s
+    silent_passes (context sign g opening closing) s = s
+
+    free_pass : {word : List Letter} → IsFree (place_grammar graphs) word → AllPass word
     free_pass none = tt
-    free_pass (glue f) = (tt, free_pass f)
+    free_pass (silent {letter = x} s f) = (silent_passes x s, free_pass f)
     free_pass (call {h = h} w c f) = (run_derived h w.run (free_pass c) w.ends, free_pass f)
 
     -- a place follows exactly where it leads freely to an end
@@ -165,7 +196,8 @@ module _ (graphs : List (List Place)) (fit : All (IsFit (length graphs)) graphs)
           let f = (by_ways r).0 h in
           let way = f.0 in
           let is = f.1 in
-          let s : Step = record { from = way.source; to = way.target; labels = is.line } in
+          let s : Step =
+          record { from = way.source; to = way.target; output = []; labels = is.line } in
           let inside = step_inside (places_of graphs way.graph) s is.step in
           let from = number_below graphs way.graph way.source inside.0 in
           let to = number_below graphs way.graph way.target inside.1 in

@@ -8,7 +8,7 @@ use Rattle.std.proofs.lemmas.Option.{same_Some, slice_get_within, get_or_from_sl
 use Rattle.std.proofs.lemmas.List.Elements.{All-contains, Contains-get_or}
 use Rattle.std.proofs.lemmas.List.Sums.{sum_by-cons}
 use Rattle.ux_net.specs.declared.label.Label.{Label}
-use Rattle.ux_net.specs.declared.label.Label.TheVariants.{Empty, Fold, Exact, Space, Glue, Call}
+use Rattle.ux_net.specs.declared.label.Label.TheVariants.{Empty, Fold, Exact, Mask, Brace, Space, Glue, Begin, End, Positive, Negative, ContextEnd, Cut, Call}
 use Rattle.ux_net.specs.declared.place.Place.{Place}
 use Rattle.ux_net.specs.declared.net_graph.NetGraph.{NetGraph}
 use Rattle.ux_net.specs.declared.net_graph.Rank.{Rank}
@@ -16,15 +16,17 @@ use Rattle.ux_net.specs.declared.state.Edge.{Edge}
 use Rattle.ux_net.specs.declared.state.State.{State}
 use Rattle.ux_net.specs.Words.{Step}
 use Rattle.ux_net.specs.Places.{label_lines, place_targets, IsPlaceStep, places_of}
-use Rattle.ux_net.specs.Nets.{graph_at, states_in, IsCalled, AreInside}
+use Rattle.ux_net.specs.Nets.{graph_at, states_in, IsCalled, AreInside, ArePlain}
 use Rattle.ux_net.specs.Nets.{states_of as net_states}
 use Rattle.ux_net.specs.Measured.{width_of, weigh, rank_in, rank_of, frees_in, must, IsLower, Falls, IsMeasured}
 use Rattle.ux_net.specs.Sound.{IsSound}
 use Rattle.ux_net.specs.Construct.{is_call, IsLine, has_state, number, labels_at, chain_len, first_chain, target_of, states_of, AreFit}
-use Rattle.ux_net.specs.Ranks.{is_silent, are_silent, silent_len, rest_rank, rest_free, above, rank_at, free_at, chain_rank_at, chain_free_at, state_ranks, state_frees, ranks_of, place_rank, frees_of, is_place_free, IsLowerPlace, ArePlaceRanks, AreCallsInside, AreAllFit, AreBuilt}
+use Rattle.ux_net.specs.Silent.{is_silent, are_silent}
+use Rattle.ux_net.specs.Admission.{row_at, place_rank, is_place_free, IsLowerPlace, ArePlaceRanks}
+use Rattle.ux_net.specs.Ranks.{silent_len, rest_rank, rest_free, above, rank_at, free_at, chain_rank_at, chain_free_at, state_ranks, state_frees, AreCallsInside, AreAllFit, AreBuilt}
 use Rattle.ux_net.proofs.JoinedLemmas.{less_or, contains_first}
 use Rattle.ux_net.proofs.StatesLemmas.{line_there, place_inside, get_place, get_chain, Stands, of_a_place, of_a_line, stands}
-use Rattle.ux_net.proofs.ConstructLaw.{one_in, lt_then, lt_else, drop_whole, has_line, not_end, starts, place_is, chain_is, OfLabel, of_label, targets_inside, states_some, states_few, states_length}
+use Rattle.ux_net.proofs.ConstructLaw.{one_in, lt_then, lt_else, drop_whole, has_line, not_end, starts, place_is, chain_is, OfLabel, of_label, edges_plain, targets_inside, states_some, states_few, states_length}
 
 -- an element's number is at most the sum of all
 sum_has : {A : Type 0} (f : A → ℕ) (xs : List A) (i : ℕ) (x : A) → slice_get xs i ≡ Some x →
@@ -71,9 +73,9 @@ silent_more label rest rank is =
     let s : are_silent (label ∷ rest) ≡ are_silent rest = ap (λ b. b && are_silent rest) is in
     inr (ap (λ b. cond b (rank + 1) 0) (sym s), omega arith)
 
-still_free : (label : Label) (rest : List Label) (free : Bool) → is_silent label ≡ true →
+free_more : (label : Label) (rest : List Label) (free : Bool) → is_silent label ≡ true →
     rest_free free rest ≡ true → rest_free free (label ∷ rest) ≡ true
-still_free label rest free is h =
+free_more label rest free is h =
     let s : are_silent (label ∷ rest) ≡ are_silent rest = ap (λ b. b && are_silent rest) is in
     ap (λ b. cond b free false) s ∙ h
 
@@ -107,11 +109,11 @@ line_from line k lt = let e = add-one k in rw e (drop-cons line k Empty lt)
 
 -- the ranks and marks where the edges of one graph lead
 module _ (places : List Place) (fit : AreFit places) where
-  rank_behind : (ranks : List ℕ) (b l k : ℕ) → l < length (label_lines places b) →
+  rank_after : (ranks : List ℕ) (b l k : ℕ) → l < length (label_lines places b) →
       k < length (labels_at places b l) →
       slice_get (state_ranks places ranks) (target_of places b l k)
       ≡ Some (rest_rank (get_or ranks b 0) (drop (k + 1) (labels_at places b l)))
-  rank_behind ranks b l k at lt = elim (less_or (k + 1) (length (labels_at places b l))) [
+  rank_after ranks b l k at lt = elim (less_or (k + 1) (length (labels_at places b l))) [
     | inl more ↦
         ap (slice_get (state_ranks places ranks)) (lt_then (k + 1) (length (labels_at places b l))
         (first_chain places b l + k) (number places b) more)
@@ -126,11 +128,11 @@ module _ (places : List Place) (fit : AreFit places) where
         (sym (drop_whole (labels_at places b l) (k + 1) last)))
   ]
 
-  free_behind : (free : List Bool) (b l k : ℕ) → l < length (label_lines places b) →
+  free_after : (free : List Bool) (b l k : ℕ) → l < length (label_lines places b) →
       k < length (labels_at places b l) →
       slice_get (state_frees places free) (target_of places b l k)
       ≡ Some (rest_free (get_or free b false) (drop (k + 1) (labels_at places b l)))
-  free_behind free b l k at lt = elim (less_or (k + 1) (length (labels_at places b l))) [
+  free_after free b l k at lt = elim (less_or (k + 1) (length (labels_at places b l))) [
     | inl more ↦
         ap (slice_get (state_frees places free)) (lt_then (k + 1) (length (labels_at places b l))
         (first_chain places b l + k) (number places b) more)
@@ -191,7 +193,7 @@ module _ (graphs : List (List Place)) (ranks : List (List ℕ)) (free : List (Li
 
   -- the rank and the mark of a state, as the net has them
   rank_is : (g n : ℕ) (graph : NetGraph) (rank : Rank) → graph_at built g ≡ Some graph →
-      slice_get (state_ranks (places g) (ranks_of ranks g)) n ≡ Some rank →
+      slice_get (state_ranks (places g) (row_at ranks g)) n ≡ Some rank →
       (rank_of built g n ≡ weigh (width_of built) rank) × (rank.minor ≤ width_of built)
   rank_is g n graph rank there found =
       let same = (made.each g graph there).ranked in
@@ -213,7 +215,7 @@ module _ (graphs : List (List Place)) (ranks : List (List ℕ)) (free : List (Li
           built m graph there
 
   free_is : (g n : ℕ) (graph : NetGraph) (mark : Bool) → graph_at built g ≡ Some graph →
-      slice_get (state_frees (places g) (frees_of free g)) n ≡ Some mark →
+      slice_get (state_frees (places g) (row_at free g)) n ≡ Some mark →
       must built g n ≡ cond mark 0 1
   free_is g n graph mark there found =
       let same = (made.each g graph there).marked in
@@ -225,9 +227,9 @@ module _ (graphs : List (List Place)) (ranks : List (List ℕ)) (free : List (Li
   -- what stands for a state in its graph
   record Marked (g n : ℕ) : Type 0 where
     pub rank : Rank
-    pub ranked_so : slice_get (state_ranks (places g) (ranks_of ranks g)) n ≡ Some rank
+    pub ranked_so : slice_get (state_ranks (places g) (row_at ranks g)) n ≡ Some rank
     pub mark : Bool
-    pub marked_so : slice_get (state_frees (places g) (frees_of free g)) n ≡ Some mark
+    pub marked_so : slice_get (state_frees (places g) (row_at free g)) n ≡ Some mark
 
   lower : (g from to : ℕ) (graph : NetGraph) → graph_at built g ≡ Some graph →
       (high : Marked g from) (low : Marked g to) → IsLowerRank low.rank high.rank →
@@ -249,11 +251,11 @@ module _ (graphs : List (List Place)) (ranks : List (List ℕ)) (free : List (Li
   abbrev of_place : (g a : ℕ) → has_state (places g) a ≡ true → Marked g (number (places g) a)
   of_place g a has = record {
     rank = above (place_rank ranks g a);
-    ranked_so = get_place (places g) (rank_at (ranks_of ranks g))
-        (chain_rank_at (places g) (ranks_of ranks g)) a has;
+    ranked_so = get_place (places g) (rank_at (row_at ranks g))
+        (chain_rank_at (places g) (row_at ranks g)) a has;
     mark = is_place_free free g a;
-    marked_so = get_place (places g) (free_at (frees_of free g))
-        (chain_free_at (places g) (frees_of free g)) a has;
+    marked_so = get_place (places g) (free_at (row_at free g))
+        (chain_free_at (places g) (row_at free g)) a has;
   }
 
   abbrev of_chain : (g b l i : ℕ) → AreFit (places g) → l < length (label_lines (places g) b) →
@@ -262,25 +264,25 @@ module _ (graphs : List (List Place)) (ranks : List (List ℕ)) (free : List (Li
       let within = place_inside (places g) b (has_line (places g) ok b l at) in
       record {
         rank = rest_rank (place_rank ranks g b) (drop (i + 1) (labels g b l));
-        ranked_so = get_chain (places g) (rank_at (ranks_of ranks g))
-            (chain_rank_at (places g) (ranks_of ranks g)) b l i within at lt;
+        ranked_so = get_chain (places g) (rank_at (row_at ranks g))
+            (chain_rank_at (places g) (row_at ranks g)) b l i within at lt;
         mark = rest_free (is_place_free free g b) (drop (i + 1) (labels g b l));
-        marked_so = get_chain (places g) (free_at (frees_of free g))
-            (chain_free_at (places g) (frees_of free g)) b l i within at lt;
+        marked_so = get_chain (places g) (free_at (row_at free g))
+            (chain_free_at (places g) (row_at free g)) b l i within at lt;
       }
 
-  abbrev behind : (g b l k : ℕ) → AreFit (places g) → l < length (label_lines (places g) b) →
+  abbrev after : (g b l k : ℕ) → AreFit (places g) → l < length (label_lines (places g) b) →
       k < length (labels g b l) → Marked g (target_of (places g) b l k)
-  behind g b l k ok at lt = record {
+  after g b l k ok at lt = record {
     rank = rest_rank (place_rank ranks g b) (drop (k + 1) (labels g b l));
-    ranked_so = rank_behind (places g) ok (ranks_of ranks g) b l k at lt;
+    ranked_so = rank_after (places g) ok (row_at ranks g) b l k at lt;
     mark = rest_free (is_place_free free g b) (drop (k + 1) (labels g b l));
-    marked_so = free_behind (places g) ok (frees_of free g) b l k at lt;
+    marked_so = free_after (places g) ok (row_at free g) b l k at lt;
   }
 
   -- the step of the places along a line of a target
   abbrev step_of : ℕ → ℕ → ℕ → ℕ → Step
-  step_of g a b l = record { from = a; to = b; labels = labels g b l }
+  step_of g a b l = record { from = a; to = b; output = []; labels = labels g b l }
 
   is_step : (g a b l : ℕ) → AreFit (places g) → has_state (places g) a ≡ true →
       Contains (place_targets (places g) a) b → l < length (label_lines (places g) b) →
@@ -289,6 +291,7 @@ module _ (graphs : List (List Place)) (ranks : List (List ℕ)) (free : List (Li
     before_end = not_end (places g) ok a has;
     leads = leads;
     line = line_there (places g) b l at;
+    puts = refl;
   }
 
   -- the first label of a line, from a place
@@ -299,12 +302,12 @@ module _ (graphs : List (List Place)) (ranks : List (List ℕ)) (free : List (Li
       IsLower built g (number (places g) a) (target_of (places g) b l 0)
   first_lower g a b l graph there ok has at lt falls =
       lower g (number (places g) a) (target_of (places g) b l 0) graph there
-      (of_place g a has) (behind g b l 0 ok at lt)
+      (of_place g a has) (after g b l 0 ok at lt)
       (rest_lower (drop (0 + 1) (labels g b l)) (place_rank ranks g b) (place_rank ranks g a)
-      (λ h. (falls h).0))
+      (λ h. (falls h).falls))
       (λ h.
       let m = rest_marked (drop (0 + 1) (labels g b l)) (is_place_free free g b) h in
-      (falls m.0).1 m.1)
+      (falls m.0).marked m.1)
 
   first_silent : (g a b l : ℕ) (graph : NetGraph) → graph_at built g ≡ Some graph →
       (ok : AreFit (places g)) → has_state (places g) a ≡ true →
@@ -314,7 +317,7 @@ module _ (graphs : List (List Place)) (ranks : List (List ℕ)) (free : List (Li
   first_silent g a b l graph there ok has leads at lt silent =
       let rest = drop (0 + 1) (labels g b l) in
       first_lower g a b l graph there ok has at lt (λ h.
-      ranked.still g (step_of g a b l) has (is_step g a b l ok has leads at)
+      ranked.silent g (step_of g a b l) (is_step g a b l ok has leads at)
       (ap are_silent (line_from (labels g b l) 0 lt)
       ∙ (ap (λ b. b && are_silent rest) silent ∙ h)))
 
@@ -330,12 +333,12 @@ module _ (graphs : List (List Place)) (ranks : List (List ℕ)) (free : List (Li
       let is : drop (i + 1) (labels g b l) ≡ label ∷ rest =
       line_from (labels g b l) (i + 1) more in
       lower g (first_chain (places g) b l + i) (target_of (places g) b l (i + 1)) graph there
-      (of_chain g b l i ok at lt) (behind g b l (i + 1) ok at more)
+      (of_chain g b l i ok at lt) (after g b l (i + 1) ok at more)
       (subst (λ (line : List Label). IsLowerRank (rest_rank (place_rank ranks g b) rest)
       (rest_rank (place_rank ranks g b) line)) (sym is)
       (silent_more label rest (place_rank ranks g b) silent))
       (λ h. ap (rest_free (is_place_free free g b)) is
-      ∙ still_free label rest (is_place_free free g b) silent h)
+      ∙ free_more label rest (is_place_free free g b) silent h)
 
   silent_falls : (g n : ℕ) (edge : Edge) (graph : NetGraph) → graph_at built g ≡ Some graph →
       (ok : AreFit (places g)) → OfLabel (places g) ok n edge → is_silent edge.label ≡ true →
@@ -381,7 +384,7 @@ module _ (graphs : List (List Place)) (ranks : List (List ℕ)) (free : List (Li
       let other = graph_there h called.0 called.1 in
       let high = of_place g a has in
       let low : Marked h 0 = of_place h 0 (starts (places h) (graph_fit h other.0 other.1)) in
-      let falls = ranked.calls g h (step_of g a b l) has (is_step g a b l ok has leads at) only in
+      let falls = ranked.calls g h (step_of g a b l) (is_step g a b l ok has leads at) only in
       let here = rank_is g (number (places g) a) graph high.rank there high.ranked_so in
       let start = rank_is h 0 other.0 low.rank other.1 low.ranked_so in
       let weighs = lower_weighs (width_of built) low.rank high.rank start.1
@@ -425,7 +428,18 @@ module _ (graphs : List (List Place)) (ranks : List (List ℕ)) (free : List (Li
       edge.label ≡ label → Falls built g n edge.target label
   label_falls g n edge graph there ok o (Fold text) is = tt
   label_falls g n edge graph there ok o (Exact text) is = tt
+  label_falls g n edge graph there ok o (Mask text) is = tt
+  label_falls g n edge graph there ok o (Brace text) is = tt
   label_falls g n edge graph there ok o Space is = tt
+  label_falls g n edge graph there ok o Positive is = tt
+  label_falls g n edge graph there ok o Negative is = tt
+  label_falls g n edge graph there ok o ContextEnd is = tt
+  label_falls g n edge graph there ok o (Begin name) is =
+      silent_falls g n edge graph there ok o (ap is_silent is)
+  label_falls g n edge graph there ok o (End name) is =
+      silent_falls g n edge graph there ok o (ap is_silent is)
+  label_falls g n edge graph there ok o Cut is =
+      silent_falls g n edge graph there ok o (ap is_silent is)
   label_falls g n edge graph there ok o Empty is =
       silent_falls g n edge graph there ok o (ap is_silent is)
   label_falls g n edge graph there ok o Glue is =
@@ -468,7 +482,7 @@ module _ (graphs : List (List Place)) (ranks : List (List ℕ)) (free : List (Li
           let same = place_is (places g) i.ok a n state has at i.found in
           let one = one_in (place_targets (places g) a)
           (subst (λ (x : State). x.is_final ≡ true) same final) in
-          let marked = ranked.ends g a has (not_end (places g) i.ok a has, one) in
+          let marked = ranked.ends g a (not_end (places g) i.ok a has, one) in
           let p = of_place g a has in
           ap (must built g) at
           ∙ (free_is g (number (places g) a) i.graph p.mark i.there p.marked_so
@@ -509,6 +523,12 @@ module _ (graphs : List (List Place)) (ranks : List (List ℕ)) (free : List (Li
         };
   }
 
+  -- every edge has a plain label
+  pub built_is_plain : ArePlain built
+  built_is_plain g n state edge found within =
+      let i = in_graph g n state found in
+      edges_plain (places g) i.ok n state edge i.found within
+
   -- all that holds of every net
   pub built_is_sound : 1 ≤ length graphs → length graphs ≤ 65535 → IsSound built
   built_is_sound some few =
@@ -520,5 +540,6 @@ module _ (graphs : List (List Place)) (ranks : List (List ℕ)) (free : List (Li
             subst (λ (s : List State). length s < 4294967296) (sym (made.each g graph there).states)
             (states_few (places g) (graph_fit g graph there));
         inside = built_is_inside;
+        plain = built_is_plain;
         measured = built_is_measured;
       }

@@ -8,7 +8,8 @@ use Rattle.std.proofs.lemmas.Slice.Eq.{bytes_eq-Decides}
 use Rattle.std.proofs.lemmas.List.{length-map, take_more, take_all, map-append, length-take-le, get_or-take, get_or_default, get_or-map}
 use Rattle.std.proofs.lemmas.Option.{slice_get_cases, slice_get-map, slice_get_read, slice_get_within, slice_get_past, get_or_from_slice_get, slice_get-get_or}
 use Rattle.indexmap.proofs.CallerLemmas.{Contains-list_any}
-use Rattle.ux_base.specs.Distinct.{with_text, StandOnce}
+use Rattle.ux_base.specs.Distinct.{AreFirsts, with_text, StandOnce}
+use Rattle.ux_base.proofs.FirstTextsLemmas.{first_of_firsts}
 use Rattle.ux_net.specs.Boxes.{Drawn, names_of}
 use Rattle.ux_net.specs.Compiling.{AreThere, IsFirstLacking}
 use Rattle.ux_net.specs.Refusing.{drawn_of, drawn, calls_of, calls_in, AreCalled, AreWhole, IsFirstMissing}
@@ -164,6 +165,23 @@ module _ (names : List (List ℕ)) (needed : List (String Global)) where
       so_far j name
       (let len = length-map needed string_bytes in omega (arith, past, lt, len))
       (slice_get-get_or called j name lt ∙ ap Some is)
+
+-- what is so of the firsts of a list of calls is so of the list
+module _ (names calls firsts : List (List ℕ)) (are : AreFirsts calls firsts) where
+  pub there_of_firsts : AreThere firsts names → AreThere calls names
+  there_of_firsts there name has = there name ((are.same name).1 has)
+
+  pub lacking_of_firsts : (name : List ℕ) → IsFirstLacking firsts names name →
+      IsFirstLacking calls names name
+  lacking_of_firsts name lacks =
+      let first = first_of_firsts calls firsts are (Contains names) lacks.k name lacks.called
+      lacks.before in
+      record {
+        k = first.0;
+        called = first.1;
+        missing = lacks.missing;
+        before = first.2;
+      }
 
 module _ (graphs : List Drawn) where
   -- the calls of the graphs so far are of graphs that are there

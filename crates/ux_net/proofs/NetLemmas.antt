@@ -6,7 +6,7 @@ use Rattle.ux_net.specs.declared.net_graph.NetGraph.{NetGraph}
 use Rattle.ux_net.specs.Nets.{graph_at}
 use Rattle.ux_net.specs.Sound.{IsSound}
 
--- the graph that stands at a place is the one of the number behind it
+-- the graph that stands at a place is the one of the number after it
 pub graph_there : (graphs : List NetGraph) (g : ℕ) (graph : NetGraph) → 1 ≤ g → g ≤ length graphs →
     graph ≡ get_or graphs (g - 1) graph → graph_at graphs g ≡ Some graph
 graph_there graphs zero graph from to at = absurd (omega (arith, from))

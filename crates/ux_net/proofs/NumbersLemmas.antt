@@ -94,7 +94,7 @@ number_below graphs (suc g) n h =
     let e = before_more graphs g in
     omega arith
 
--- the graph that stands at a place of the list is the one of the number behind it
+-- the graph that stands at a place of the list is the one of the number after it
 pub places_at : (graphs : List (List Place)) (k : ℕ) (d : List Place) → k < length graphs →
     places_of graphs (suc k) ≡ get_or graphs k d
 places_at [] k d h = absurd (omega (arith, h))

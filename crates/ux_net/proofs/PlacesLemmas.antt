@@ -11,9 +11,8 @@ use Rattle.ux_grf.specs.declared.item.Item.{Item}
 use Rattle.ux_net.proofs.SplittingLemmas.{take-next}
 use Rattle.ux_net.specs.declared.label.Label.{Label}
 use Rattle.ux_net.specs.declared.place.Place.{Place}
-use Rattle.ux_net.specs.Boxes as boxed
-use Rattle.ux_net.specs.Boxes.{lines_at, targets_at}
-use Rattle.ux_net.specs.Places.{lines_in, targets_in, reached_in, box_reached_in, is_reached, label_lines, place_targets, ArePlaces}
+use Rattle.ux_net.specs.Boxes.{box_lines_in, box_targets_in, box_reached_in, lines_at, targets_at}
+use Rattle.ux_net.specs.Places.{lines_in, targets_in, reached_in, is_reached, label_lines, place_targets, ArePlaces}
 use Rattle.ux_net.specs.Splitting.{AreSplitLines, start_line, IsPlaceOf}
 
 -- at a place of a list with one more element stands one of the old elements, or the new one
@@ -107,9 +106,9 @@ module _ (alphabet : Letters) (names : List (List ℕ)) where
   targets_same : (boxes : List GrfBox) (places : List Place) (n : ℕ) → At boxes places n →
       place_targets places n ≡ targets_at boxes n
   targets_same boxes places n (both grf_box place at_box at_place is) =
-      ap targets_in at_place ∙ (is.targets ∙ sym (ap boxed.targets_in at_box))
+      ap targets_in at_place ∙ (is.targets ∙ sym (ap box_targets_in at_box))
   targets_same boxes places n (neither past no_box no_place) =
-      ap targets_in no_place ∙ sym (ap boxed.targets_in no_box)
+      ap targets_in no_place ∙ sym (ap box_targets_in no_box)
 
   reached_same : (boxes : List GrfBox) (places : List Place) (n : ℕ) → At boxes places n →
       is_reached places n ≡ box_reached_in (slice_get boxes n)
@@ -133,13 +132,13 @@ module _ (alphabet : Letters) (names : List (List ℕ)) where
   lines_same boxes places (suc zero) some (both grf_box place at_box at_place is) =
       split_same [] [] _ _ refl (ap lines_in at_place) is.lines
   lines_same boxes places (suc (suc n)) some (both grf_box place at_box at_place is) =
-      split_same _ _ _ _ (ap boxed.lines_in at_box) (ap lines_in at_place) is.lines
+      split_same _ _ _ _ (ap box_lines_in at_box) (ap lines_in at_place) is.lines
   lines_same boxes places zero some (neither past no_box no_place) =
       absurd (omega (arith, some, past))
   lines_same boxes places (suc zero) some (neither past no_box no_place) =
       split_same [] [] [] _ refl (ap lines_in no_place) tt
   lines_same boxes places (suc (suc n)) some (neither past no_box no_place) =
-      split_same [] _ [] _ (ap boxed.lines_in no_box) (ap lines_in no_place) tt
+      split_same [] _ [] _ (ap box_lines_in no_box) (ap lines_in no_place) tt
 
   pub places_whole : (boxes : List GrfBox) (places : List Place) → 0 < length boxes →
       ArePlacesSoFar boxes places → ArePlaces alphabet names boxes places

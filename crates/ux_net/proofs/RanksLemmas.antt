@@ -9,9 +9,10 @@ use Rattle.ux_net.specs.declared.label.Label.TheVariants.{Empty}
 use Rattle.ux_net.specs.declared.net_graph.Rank.{Rank}
 use Rattle.ux_net.specs.declared.place.Place.{Place}
 use Rattle.ux_net.specs.Construct.{labels_at, along_line}
-use Rattle.ux_net.specs.Ranks.{is_silent, are_silent, silent_len, rest_rank, rest_free, chain_rank_at, chain_free_at}
+use Rattle.ux_net.specs.Silent.{is_silent, are_silent}
+use Rattle.ux_net.specs.Ranks.{silent_len, rest_rank, rest_free, chain_rank_at, chain_free_at}
 
--- where some labels in front are silent, there is one less behind the first
+-- where some labels in front are silent, there is one less after the first
 pub one_less : (labels : List Label) (k : ℕ) → k < length labels → 0 < silent_len (drop k labels) →
     silent_len (drop k labels) ≡ 1 + silent_len (drop (k + 1) labels)
 one_less labels k lt some = go (is_silent (get_or labels k Empty)) refl

@@ -4,14 +4,7 @@ use Rattle.std.specs.Prelude.{Contains}
 use Rattle.std.proofs.lemmas.List.{get_or-set_same, get_or-set_other}
 use Rattle.std.proofs.lemmas.List.Elements.{Contains-append_left, Contains-push, Contains-push_cases}
 use Rattle.ux_digraph.specs.Paths.{row_of}
-use Rattle.ux_digraph.proofs.Lists.{same_or, nothing_in}
-
-pub rows_begin : (rows : List (List ℕ)) → ((u : ℕ) → row_of rows u ≡ []) →
-    (u v : ℕ) → Contains (row_of rows u) v ↔ Contains {X = ℕ × ℕ} [] (u, v)
-rows_begin rows none u v = (
-  λ h. absurd (nothing_in (subst (λ (row : List ℕ). Contains row v) (none u) h)),
-  λ h. absurd (nothing_in h),
-)
+use Rattle.ux_digraph.proofs.Lists.{same_or}
 
 -- one more pair
 pub rows_put : (rows after : List (List ℕ)) (pairs : List (ℕ × ℕ)) (p : ℕ × ℕ) →

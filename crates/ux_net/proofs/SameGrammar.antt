@@ -1,39 +1,52 @@
 -- Where each graph of a grammar has all steps and ends of that of another, the same words, loops and
 -- recursions take nothing in it.
 use Rattle.std.proofs.Common.{◌≡◌, ℕ, List, subst, inl, inr}
-use Rattle.ux_net.specs.declared.label.Label.{Label}
-use Rattle.ux_net.specs.Words.{Step, StepGraph, Grammar, Run, stop, along, IsWord}
-use Rattle.ux_net.specs.Admissible.{IsFree, none, glue, call, LeadsFreely, Enters, EntersInTurns, once, more, IsOnEmptyLoop, IsLeftRecursive, IsAdmissible, IsFirst}
+use Rattle.ux_net.specs.Words.{Step, StepGraph, Grammar, Letter, Run, stop, along, across, IsWord, IsBody, IsRenumbered, same_plain, same_piece, same_context, AreRenumbered, SayTheSame}
+use Rattle.ux_net.specs.Admissible.{IsFree, none, silent, call, LeadsFreely, Enters, EntersInTurns, once, more, IsOnEmptyLoop, IsLeftRecursive, IsAdmissible, IsFirst}
 
--- the second graph starts where the first does, and has its ends and steps
+-- the second graph starts where the first does, and has its places, ends and steps
 pub record IsWithin (old new : StepGraph) : Type 0 where
   pub start : old.start ≡ new.start
+  pub places : (n : ℕ) → old.IsPlace n → new.IsPlace n
   pub ends : (n : ℕ) → old.IsEnd n → new.IsEnd n
   pub steps : (s : Step) → old.IsStep s → new.IsStep s
 
-module _ (old new : StepGraph) (within : IsWithin old new) where
-  pub run_within : {a b : ℕ} {word : List Label} → Run old a b word → Run new a b word
+module _ (g : ℕ) (old new : StepGraph) (within : IsWithin old new) where
+  pub run_within : {a b : ℕ} {word : List Letter} → Run g old a b word → Run g new a b word
   run_within stop = stop
-  run_within (along s is run) = along s (within.steps s is) (run_within run)
+  run_within (along s is mark run) = along s (within.steps s is) mark (run_within run)
+  run_within (across sign s t is mark body is' mark' run) =
+      across sign s t (within.steps s is) mark (run_within body) (within.steps t is') mark'
+      (run_within run)
 
-  pub word_within : (word : List Label) → IsWord old word → IsWord new word
+  pub word_within : (word : List Letter) → IsWord g old word → IsWord g new word
   word_within word w = record {
     last = w.last;
     ends = within.ends w.last w.ends;
-    run = subst (λ a. Run new a w.last word) within.start (run_within w.run);
+    run = subst (λ a. Run g new a w.last word) within.start (run_within w.run);
+  }
+
+  pub body_within : (opening closing : ℕ) (word : List Letter) →
+      IsBody g old opening closing word → IsBody g new opening closing word
+  body_within opening closing word body = record {
+    step = body.step;
+    inside = within.steps body.step body.inside;
+    closed = body.closed;
+    after = body.after;
+    run = run_within body.run;
   }
 
 module _ (old new : Grammar) (within : (g : ℕ) → IsWithin (old.graph g) (new.graph g)) where
-  free_within : {word : List Label} → IsFree old word → IsFree new word
+  free_within : {word : List Letter} → IsFree old word → IsFree new word
   free_within none = none
-  free_within (glue rest) = glue (free_within rest)
+  free_within (silent s rest) = silent s (free_within rest)
   free_within (call {h = h} {called = called} is free rest) =
-      call (word_within (old.graph h) (new.graph h) (within h) called is) (free_within free)
+      call (word_within h (old.graph h) (new.graph h) (within h) called is) (free_within free)
       (free_within rest)
 
   leads_within : (g a b : ℕ) → LeadsFreely old g a b → LeadsFreely new g a b
   leads_within g a b l =
-      (l.0, run_within (old.graph g) (new.graph g) (within g) l.1, free_within l.2)
+      (l.0, run_within g (old.graph g) (new.graph g) (within g) l.1, free_within l.2)
 
   enters_within : (g h node : ℕ) → Enters old g h node → Enters new g h node
   enters_within g h node e = record {
@@ -56,8 +69,8 @@ module _ (old new : Grammar) (within : (g : ℕ) → IsWithin (old.graph g) (new
   pub loop_within : (g node : ℕ) → IsOnEmptyLoop old g node → IsOnEmptyLoop new g node
   loop_within g node o = record {
     word = o.word;
-    reached = subst (λ a. Run (new.graph g) a node o.word) (within g).start
-        (run_within (old.graph g) (new.graph g) (within g) o.reached);
+    reached = subst (λ a. Run g (new.graph g) a node o.word) (within g).start
+        (run_within g (old.graph g) (new.graph g) (within g) o.reached);
     step = o.step;
     of_graph = (within g).steps o.step o.of_graph;
     begins = o.begins;
@@ -85,3 +98,45 @@ admissible_within old new back a = record {
   no_empty_loop = λ g node o. a.no_empty_loop g node (loop_within new old back g node o);
   no_left_recursion = λ g node r. a.no_left_recursion g node (recursion_within new old back g node r);
 }
+
+-- Two grammars of which each is within the other: what says the same as one does so as the other.
+module _ (old mid new : Grammar) (forth : (g : ℕ) → IsWithin (old.graph g) (mid.graph g))
+    (back : (g : ℕ) → IsWithin (mid.graph g) (old.graph g)) where
+  one_within : (number : (g place : ℕ) → ℕ) {x y : Letter} → IsRenumbered mid number x y →
+      IsRenumbered old number x y
+  one_within number same_plain = same_plain
+  one_within number same_piece = same_piece
+  one_within number (same_context {g = g} {opening = opening} {closing = closing} a b) =
+      same_context ((back g).places opening a) ((back g).places closing b)
+
+  word_numbered : (number : (g place : ℕ) → ℕ) {v w : List Letter} →
+      AreRenumbered mid number v w → AreRenumbered old number v w
+  word_numbered number AreRenumbered.none = AreRenumbered.none
+  word_numbered number (AreRenumbered.more one rest) =
+      AreRenumbered.more (one_within number one) (word_numbered number rest)
+
+  pub say_within : SayTheSame mid new → SayTheSame old new
+  say_within same = record {
+    number = same.number;
+    words = λ g v w.
+        let r = same.words g v (word_within g (old.graph g) (mid.graph g) (forth g) v w) in
+        (r.0, word_numbered same.number r.1, r.2);
+    words_back = λ g w is.
+        let r = same.words_back g w is in (
+          r.0,
+          word_numbered same.number r.1,
+          word_within g (mid.graph g) (old.graph g) (back g) r.0 r.2,
+        );
+    bodies = λ g opening closing a b v body.
+        let r = same.bodies g opening closing ((forth g).places opening a)
+        ((forth g).places closing b) v
+        (body_within g (old.graph g) (mid.graph g) (forth g) opening closing v body) in
+        (r.0, word_numbered same.number r.1, r.2);
+    bodies_back = λ g opening closing a b w body.
+        let r = same.bodies_back g opening closing ((forth g).places opening a)
+        ((forth g).places closing b) w body in (
+          r.0,
+          word_numbered same.number r.1,
+          body_within g (mid.graph g) (old.graph g) (back g) opening closing r.0 r.2,
+        );
+  }

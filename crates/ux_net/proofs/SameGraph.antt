@@ -1,4 +1,4 @@
--- A graph's boxes and the places made of them have the same steps.
+-- A graph's boxes and the places made of them have the same steps, where no box has an output.
 use Rattle.std.proofs.Common.{arith, ◌≡◌, ℕ, zero, suc, ◌+◌, List, [], ◌∷◌, ◌++◌, refl, sym, ◌∙◌, ap, subst, map}
 use Rattle.std.specs.Prelude.{Contains}
 use Rattle.std.specs.List.{AllZip}
@@ -14,7 +14,7 @@ use Rattle.ux_net.specs.declared.label.Label.TheVariants as label
 use Rattle.ux_base.specs.Distinct.{StandOnce}
 use Rattle.ux_net.specs.Words.{Step}
 use Rattle.ux_tokens.specs.declared.kind.Kind.{Kind}
-use Rattle.ux_net.specs.Boxes.{fold_label, exact_label, IsCut, IsSplit, IsSplitLine, lines_at, IsBoxStep}
+use Rattle.ux_net.specs.Boxes.{fold_label, exact_label, IsCut, IsSplit, IsSplitLine, lines_at, output_at, IsBoxStep}
 use Rattle.ux_net.specs.Places.{label_lines, ArePlaces, IsPlaceStep}
 
 module _ {A B : Type 0} (R : A → B → Type 0) where
@@ -55,14 +55,14 @@ module _ (alphabet : Letters) (names : List (List ℕ)) (once : StandOnce names)
   split_same Empty v w a b = a ∙ sym b
   split_same (Call name) v w a b =
       a.2 ∙ (ap (λ (k : ℕ). label.Call (k + 1) ∷ []) (once a.0 b.0 name a.1 b.1) ∙ sym b.2)
-  split_same (Mask text) v w a b = absurd a
-  split_same (Brace text) v w a b = absurd a
-  split_same (Begin name) v w a b = absurd a
-  split_same (End name) v w a b = absurd a
-  split_same Positive v w a b = absurd a
-  split_same Negative v w a b = absurd a
-  split_same ContextEnd v w a b = absurd a
-  split_same Cut v w a b = absurd a
+  split_same (Mask text) v w a b = a ∙ sym b
+  split_same (Brace text) v w a b = a ∙ sym b
+  split_same (Begin name) v w a b = a ∙ sym b
+  split_same (End name) v w a b = a ∙ sym b
+  split_same Positive v w a b = a ∙ sym b
+  split_same Negative v w a b = a ∙ sym b
+  split_same ContextEnd v w a b = a ∙ sym b
+  split_same Cut v w a b = a ∙ sym b
 
   pub split_line_same : (line : List Item) (v w : List Label) → IsSplitLine alphabet names line v →
       IsSplitLine alphabet names line w → v ≡ w
@@ -72,7 +72,8 @@ module _ (alphabet : Letters) (names : List (List ℕ)) (once : StandOnce names)
       ∙ (ap (λ x. b.0 ++ x) (split_line_same items a.1 b.1 a.3 b.3) ∙ sym b.4))
 
 module _ (alphabet : Letters) (names : List (List ℕ)) (boxes : List GrfBox)
-    (places : List Place) (once : StandOnce names) (are : ArePlaces alphabet names boxes places) where
+    (places : List Place) (once : StandOnce names) (are : ArePlaces alphabet names boxes places)
+    (bare : (n : ℕ) → output_at boxes n ≡ []) where
   pub place_step : (s : Step) → IsBoxStep alphabet names boxes s → IsPlaceStep places s
   place_step s b =
       let p = partner (IsSplitLine alphabet names) (lines_at boxes s.to) (label_lines places s.to)
@@ -82,6 +83,7 @@ module _ (alphabet : Letters) (names : List (List ℕ)) (boxes : List GrfBox)
         leads = subst (λ targets. Contains targets s.to) (sym (are.targets s.from)) b.leads;
         line = subst (λ v. Contains (label_lines places s.to) v)
             (split_line_same alphabet names once b.line p.0 s.labels p.2 b.splits) p.1;
+        puts = b.puts ∙ bare s.to;
       }
 
   pub box_step : (s : Step) → IsPlaceStep places s → IsBoxStep alphabet names boxes s
@@ -93,5 +95,6 @@ module _ (alphabet : Letters) (names : List (List ℕ)) (boxes : List GrfBox)
         leads = subst (λ targets. Contains targets s.to) (are.targets s.from) p.leads;
         line = b.0;
         of_box = b.1;
+        puts = p.puts ∙ sym (bare s.to);
         splits = b.2;
       }

@@ -18,7 +18,7 @@ use Rattle.ux_grf.specs.Size.{size_of_item, size_of_line, size_of_box, size_of}
 use Rattle.ux_net.specs.declared.label.Label.{Label}
 use Rattle.ux_net.specs.declared.label.Label.TheVariants.{Empty}
 use Rattle.ux_net.specs.declared.place.Place.{Place}
-use Rattle.ux_net.specs.Boxes.{fold_label, exact_label, IsCut, IsSplit, IsSplitLine, lines_at, lines_in as box_lines_in}
+use Rattle.ux_net.specs.Boxes.{fold_label, exact_label, IsCut, IsSplit, IsSplitLine, lines_at, box_lines_in}
 use Rattle.ux_net.specs.Construct.{place_size}
 use Rattle.ux_net.specs.Places.{label_lines, lines_in, ArePlaces}
 
@@ -85,14 +85,14 @@ module _ (alphabet : Letters) (names : List (List ℕ)) where
   item_few item.Glue labels s = rw s (omega arith)
   item_few item.Empty labels s = rw s (omega arith)
   item_few (item.Call name) labels s = rw s.2 (omega arith)
-  item_few (item.Mask text) labels s = absurd s
-  item_few (item.Brace text) labels s = absurd s
-  item_few (item.Begin name) labels s = absurd s
-  item_few (item.End name) labels s = absurd s
-  item_few item.Positive labels s = absurd s
-  item_few item.Negative labels s = absurd s
-  item_few item.ContextEnd labels s = absurd s
-  item_few item.Cut labels s = absurd s
+  item_few (item.Mask text) labels s = rw s (omega arith)
+  item_few (item.Brace text) labels s = rw s (omega arith)
+  item_few (item.Begin name) labels s = rw s (omega arith)
+  item_few (item.End name) labels s = rw s (omega arith)
+  item_few item.Positive labels s = rw s (omega arith)
+  item_few item.Negative labels s = rw s (omega arith)
+  item_few item.ContextEnd labels s = rw s (omega arith)
+  item_few item.Cut labels s = rw s (omega arith)
 
   -- a line has no more labels than it is large
   line_few : (line : List Item) (labels : List Label) → IsSplitLine alphabet names line labels →

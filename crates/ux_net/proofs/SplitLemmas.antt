@@ -1,7 +1,7 @@
 -- The grammar of the boxes and that of the places have the same steps.
-use Rattle.std.proofs.Common.{arith, ◌≡◌, ℕ, zero, suc, ◌<◌, List, [], refl, sym, ap, subst, inl, inr, length}
-use Rattle.std.specs.Prelude.{Contains}
-use Rattle.std.proofs.lemmas.Option.{slice_get_past}
+use Rattle.std.proofs.Common.{arith, ◌≡◌, ℕ, zero, suc, ◌<◌, List, [], refl, sym, ◌∙◌, ap, subst, inl, inr, length, true}
+use Rattle.std.specs.Prelude.{Contains, slice_get}
+use Rattle.std.proofs.lemmas.Option.{slice_get_past, slice_get-get_or}
 use Rattle.ux_alphabet.specs.Letters.{Letters}
 use Rattle.ux_grf.specs.declared.graph.GrfBox.{GrfBox}
 use Rattle.ux_base.specs.Distinct.{StandOnce}
@@ -9,12 +9,13 @@ use Rattle.ux_net.specs.declared.error.NetError.{NetError}
 use Rattle.ux_net.specs.declared.error.NetError.TheVariants.{MissingGraph, NotYet, EmptyLoop, LeftRecursion, NoMemory}
 use Rattle.ux_net.specs.declared.place.Place.{Place}
 use Rattle.ux_net.specs.Admissible.{IsOnEmptyLoop, IsLeftRecursive, IsAdmissible}
-use Rattle.ux_net.specs.Boxes.{Drawn, boxes_in, boxes_of, names_of, targets_in as box_targets_in, targets_at, box_graph, box_grammar}
-use Rattle.ux_net.specs.Places.{ArePlaces, places_in, places_of, place_graph, place_grammar}
+use Rattle.ux_net.specs.Boxes.{Drawn, boxes_in, boxes_of, names_of, box_reached_in, box_targets_in, targets_at, box_graph, box_grammar}
+use Rattle.ux_net.specs.Places.{ArePlaces, places_in, places_of, is_reached, reached_in, place_graph, place_grammar}
 use Rattle.ux_net.specs.Compiling.{AreSplit, RefusesPlaces}
-use Rattle.ux_net.specs.Refusing.{AreWhole, AreCompiled, Refuses}
+use Rattle.ux_net.specs.Refusing.{AreWhole, AreCompiled, HasNoBeyond, Refuses}
 use Rattle.ux_net.proofs.JoinedLemmas.{less_or, nothing_in}
 use Rattle.ux_net.proofs.StepsLemmas.{step_inside, target_from}
+use Rattle.ux_net.proofs.PlainLemmas.{no_output}
 use Rattle.ux_net.proofs.SameGraph.{place_step, box_step}
 use Rattle.ux_net.proofs.SameGrammar.{IsWithin, loop_within, recursion_within, first_so, admissible_within}
 
@@ -29,11 +30,21 @@ pub none_there : (places : List Place) (a : ℕ) → places ≡ [] → a < lengt
 none_there places a none h =
     let e = ap (λ (l : List Place). length l) none in absurd (omega (arith, e, h))
 
+no_box : (boxes : List GrfBox) (n : ℕ) → boxes ≡ [] →
+    box_reached_in (slice_get boxes n) ≡ true → ⊥
+no_box boxes n none on =
+    let off = ap box_reached_in (slice_get_past boxes n (rw none (omega arith))) in cc
+
+no_place : (places : List Place) (n : ℕ) → places ≡ [] → is_reached places n ≡ true → ⊥
+no_place places n none on =
+    let off = ap reached_in (slice_get_past places n (rw none (omega arith))) in cc
+
 module _ (alphabet : Letters) (names : List (List ℕ)) (boxes : List GrfBox)
     (places : List Place) where
   none_to_places : boxes ≡ [] → IsWithin (box_graph alphabet names boxes) (place_graph places)
   none_to_places none = record {
     start = refl;
+    places = λ n p. absurd (no_box boxes n none p.1);
     ends = λ n e. absurd (none_leads boxes n 1 none e.1);
     steps = λ s i. absurd (none_leads boxes s.from s.to none i.leads);
   }
@@ -41,35 +52,45 @@ module _ (alphabet : Letters) (names : List (List ℕ)) (boxes : List GrfBox)
   none_to_boxes : places ≡ [] → IsWithin (place_graph places) (box_graph alphabet names boxes)
   none_to_boxes none = record {
     start = refl;
+    places = λ n p. absurd (no_place places n none p.1);
     ends = λ n e. absurd (none_there places n none (target_from places n 1 e.1));
     steps = λ s i. absurd (none_there places s.from none (step_inside places s i).0);
   }
 
-  some_to_places : StandOnce names → ArePlaces alphabet names boxes places →
+  some_to_places : StandOnce names → ArePlaces alphabet names boxes places → HasNoBeyond boxes →
       IsWithin (box_graph alphabet names boxes) (place_graph places)
-  some_to_places once are = record {
+  some_to_places once are compiled = record {
     start = refl;
+    places = λ n p. (p.0, are.reached n ∙ p.1);
     ends = λ n e. (e.0, subst (λ (l : List ℕ). Contains l 1) (sym (are.targets n)) e.1);
-    steps = place_step alphabet names boxes places once are;
+    steps = place_step alphabet names boxes places once are (no_output boxes compiled);
   }
 
-  some_to_boxes : StandOnce names → ArePlaces alphabet names boxes places →
+  some_to_boxes : StandOnce names → ArePlaces alphabet names boxes places → HasNoBeyond boxes →
       IsWithin (place_graph places) (box_graph alphabet names boxes)
-  some_to_boxes once are = record {
+  some_to_boxes once are compiled = record {
     start = refl;
+    places = λ n p. (p.0, sym (are.reached n) ∙ p.1);
     ends = λ n e. (e.0, subst (λ (l : List ℕ). Contains l 1) (are.targets n) e.1);
-    steps = box_step alphabet names boxes places once are;
+    steps = box_step alphabet names boxes places once are (no_output boxes compiled);
   }
 
 module _ (alphabet : Letters) (graphs : List Drawn) (places : List (List Place))
-    (once : StandOnce (names_of graphs)) (are : AreSplit alphabet graphs places) where
+    (once : StandOnce (names_of graphs)) (are : AreSplit alphabet graphs places)
+    (all_compiled : AreCompiled graphs) where
+  compiled_at : (n : ℕ) → n < length graphs → HasNoBeyond (boxes_of graphs (suc n))
+  compiled_at n lt =
+      let d : Drawn = record { name = []; boxes = [] } in
+      subst (λ o. HasNoBeyond (boxes_in o)) (sym (slice_get-get_or graphs n d lt))
+      (all_compiled n d lt)
+
   pub to_places : (g : ℕ) → IsWithin
       (box_graph alphabet (names_of graphs) (boxes_of graphs g)) (place_graph (places_of places g))
   to_places zero = none_to_places alphabet (names_of graphs) [] [] refl
   to_places (suc n) = elim (less_or n (length graphs)) [
     | inl lt ↦
         some_to_places alphabet (names_of graphs) (boxes_of graphs (suc n))
-        (places_of places (suc n)) once (are.each n lt)
+        (places_of places (suc n)) once (are.each n lt) (compiled_at n lt)
     | inr past ↦
         none_to_places alphabet (names_of graphs) (boxes_of graphs (suc n))
         (places_of places (suc n)) (ap boxes_in (slice_get_past graphs n past))
@@ -81,7 +102,7 @@ module _ (alphabet : Letters) (graphs : List Drawn) (places : List (List Place))
   to_boxes (suc n) = elim (less_or n (length graphs)) [
     | inl lt ↦
         some_to_boxes alphabet (names_of graphs) (boxes_of graphs (suc n))
-        (places_of places (suc n)) once (are.each n lt)
+        (places_of places (suc n)) once (are.each n lt) (compiled_at n lt)
     | inr past ↦
         none_to_boxes alphabet (names_of graphs) (boxes_of graphs (suc n))
         (places_of places (suc n))
@@ -102,13 +123,13 @@ module _ (alphabet : Letters) (graphs : List Drawn) (places : List (List Place))
   loop_places = loop_within (box_grammar alphabet graphs) (place_grammar places) to_places
 
   -- what the places show, the boxes do
-  pub refused : (error : NetError) → AreWhole graphs → AreCompiled graphs →
-      RefusesPlaces graphs places error → Refuses alphabet graphs error
-  refused (MissingGraph name) whole compiled r = absurd r
-  refused (NotYet name node) whole compiled r = absurd r
-  refused (EmptyLoop name node) whole compiled (g, named, first) = (
+  pub refused : (error : NetError) → AreWhole graphs → RefusesPlaces graphs places error →
+      Refuses alphabet graphs error
+  refused (MissingGraph name) whole r = absurd r
+  refused (NotYet name node) whole r = absurd r
+  refused (EmptyLoop name node) whole (g, named, first) = (
     whole,
-    compiled,
+    all_compiled,
     (
       g,
       named,
@@ -116,9 +137,9 @@ module _ (alphabet : Letters) (graphs : List Drawn) (places : List (List Place))
           loop_boxes loop_places g node first,
     ),
   )
-  refused (LeftRecursion name node) whole compiled (no_loop, (g, named, first)) = (
+  refused (LeftRecursion name node) whole (no_loop, (g, named, first)) = (
     whole,
-    compiled,
+    all_compiled,
     λ h m so. no_loop h m (loop_places h m so),
     (
       g,
@@ -130,4 +151,4 @@ module _ (alphabet : Letters) (graphs : List Drawn) (places : List (List Place))
           g node first,
     ),
   )
-  refused NoMemory whole compiled r = tt
+  refused NoMemory whole r = tt

@@ -2,26 +2,22 @@
 use Rattle.std.proofs.Common.{arith, ◌≡◌, ℕ, List, [], ◌∷◌, ◌++◌, subst, sym, ◌∙◌, ◌⊎◌, inl, inr, ◌↔◌}
 use Rattle.std.specs.Prelude.{Contains, Option, Some, None, IfSome}
 use Rattle.std.proofs.lemmas.List.Elements.{Contains-append_left, Contains-push, Contains-push_cases}
-use Rattle.ux_digraph.proofs.Lists.{nothing_in}
 use Rattle.ux_net.specs.declared.spot.Spot.{Spot}
-use Rattle.ux_net.specs.Spots.{IsNotBehind, IsLeast, FindsFirst}
+use Rattle.ux_net.specs.Spots.{IsNotAfter, IsLeast, FindsFirst}
 
-not_behind : (a b c : Spot) → IsNotBehind a b → IsNotBehind b c → IsNotBehind a c
-not_behind a b c (inl x) (inl y) = inl (omega arith)
-not_behind a b c (inl x) (inr y) = let e = y.0 in inl (omega arith)
-not_behind a b c (inr x) (inl y) = let e = x.0 in inl (omega arith)
-not_behind a b c (inr x) (inr y) =
+not_after : (a b c : Spot) → IsNotAfter a b → IsNotAfter b c → IsNotAfter a c
+not_after a b c (inl x) (inl y) = inl (omega arith)
+not_after a b c (inl x) (inr y) = let e = y.0 in inl (omega arith)
+not_after a b c (inr x) (inl y) = let e = x.0 in inl (omega arith)
+not_after a b c (inr x) (inr y) =
     let e = x.1 in
     let f = y.1 in
     inr (x.0 ∙ y.0, omega arith)
 
-pub least_none : IsLeast [] None
-least_none = λ s h. nothing_in h
-
 -- the lesser of the least and one more spot
 pub least_more : (spots : List Spot) (best : Option Spot) (spot next : Spot) → IsLeast spots best →
-    (next ≡ spot) ⊎ (best ≡ Some next) → IsNotBehind next spot →
-    IfSome best (λ best. IsNotBehind next best) → IsLeast (spots ++ spot ∷ []) (Some next)
+    (next ≡ spot) ⊎ (best ≡ Some next) → IsNotAfter next spot →
+    IfSome best (λ best. IsNotAfter next best) → IsLeast (spots ++ spot ∷ []) (Some next)
 least_more spots None spot next least either here old = (
   elim either [
     | inl e ↦ subst (λ s. Contains (spots ++ spot ∷ []) s) (sym e) (Contains-push spots spot)
@@ -29,7 +25,7 @@ least_more spots None spot next least either here old = (
   ],
   λ other h. elim (Contains-push_cases spots spot other h) [
     | inl a ↦ absurd (least other a)
-    | inr e ↦ subst (λ s. IsNotBehind next s) e here
+    | inr e ↦ subst (λ s. IsNotAfter next s) e here
   ],
 )
 least_more spots (Some best) spot next least either here old = (
@@ -41,8 +37,8 @@ least_more spots (Some best) spot next least either here old = (
         (Contains-append_left spots (spot ∷ []) best least.0)
   ],
   λ other h. elim (Contains-push_cases spots spot other h) [
-    | inl a ↦ not_behind next best other old (least.1 other a)
-    | inr e ↦ subst (λ s. IsNotBehind next s) e here
+    | inl a ↦ not_after next best other old (least.1 other a)
+    | inr e ↦ subst (λ s. IsNotAfter next s) e here
   ],
 )
 
@@ -68,8 +64,3 @@ least_first IsSo spots (Some best) exact least = record {
         | inr b ↦ let e = b.1 in omega arith
       ];
 }
-
--- where none is found it is so nowhere
-pub finds_none : (IsSo : (g node : ℕ) → Type 0) (found : Option Spot) → found ≡ None →
-    FindsFirst IsSo found → (g node : ℕ) → IsSo g node → ⊥
-finds_none IsSo found e f = subst (λ (o : Option Spot). FindsFirst IsSo o) e f

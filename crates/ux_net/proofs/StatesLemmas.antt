@@ -39,9 +39,6 @@ sum_ranged g (x ∷ xs) =
     ∙ sym (sum_by-cons (λ y. g (Some y)) x xs))
 
 -- the labels of a line but the first
-later_labels : List Label → ℕ
-later_labels line = length line - 1
-
 abbrev later_in : Option (List Label) → ℕ
 later_in line = length (labels_in line) - 1
 

@@ -1,19 +1,21 @@
 -- What fit places give: steps stay inside, lines are calls or have none, reached places have runs.
-use Rattle.std.proofs.Common.{arith, ◌≡◌, ◌≢◌, ℕ, zero, suc, ◌<◌, ◌≤◌, List, [], ◌∷◌, ◌++◌, length, refl, subst, sym, ◌∙◌, ◌⊎◌, inl, inr, Bool, true, false, get_or, map, set}
+use Rattle.std.proofs.Common.{arith, ◌≡◌, ◌≢◌, ℕ, zero, suc, ◌<◌, ◌≤◌, List, [], ◌∷◌, ◌++◌, length, refl, ap, subst, sym, ◌∙◌, ◌⊎◌, inl, inr, Bool, true, false, get_or, map, set}
 use Rattle.std.specs.Prelude.{Contains, All}
 use Rattle.std.proofs.lemmas.Option.{slice_get_past}
 use Rattle.std.proofs.lemmas.List.{length-map, get_or-set_same, get_or-set_other}
-use Rattle.std.proofs.lemmas.List.Elements.{All-head, All-tail, All-contains, All-contains_itself, All-weaker, Contains-get_or}
+use Rattle.std.proofs.lemmas.List.Elements.{All-nil, All-cons, All-head, All-tail, All-contains, All-contains_itself, All-weaker, Contains-get_or}
 use Rattle.ux_digraph.proofs.Lists.{nothing_in, less_or, same_or}
 use Rattle.ux_grf.specs.Reached.{row_of, Reached, start, step}
 use Rattle.ux_net.specs.declared.label.Label.{Label}
-use Rattle.ux_net.specs.declared.label.Label.TheVariants.{Call}
+use Rattle.ux_net.specs.declared.label.Label.TheVariants.{Empty, Fold, Exact, Mask, Brace, Space, Glue, Begin, End, Positive, Negative, ContextEnd, Cut, Call}
 use Rattle.ux_net.specs.declared.place.Place.{Place}
-use Rattle.ux_net.specs.Words.{Step, Run, stop, along, letters}
+use Rattle.ux_net.specs.Words.{Step, Letter, ordinary, mark_of, Run, stop, along, across, letters, put_by}
 use Rattle.ux_net.specs.Places.{places_of, place_graph, place_targets, targets_in, label_lines, is_reached, lines_in, IsPlaceStep}
-use Rattle.ux_net.specs.Fit.{IsFit, IsFitLine, is_call, place_ways}
+use Rattle.ux_net.specs.Nets.{IsCalled, IsPlain}
+use Rattle.ux_net.specs.Construct.{is_call}
+use Rattle.ux_net.specs.Fit.{IsFit, IsFitLine, place_ways}
 use Rattle.ux_net.proofs.NumbersLemmas.{graph_so, graph_so_at}
-use Rattle.ux_net.proofs.FreeLemmas.{run_joined, one_step}
+use Rattle.ux_net.proofs.FreeLemmas.{plain_ordinary, run_joined, one_step}
 
 pub target_from : (places : List Place) (a b : ℕ) → Contains (place_targets places a) b →
     a < length places
@@ -36,6 +38,12 @@ pub step_inside : (places : List Place) (s : Step) → IsPlaceStep places s →
 step_inside places s i =
     (target_from places s.from s.to i.leads, line_from places s.to s.labels i.line)
 
+-- the step of places has no output
+pub bare_step : (places : List Place) (s : Step) → IsPlaceStep places s →
+    IsPlaceStep places (record { from = s.from; to = s.to; output = []; labels = s.labels })
+bare_step places s i =
+    record { before_end = i.before_end; leads = i.leads; line = i.line; puts = refl }
+
 no_call_in : (front back : List Label) (h : ℕ) →
     All (λ (x : Label). is_call x ≡ false) (front ++ Call h ∷ back) → ⊥
 no_call_in [] back h all =
@@ -49,13 +57,47 @@ one_call [] back h k e = cc
 one_call (x ∷ []) back h k e = absurd (cc)
 one_call (x ∷ y ∷ front) back h k e = absurd (cc)
 
+call_or : (x : Label) → ((h : ℕ) × (x ≡ Call h)) ⊎ (is_call x ≡ false)
+call_or Empty = inr refl
+call_or (Fold text) = inr refl
+call_or (Exact text) = inr refl
+call_or (Mask text) = inr refl
+call_or (Brace text) = inr refl
+call_or Space = inr refl
+call_or Glue = inr refl
+call_or (Begin name) = inr refl
+call_or (End name) = inr refl
+call_or Positive = inr refl
+call_or Negative = inr refl
+call_or ContextEnd = inr refl
+call_or Cut = inr refl
+call_or (Call h) = inl (h, refl)
+
+-- a line that is one call, of a graph that is there
+abbrev pub IsCallLine : ℕ → List Label → Type 0
+IsCallLine count line = (h : ℕ) × (line ≡ Call h ∷ []) × (1 ≤ h) × (h ≤ count)
+
+-- a fit line is one call, or calls nothing
+pub fit_cases : (count : ℕ) (line : List Label) → IsFitLine count line →
+    IsCallLine count line ⊎ All (λ (x : Label). is_call x ≡ false) line
+fit_cases count [] fit = absurd (let some = fit.line.some in omega (arith, some))
+fit_cases count (x ∷ y ∷ ys) fit = inr (fit.line.lone (omega arith))
+fit_cases count (x ∷ []) fit = elim (call_or x) [
+  | inl c ↦
+      let called : IsCalled count (Call c.0) =
+      subst (IsCalled count) c.1 (All-head (IsCalled count) x [] fit.called) in
+      inl (c.0, ap (λ (y : Label). y ∷ []) c.1, called.0, called.1)
+  | inr n ↦ inr (All-cons (λ (x : Label). is_call x ≡ false) x [] n
+      (All-nil (λ (x : Label). is_call x ≡ false)))
+]
+
 -- a fit line in which a call stands is that call
 pub call_alone : (count : ℕ) (line front back : List Label) (h : ℕ) → IsFitLine count line →
     line ≡ front ++ Call h ∷ back → line ≡ Call h ∷ []
-call_alone count line front back h fit e = elim fit [
+call_alone count line front back h fit e = elim (fit_cases count line fit) [
   | inl c ↦ c.1 ∙ one_call front back h c.0 (sym c.1 ∙ e)
   | inr n ↦ absurd (no_call_in front back h
-      (subst (λ l. All (λ (x : Label). is_call x ≡ false) l) e n.1))
+      (subst (λ l. All (λ (x : Label). is_call x ≡ false) l) e n))
 ]
 
 same_call : (h k : ℕ) → Call h ∷ [] ≡ Call k ∷ [] → h ≡ k
@@ -64,14 +106,14 @@ same_call h k e = cc
 -- the graph of a fit call is there
 pub call_inside : (count : ℕ) (line : List Label) (h : ℕ) → IsFitLine count line →
     line ≡ Call h ∷ [] → (1 ≤ h) × (h ≤ count)
-call_inside count line h fit e = elim fit [
+call_inside count line h fit e = elim (fit_cases count line fit) [
   | inl c ↦
       let same = same_call h c.0 (sym e ∙ c.1) in
       let from = c.2 in
       let to = c.3 in
       (omega arith, omega arith)
   | inr n ↦ absurd (no_call_in [] [] h
-      (subst (λ l. All (λ (x : Label). is_call x ≡ false) l) e n.1))
+      (subst (λ l. All (λ (x : Label). is_call x ≡ false) l) e n))
 ]
 
 targets_at : (places : List Place) (u : ℕ) →
@@ -80,7 +122,12 @@ targets_at [] u = refl
 targets_at (place ∷ places) zero = refl
 targets_at (place ∷ places) (suc u) = targets_at places u
 
-module _ (count : ℕ) (places : List Place) (fit : IsFit count places) where
+module _ (g count : ℕ) (places : List Place) (fit : IsFit count places) where
+  -- a step neither opens nor closes a context
+  pub plain_step : (s : Step) → IsPlaceStep places s → mark_of s.labels ≡ ordinary
+  plain_step s i = plain_ordinary s.labels
+      (All-contains (All IsPlain) (label_lines places s.to) s.labels (fit.plain s.to) i.line)
+
   -- a way leads from a place other than the end to a target
   way_leads : (u v : ℕ) → Contains (row_of (place_ways places) u) v →
       (u ≢ 1) × Contains (place_targets places u) v
@@ -102,7 +149,7 @@ module _ (count : ℕ) (places : List Place) (fit : IsFit count places) where
 
   -- a run from the start leads to each place that is reached, other than the end
   pub reached_run : {n : ℕ} → Reached (place_ways places) n → n ≢ 1 →
-      (word : List Label) × Run (place_graph places) 0 n word
+      (word : List Letter) × Run g (place_graph places) 0 n word
   reached_run start apart = ([], stop)
   reached_run (step {u = u} {v = v} r e) apart =
       let way = way_leads u v e in
@@ -110,26 +157,29 @@ module _ (count : ℕ) (places : List Place) (fit : IsFit count places) where
       let inside = fit.inside u v way.1 in
       let lined = fit.lined v ((fit.reached v inside).1 (step r e)) apart in
       let line = get_or (label_lines places v) 0 [] in
-      let s : Step = record { from = u; to = v; labels = line } in
+      let s : Step = record { from = u; to = v; output = []; labels = line } in
       let i : IsPlaceStep places s = record {
         before_end = way.0;
         leads = way.1;
         line = Contains-get_or (label_lines places v) 0 [] lined;
+        puts = refl;
       } in (
-        before.0 ++ letters line,
-        run_joined (place_graph places) before.1 (one_step (place_graph places) s i),
+        before.0 ++ (put_by s ++ letters line),
+        run_joined g (place_graph places) before.1
+            (one_step g (place_graph places) s i (plain_step s i)),
       )
 
   -- where a line leads to the beginning of a run, one leads to its end
-  run_lined : {a b : ℕ} {word line : List Label} → Contains (label_lines places a) line →
-      Run (place_graph places) a b word →
+  run_lined : {a b : ℕ} {word : List Letter} {line : List Label} →
+      Contains (label_lines places a) line → Run g (place_graph places) a b word →
       (last : List Label) × Contains (label_lines places b) last
   run_lined {line = line} h stop = (line, h)
-  run_lined h (along s i r) = run_lined i.line r
+  run_lined h (along s i m r) = run_lined i.line r
+  run_lined h (across sign s t i m body j n r) = run_lined j.line r
 
   -- a run from the start leads to a place other than the end that has a line
   pub lined_run : (n : ℕ) (line : List Label) → Contains (label_lines places n) line → n ≢ 1 →
-      (word : List Label) × Run (place_graph places) 0 n word
+      (word : List Letter) × Run g (place_graph places) 0 n word
   lined_run n line h apart = elim (either (is_reached places n)) [
     | inl e ↦ reached_run ((fit.reached n (line_from places n line h)).0 e) apart
     | inr e ↦ absurd (nothing_in {x = line}
@@ -141,9 +191,9 @@ module _ (count : ℕ) (places : List Place) (fit : IsFit count places) where
       either false = inr refl
 
   -- where a run leads on from a step to where it began, one leads there from the start
-  pub back_run : (s : Step) (word : List Label) → IsPlaceStep places s →
-      Run (place_graph places) s.to s.from word →
-      (word : List Label) × Run (place_graph places) 0 s.from word
+  pub back_run : (s : Step) (word : List Letter) → IsPlaceStep places s →
+      Run g (place_graph places) s.to s.from word →
+      (word : List Letter) × Run g (place_graph places) 0 s.from word
   back_run s word i r =
       let last = run_lined i.line r in
       lined_run s.from last.0 last.1 i.before_end
@@ -157,6 +207,19 @@ module _ (graphs : List (List Place)) (fit : All (IsFit (length graphs)) graphs)
       (step_inside (places_of graphs g) s i).0 in
       All-contains (IsFitLine (length graphs)) (label_lines (places_of graphs g) s.to) s.labels
       (f.lines s.to) i.line
+
+  -- each step is along a line that neither opens nor closes a context
+  pub step_plain : (g : ℕ) (s : Step) → IsPlaceStep (places_of graphs g) s →
+      mark_of s.labels ≡ ordinary
+  step_plain g s i =
+      let f = graph_so (IsFit (length graphs)) graphs fit g s.from
+      (step_inside (places_of graphs g) s i).0 in
+      plain_step g (length graphs) (places_of graphs g) f s i
+
+  -- each step is along one call, or calls nothing
+  pub step_cases : (g : ℕ) (s : Step) → IsPlaceStep (places_of graphs g) s →
+      IsCallLine (length graphs) s.labels ⊎ All (λ (x : Label). is_call x ≡ false) s.labels
+  step_cases g s i = fit_cases (length graphs) s.labels (step_line g s i)
 
   -- a graph that is called has a start
   pub start_inside : (g h : ℕ) (s : Step) → IsPlaceStep (places_of graphs g) s →

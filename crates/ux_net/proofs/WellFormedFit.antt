@@ -4,7 +4,7 @@ use Rattle.std.specs.Prelude.{All, AllPairs, Contains, slice_get}
 use Rattle.std.specs.List.{AllZip}
 use Rattle.std.proofs.lemmas.List.{append-nil}
 use Rattle.std.proofs.lemmas.Bool.{lt-ltb}
-use Rattle.std.proofs.lemmas.List.Elements.{All-nil, All-cons, All-tail, All-append, All-contains}
+use Rattle.std.proofs.lemmas.List.Elements.{All-nil, All-cons, All-tail, All-append, All-contains, All-weaker}
 use Rattle.std.proofs.lemmas.Option.{slice_get_cases, slice_get_within, get_or_from_slice_get}
 use Rattle.ux_alphabet.specs.Letters.{Letters, is_separator}
 use Rattle.ux_tokens.specs.declared.kind.Kind.{Kind}
@@ -17,11 +17,15 @@ use Rattle.ux_grf.specs.declared.item.Item.TheVariants as item
 use Rattle.ux_grf.specs.Reached.{ways_of, Reached, start}
 use Rattle.ux_grf.specs.WellFormed.{box_of_graph, ways_of_graph, HasText, may_be_beside, IsFilled, IsWellFormedBox, IsWellFormed}
 use Rattle.ux_net.specs.declared.label.Label.{Label}
-use Rattle.ux_net.specs.declared.label.Label.TheVariants.{Empty, Glue}
+use Rattle.ux_net.specs.declared.label.Label.TheVariants.{Empty, Fold, Exact, Mask, Brace, Space, Glue, Begin, End, Positive, Negative, ContextEnd, Cut, Call}
 use Rattle.ux_net.specs.declared.place.Place.{Place}
-use Rattle.ux_net.specs.Boxes.{fold_label, exact_label, IsCut, IsSplit, IsSplitLine, lines_at, targets_at, targets_in as box_targets_in, lines_in as box_lines_in}
-use Rattle.ux_net.specs.Places.{label_lines, place_targets, targets_in, is_reached, box_reached_in, ArePlaces}
-use Rattle.ux_net.specs.Fit.{is_call, IsFitLine, place_ways, IsFit}
+use Rattle.ux_net.specs.Boxes.{box_reached_in, fold_label, exact_label, IsCut, IsSplit, IsSplitLine, lines_at, targets_at, box_targets_in, box_lines_in}
+use Rattle.ux_net.specs.Places.{label_lines, place_targets, targets_in, is_reached, ArePlaces}
+use Rattle.ux_net.specs.Nets.{IsCalled}
+use Rattle.ux_net.specs.Construct.{is_call}
+use Rattle.ux_net.specs.Fit.{IsFitLine, place_ways, IsFit}
+use Rattle.ux_net.specs.Refusing.{HasNoBeyond}
+use Rattle.ux_net.proofs.PlainLemmas.{places_plain}
 
 -- a text that isn't empty has something left when its spaces are single
 kept : (b : ℕ) (s t : Bool) (rest : List ℕ) → (t ≡ true → 0 < length rest) →
@@ -86,6 +90,40 @@ one_none : (x : Label) → is_call x ≡ false → NoCall (x ∷ [])
 one_none x h =
     All-cons (λ (x : Label). is_call x ≡ false) x [] h (All-nil (λ (x : Label). is_call x ≡ false))
 
+-- a label that calls nothing calls no graph that isn't there
+called_none : (count : ℕ) (x : Label) → is_call x ≡ false → IsCalled count x
+called_none count Empty h = tt
+called_none count (Fold text) h = tt
+called_none count (Exact text) h = tt
+called_none count (Mask text) h = tt
+called_none count (Brace text) h = tt
+called_none count Space h = tt
+called_none count Glue h = tt
+called_none count (Begin name) h = tt
+called_none count (End name) h = tt
+called_none count Positive h = tt
+called_none count Negative h = tt
+called_none count ContextEnd h = tt
+called_none count Cut h = tt
+called_none count (Call g) h = absurd (cc)
+
+-- a line that has a label, and calls nothing, is fit
+plain_fit : (count : ℕ) (labels : List Label) → 0 < length labels → NoCall labels →
+    IsFitLine count labels
+plain_fit count labels some none = record {
+  line = record { some = some; lone = λ more. none };
+  called = All-weaker (λ (x : Label). is_call x ≡ false) (IsCalled count) (called_none count)
+      labels none;
+}
+
+-- a call of a graph that is there, alone on its line, is fit
+call_fit : (count h : ℕ) (labels : List Label) → labels ≡ Call h ∷ [] → 1 ≤ h → h ≤ count →
+    IsFitLine count labels
+call_fit count h labels is from to = subst (IsFitLine count) (sym is) (record {
+  line = record { some = omega arith; lone = λ more. absurd (omega (arith, more)) };
+  called = All-cons (IsCalled count) (Call h) [] (from, to) (All-nil (IsCalled count));
+})
+
 module _ (alphabet : Letters) (names : List (List ℕ)) where
   -- an item has a label
   item_some : (x : Item) (labels : List Label) → HasText x → IsSplit alphabet names x labels →
@@ -95,14 +133,14 @@ module _ (alphabet : Letters) (names : List (List ℕ)) where
   item_some item.Glue labels h s = rw s (omega arith)
   item_some item.Empty labels h s = rw s (omega arith)
   item_some (item.Call name) labels h s = rw s.2 (omega arith)
-  item_some (item.Mask text) labels h s = absurd s
-  item_some (item.Brace text) labels h s = absurd s
-  item_some (item.Begin name) labels h s = absurd s
-  item_some (item.End name) labels h s = absurd s
-  item_some item.Positive labels h s = absurd s
-  item_some item.Negative labels h s = absurd s
-  item_some item.ContextEnd labels h s = absurd s
-  item_some item.Cut labels h s = absurd s
+  item_some (item.Mask text) labels h s = rw s (omega arith)
+  item_some (item.Brace text) labels h s = rw s (omega arith)
+  item_some (item.Begin name) labels h s = rw s (omega arith)
+  item_some (item.End name) labels h s = rw s (omega arith)
+  item_some item.Positive labels h s = rw s (omega arith)
+  item_some item.Negative labels h s = rw s (omega arith)
+  item_some item.ContextEnd labels h s = rw s (omega arith)
+  item_some item.Cut labels h s = rw s (omega arith)
 
   -- an item that may have others beside it calls nothing
   item_calls_none : (x : Item) (labels : List Label) → may_be_beside x ≡ true →
@@ -114,14 +152,14 @@ module _ (alphabet : Letters) (names : List (List ℕ)) where
   item_calls_none item.Glue labels h s = subst NoCall (sym s) (one_none Glue refl)
   item_calls_none item.Empty labels h s = subst NoCall (sym s) (one_none Empty refl)
   item_calls_none (item.Call name) labels h s = absurd cc
-  item_calls_none (item.Mask text) labels h s = absurd s
-  item_calls_none (item.Brace text) labels h s = absurd s
-  item_calls_none (item.Begin name) labels h s = absurd s
-  item_calls_none (item.End name) labels h s = absurd s
-  item_calls_none item.Positive labels h s = absurd s
-  item_calls_none item.Negative labels h s = absurd s
-  item_calls_none item.ContextEnd labels h s = absurd s
-  item_calls_none item.Cut labels h s = absurd s
+  item_calls_none (item.Mask text) labels h s = subst NoCall (sym s) (one_none (Mask text) refl)
+  item_calls_none (item.Brace text) labels h s = subst NoCall (sym s) (one_none (Brace text) refl)
+  item_calls_none (item.Begin name) labels h s = subst NoCall (sym s) (one_none (Begin name) refl)
+  item_calls_none (item.End name) labels h s = subst NoCall (sym s) (one_none (End name) refl)
+  item_calls_none item.Positive labels h s = subst NoCall (sym s) (one_none Positive refl)
+  item_calls_none item.Negative labels h s = subst NoCall (sym s) (one_none Negative refl)
+  item_calls_none item.ContextEnd labels h s = subst NoCall (sym s) (one_none ContextEnd refl)
+  item_calls_none item.Cut labels h s = subst NoCall (sym s) (one_none Cut refl)
 
   line_calls_none : (line : List Item) (labels : List Label) →
       All (λ (x : Item). may_be_beside x ≡ true) line → IsSplitLine alphabet names line labels →
@@ -140,7 +178,8 @@ module _ (alphabet : Letters) (names : List (List ℕ)) where
       IsSplitLine alphabet names line labels → IsFitLine (length names) labels
   line_fit line labels filled s = elim filled.shared [
     | inl one ↦ alone line labels one filled.texts s
-    | inr all ↦ inr (some line labels filled.some filled.texts s, line_calls_none line labels all s)
+    | inr all ↦ plain_fit (length names) labels (some line labels filled.some filled.texts s)
+        (line_calls_none line labels all s)
   ]
     where
       some : (line : List Item) (labels : List Label) → 0 < length line → All HasText line →
@@ -160,12 +199,18 @@ module _ (alphabet : Letters) (names : List (List ℕ)) where
           IsFitLine (length names) labels
       called name labels s =
           let within = slice_get_within names s.0 name s.1 in
-          inl (s.0 + 1, s.2, omega arith, omega (arith, within))
+          call_fit (length names) (s.0 + 1) labels s.2 (omega arith) (omega (arith, within))
 
       plain : (x : Item) (labels : List Label) → HasText x → may_be_beside x ≡ true →
           IsSplit alphabet names x labels → IsFitLine (length names) labels
       plain x labels text beside s =
-          inr (item_some x labels text s, item_calls_none x labels beside s)
+          plain_fit (length names) labels (item_some x labels text s)
+          (item_calls_none x labels beside s)
+
+      lone : (x : Label) (labels : List Label) → labels ≡ x ∷ [] → is_call x ≡ false →
+          IsFitLine (length names) labels
+      lone x labels s calls = plain_fit (length names) labels (rw s (omega arith))
+          (subst NoCall (sym s) (one_none x calls))
 
       single : (x : Item) (labels : List Label) → HasText x → IsSplit alphabet names x labels →
           IsFitLine (length names) labels
@@ -174,14 +219,14 @@ module _ (alphabet : Letters) (names : List (List ℕ)) where
       single item.Glue labels h s = plain item.Glue labels h refl s
       single item.Empty labels h s = plain item.Empty labels h refl s
       single (item.Call name) labels h s = called name labels s
-      single (item.Mask text) labels h s = absurd s
-      single (item.Brace text) labels h s = absurd s
-      single (item.Begin name) labels h s = absurd s
-      single (item.End name) labels h s = absurd s
-      single item.Positive labels h s = absurd s
-      single item.Negative labels h s = absurd s
-      single item.ContextEnd labels h s = absurd s
-      single item.Cut labels h s = absurd s
+      single (item.Mask text) labels h s = lone (Mask text) labels s refl
+      single (item.Brace text) labels h s = lone (Brace text) labels s refl
+      single (item.Begin name) labels h s = lone (Begin name) labels s refl
+      single (item.End name) labels h s = lone (End name) labels s refl
+      single item.Positive labels h s = lone Positive labels s refl
+      single item.Negative labels h s = lone Negative labels s refl
+      single item.ContextEnd labels h s = lone ContextEnd labels s refl
+      single item.Cut labels h s = lone Cut labels s refl
 
       alone : (line : List Item) (labels : List Label) → length line ≡ 1 → All HasText line →
           IsSplitLine alphabet names line labels → IsFitLine (length names) labels
@@ -238,7 +283,8 @@ start_split alphabet names (l ∷ []) z =
     ∙ ap (λ (b : List Label). Empty ∷ b) z.0.3))
 
 module _ (alphabet : Letters) (names : List (List ℕ)) (graph : Graph) (places : List Place)
-    (wf : IsWellFormed graph) (are : ArePlaces alphabet names graph.boxes places) where
+    (wf : IsWellFormed graph) (compiled : HasNoBeyond graph.boxes)
+    (are : ArePlaces alphabet names graph.boxes places) where
   -- a box that is there is a well formed one
   box_there : (n : ℕ) (b : GrfBox) → slice_get graph.boxes n ≡ Some b →
       (n < length graph.boxes) × IsWellFormedBox (length graph.boxes) n b
@@ -309,7 +355,8 @@ module _ (alphabet : Letters) (names : List (List ℕ)) (graph : Graph) (places 
   all_lines zero =
       let one = start_split alphabet names (label_lines places 0) (are.lines 0) in
       subst (All (IsFitLine (length names))) (sym one)
-      (All-cons (IsFitLine (length names)) (Empty ∷ []) [] (inr (omega arith, one_none Empty refl))
+      (All-cons (IsFitLine (length names)) (Empty ∷ []) []
+      (plain_fit (length names) (Empty ∷ []) (omega arith) (one_none Empty refl))
       (All-nil (IsFitLine (length names))))
   all_lines (suc zero) =
       let none = bare 1 (inl refl) in
@@ -370,6 +417,7 @@ module _ (alphabet : Letters) (names : List (List ℕ)) (graph : Graph) (places 
     bare = bare;
     lined = lined;
     lines = all_lines;
+    plain = places_plain alphabet names graph.boxes places compiled are;
     inside = inside;
     once = once;
     reached = λ n within. reached n (subst (λ m. n < m) are.len within);

@@ -1,25 +1,34 @@
 -- Which grammars have a finite meaning: no loop takes nothing, and no graph begins with itself.
 -- Public: the crate's public contracts speak of it.
-use Rattle.std.specs.Prelude.{◌≡◌, ℕ, ◌<◌, ◌⊎◌, List, [], ◌∷◌, ◌++◌}
+use Rattle.std.specs.Prelude.{◌≡◌, ℕ, ◌<◌, ◌⊎◌, List, [], ◌∷◌, ◌++◌, true}
 use Rattle.ux_net.specs.declared.label.Label.{Label}
-use Rattle.ux_net.specs.declared.label.Label.TheVariants.{Glue, Call}
-use Rattle.ux_net.specs.Words.{Step, Grammar, letters, Run, IsWord}
+use Rattle.ux_net.specs.declared.label.Label.TheVariants.{Call}
+use Rattle.ux_net.specs.Silent.{is_silent}
+use Rattle.ux_net.specs.Words.{Step, Grammar, Letter, plain, piece, context, letters, Run, IsWord}
+
+-- a letter that takes no token, wherever it applies, and calls nothing: a silent label, a piece of
+-- an output, or a whole context
+abbrev pub IsSilent : Letter → Type 0
+IsSilent (plain label) = is_silent label ≡ true
+IsSilent (piece part) = Unit {0}
+IsSilent (context sign g opening closing) = Unit {0}
 
 module _ (grammar : Grammar) where
   -- a word that may take nothing: what it calls has such a word
-  pub data IsFree : List Label → Type 0 where
+  pub data IsFree : List Letter → Type 0 where
     none : IsFree []
-    glue : {word : List Label} → IsFree word → IsFree (Glue ∷ word)
-    call : {h : ℕ} {called word : List Label} → IsWord (grammar.graph h) called → IsFree called →
-        IsFree word → IsFree (Call h ∷ word)
+    silent : {letter : Letter} {word : List Letter} → IsSilent letter → IsFree word →
+        IsFree (letter ∷ word)
+    call : {h : ℕ} {called word : List Letter} → IsWord h (grammar.graph h) called → IsFree called →
+        IsFree word → IsFree (plain (Call h) ∷ word)
 
   -- the graph has a word that may take nothing
   abbrev pub IsNullable : ℕ → Type 0
-  IsNullable g = (word : List Label) × IsWord (grammar.graph g) word × IsFree word
+  IsNullable g = (word : List Letter) × IsWord g (grammar.graph g) word × IsFree word
 
   -- a run of a graph that may take nothing leads from a place to a place
   abbrev pub LeadsFreely : (g a b : ℕ) → Type 0
-  LeadsFreely g a b = (word : List Label) × Run (grammar.graph g) a b word × IsFree word
+  LeadsFreely g a b = (word : List Letter) × Run g (grammar.graph g) a b word × IsFree word
 
   -- The graph enters another at a step to this node: it is called there before a token was taken.
   pub record Enters (g h node : ℕ) : Type 0 where
@@ -39,8 +48,8 @@ module _ (grammar : Grammar) where
 
   -- a run that may take nothing leads from the place, which a run from the start reaches, back
   pub record IsOnEmptyLoop (g node : ℕ) : Type 0 where
-    pub word : List Label
-    pub reached : Run (grammar.graph g) (grammar.graph g).start node word
+    pub word : List Letter
+    pub reached : Run g (grammar.graph g) (grammar.graph g).start node word
     pub step : Step
     pub of_graph : (grammar.graph g).IsStep step
     pub begins : step.from ≡ node

@@ -4,20 +4,17 @@
 use Rattle.std.specs.Prelude.{◌≡◌, ℕ, ◌+◌, ◌-◌, ◌<◌, List, [], ◌∷◌, ◌++◌, map, Option, Some, None, slice_get, get_or, length, sum_by, Contains, All, Bool, true, false, cond, nat_eq, ltb}
 use Rattle.std.specs.List.{range_with_len, flat_map, list_any, count_by}
 use Rattle.ux_net.specs.declared.label.Label.{Label}
-use Rattle.ux_net.specs.declared.label.Label.TheVariants.{Empty, Fold, Exact, Space, Glue, Call}
+use Rattle.ux_net.specs.declared.label.Label.TheVariants.{Empty, Call}
 use Rattle.ux_net.specs.declared.place.Place.{Place}
 use Rattle.ux_net.specs.declared.state.Edge.{Edge}
 use Rattle.ux_net.specs.declared.state.State.{State}
+use Rattle.ux_net.specs.Nets.{IsPlain}
 use Rattle.ux_net.specs.Places.{label_lines, place_targets, is_reached}
 
 -- a label that calls a graph
 abbrev pub is_call : Label → Bool
-is_call Empty = false
-is_call (Fold text) = false
-is_call (Exact text) = false
-is_call Space = false
-is_call Glue = false
 is_call (Call graph) = true
+is_call other = false
 
 -- a line has a label, and where it has several, none of them is a call
 pub record IsLine (labels : List Label) : Type 0 where
@@ -72,7 +69,7 @@ module _ (places : List Place) where
   abbrev pub table_of : (ℕ → ℕ) → List ℕ
   table_of of_place = map of_place (range_with_len 0 (length places))
 
-  -- label k of line l of place b leads to the chain state behind it, the last label to the place
+  -- label k of line l of place b leads to the chain state after it, the last label to the place
   abbrev pub target_of : ℕ → ℕ → ℕ → ℕ
   target_of b l k =
       cond (ltb (k + 1) (length (labels_at b l))) (first_chain b l + k) (number b)
@@ -120,10 +117,12 @@ module _ (places : List Place) where
   states_of = by_state place_state chain_state
 
   -- Places of which states can be made. Place 0 is reached, targets are there, places without a
-  -- state have no lines, each line is one, and few enough states come of them to number them.
+  -- state have no lines, each line is one, all labels are of kinds that are compiled, and few enough
+  -- states come of them to number them.
   pub record AreFit : Type 0 where
     pub start : is_reached places 0 ≡ true
     pub targets : (a b : ℕ) → Contains (place_targets places a) b → b < length places
     pub stateless : (b : ℕ) → has_state b ≡ false → label_lines places b ≡ []
     pub lines : (b : ℕ) (line : List Label) → Contains (label_lines places b) line → IsLine line
+    pub plain : (b : ℕ) → All (All IsPlain) (label_lines places b)
     pub few : sum_by place_size places < 4294967296

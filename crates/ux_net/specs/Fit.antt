@@ -1,28 +1,18 @@
 -- What is asked of boxes whose lines are split, before states are made of them. Inner: the crate's
 -- own functions alone speak of it.
-use Rattle.std.specs.Prelude.{◌≡◌, ◌≢◌, ℕ, ◌<◌, ◌≤◌, ◌↔◌, ◌⊎◌, Bool, true, false, List, [], ◌∷◌, All, AllPairs, length, map, Contains}
+use Rattle.std.specs.Prelude.{◌≡◌, ◌≢◌, ℕ, ◌<◌, ◌≤◌, ◌↔◌, ◌⊎◌, true, false, List, [], ◌∷◌, All, AllPairs, length, map, Contains}
 use Rattle.ux_grf.specs.Reached.{ways_of, Reached}
 use Rattle.ux_net.specs.declared.label.Label.{Label}
-use Rattle.ux_net.specs.declared.label.Label.TheVariants.{Empty, Fold, Exact, Space, Glue, Call}
+use Rattle.ux_net.specs.declared.label.Label.TheVariants.{Empty}
 use Rattle.ux_net.specs.declared.place.Place.{Place}
 use Rattle.ux_net.specs.Places.{label_lines, place_targets, is_reached}
+use Rattle.ux_net.specs.Nets.{IsCalled, IsPlain}
+use Rattle.ux_net.specs.Construct.{IsLine}
 
-abbrev pub is_call : Label → Bool
-is_call (Call graph) = true
-is_call Empty = false
-is_call (Fold text) = false
-is_call (Exact text) = false
-is_call Space = false
-is_call Glue = false
-
--- one call, of a graph that is there, stands alone
-abbrev pub IsCallLine : ℕ → List Label → Type 0
-IsCallLine count line = (h : ℕ) × (line ≡ Call h ∷ []) × (1 ≤ h) × (h ≤ count)
-
--- a line has a label; a call stands alone in it
-abbrev pub IsFitLine : ℕ → List Label → Type 0
-IsFitLine count line =
-    IsCallLine count line ⊎ ((0 < length line) × All (λ (x : Label). is_call x ≡ false) line)
+-- a line, in which each call is of a graph that is there
+pub record IsFitLine (count : ℕ) (labels : List Label) : Type 0 where
+  pub line : IsLine labels
+  pub called : All (IsCalled count) labels
 
 abbrev pub place_ways : List Place → List (List ℕ)
 place_ways places = ways_of (map (λ (place : Place). place.targets) places)
@@ -35,6 +25,7 @@ pub record IsFit (count : ℕ) (places : List Place) : Type 0 where
   pub bare : (n : ℕ) → (n ≡ 1) ⊎ (is_reached places n ≡ false) → label_lines places n ≡ []
   pub lined : (n : ℕ) → is_reached places n ≡ true → n ≢ 1 → 0 < length (label_lines places n)
   pub lines : (n : ℕ) → All (IsFitLine count) (label_lines places n)
+  pub plain : (n : ℕ) → All (All IsPlain) (label_lines places n)
   pub inside : (a b : ℕ) → Contains (place_targets places a) b → b < length places
   pub once : (a : ℕ) → AllPairs (λ s t. s ≢ t) (place_targets places a)
   pub reached : (n : ℕ) → n < length places →

@@ -1,4 +1,5 @@
 pub mod Words
+pub mod Levels
 pub mod Boxes
 pub mod Places
 pub mod Nets
@@ -7,6 +8,7 @@ pub mod Sound
 pub mod Fit
 pub mod Splitting
 pub mod Refusing
+pub mod Silent
 pub mod Admissible
 pub mod Construct
 pub mod Ranks
@@ -15,7 +17,6 @@ pub mod Ways
 pub mod Admission
 pub mod Cycles
 pub mod Gains
-pub mod Listed
 pub mod Spots
 pub mod Rows
 pub mod Refusals

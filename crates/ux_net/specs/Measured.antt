@@ -2,7 +2,7 @@
 -- the crate's public contracts speak of it.
 use Rattle.std.specs.Prelude.{◌≡◌, ℕ, ◌+◌, ◌*◌, ◌<◌, ◌≤◌, List, Option, Some, None, slice_get, Contains, Bool, false, cond, IsTrue, get_or, sum_by}
 use Rattle.ux_net.specs.declared.label.Label.{Label}
-use Rattle.ux_net.specs.declared.label.Label.TheVariants.{Empty, Fold, Exact, Space, Glue, Call}
+use Rattle.ux_net.specs.declared.label.Label.TheVariants.{Empty, Glue, Begin, End, Cut, Call}
 use Rattle.ux_net.specs.declared.state.Edge.{Edge}
 use Rattle.ux_net.specs.declared.state.State.{State}
 use Rattle.ux_net.specs.declared.net_graph.NetGraph.{NetGraph}
@@ -52,14 +52,15 @@ IsLower graphs g from to =
 -- What holds of an edge: where it may take nothing, it leads lower. A call leads lower to the start
 -- of its graph, and where that is marked, to its target too.
 abbrev pub Falls : List NetGraph → (g from to : ℕ) → Label → Type 0
-Falls graphs g from to (Fold text) = Unit {0}
-Falls graphs g from to (Exact text) = Unit {0}
-Falls graphs g from to Space = Unit {0}
 Falls graphs g from to Empty = IsLower graphs g from to
 Falls graphs g from to Glue = IsLower graphs g from to
+Falls graphs g from to (Begin name) = IsLower graphs g from to
+Falls graphs g from to (End name) = IsLower graphs g from to
+Falls graphs g from to Cut = IsLower graphs g from to
 Falls graphs g from to (Call h) =
     (rank_of graphs h 0 < rank_of graphs g from)
     × (must graphs h 0 ≡ 0 → IsLower graphs g from to)
+Falls graphs g from to other = Unit {0}
 
 -- each edge falls, and final states are marked
 pub record IsMeasured (graphs : List NetGraph) : Type 0 where

@@ -9,7 +9,7 @@ use Rattle.ux_net.specs.declared.net_graph.NetGraph.{NetGraph}
 use Rattle.ux_net.specs.Words.{Step, StepGraph, Grammar}
 
 module _ (states : List State) where
-  -- a step along an edge
+  -- a step along an edge; no edge has an output yet
   pub record IsNetStep (step : Step) : Type 0 where
     pub state : State
     pub found : slice_get states step.from ≡ Some state
@@ -17,6 +17,7 @@ module _ (states : List State) where
     pub inside : Contains state.edges edge
     pub to : step.to ≡ edge.target
     pub label : step.labels ≡ edge.label ∷ []
+    pub puts : step.output ≡ []
 
   -- the state is final
   pub record IsNetEnd (n : ℕ) : Type 0 where
@@ -28,6 +29,7 @@ module _ (states : List State) where
   abbrev pub net_graph : StepGraph
   net_graph = record {
     start = 0;
+    IsPlace = λ n. n < length states;
     IsEnd = IsNetEnd;
     IsStep = IsNetStep;
   }
@@ -56,11 +58,22 @@ net_grammar graphs = record {
 -- a call is of a graph that is there
 abbrev pub IsCalled : ℕ → Label → Type 0
 IsCalled count (Call graph) = (1 ≤ graph) × (graph ≤ count)
-IsCalled count Empty = Unit {0}
-IsCalled count (Fold text) = Unit {0}
-IsCalled count (Exact text) = Unit {0}
-IsCalled count Space = Unit {0}
-IsCalled count Glue = Unit {0}
+IsCalled count other = Unit {0}
+
+-- a label that is compiled as yet: a text, a space, `#`, the empty word or a call
+abbrev pub IsPlain : Label → Type 0
+IsPlain Empty = Unit {0}
+IsPlain (Fold text) = Unit {0}
+IsPlain (Exact text) = Unit {0}
+IsPlain Space = Unit {0}
+IsPlain Glue = Unit {0}
+IsPlain (Call graph) = Unit {0}
+IsPlain other = ⊥
+
+-- each edge has such a label
+abbrev pub ArePlain : List NetGraph → Type 0
+ArePlain graphs = (g n : ℕ) (state : State) (edge : Edge) →
+    slice_get (states_of graphs g) n ≡ Some state → Contains state.edges edge → IsPlain edge.label
 
 -- an edge leads to a state that is there, and calls a graph that is there
 pub record IsEdgeInside (count states : ℕ) (edge : Edge) : Type 0 where

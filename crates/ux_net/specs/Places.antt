@@ -1,23 +1,22 @@
 -- Boxes whose lines are split into labels, as a graph. Public: the crate's public contracts speak
 -- of it.
-use Rattle.std.specs.Prelude.{◌≡◌, ◌≢◌, ℕ, zero, suc, List, [], Option, Some, None, slice_get, Contains, length, Bool, false}
+use Rattle.std.specs.Prelude.{◌≡◌, ◌≢◌, ℕ, zero, suc, List, [], Option, Some, None, slice_get, Contains, length, Bool, true, false}
+use Rattle.std.specs.Option.{option_map_or}
 use Rattle.std.specs.List.{AllZip}
 use Rattle.ux_alphabet.specs.Letters.{Letters}
 use Rattle.ux_grf.specs.declared.graph.GrfBox.{GrfBox}
 use Rattle.ux_net.specs.declared.label.Label.{Label}
 use Rattle.ux_net.specs.declared.place.Place.{Place}
 use Rattle.ux_net.specs.Words.{Step, StepGraph, Grammar}
-use Rattle.ux_net.specs.Boxes.{lines_at, targets_at, IsSplitLine}
+use Rattle.ux_net.specs.Boxes.{box_reached_in, lines_at, targets_at, IsSplitLine}
 
 -- the lines of a place, where there is one
 abbrev pub lines_in : Option Place → List (List Label)
-lines_in None = []
-lines_in (Some place) = place.lines
+lines_in place = option_map_or (λ (p : Place). p.lines) place []
 
 -- the targets of a place, where there is one
 abbrev pub targets_in : Option Place → List ℕ
-targets_in None = []
-targets_in (Some place) = place.targets
+targets_in place = option_map_or (λ (p : Place). p.targets) place []
 
 -- the lines of the place of this number
 abbrev pub label_lines : List Place → ℕ → List (List Label)
@@ -29,16 +28,10 @@ place_targets places n = targets_in (slice_get places n)
 
 -- whether a place is reached, where there is one
 abbrev pub reached_in : Option Place → Bool
-reached_in None = false
-reached_in (Some place) = place.reached
+reached_in place = option_map_or (λ (p : Place). p.reached) place false
 
 abbrev pub is_reached : List Place → ℕ → Bool
 is_reached places n = reached_in (slice_get places n)
-
--- whether a box is reached, where there is one
-abbrev pub box_reached_in : Option GrfBox → Bool
-box_reached_in None = false
-box_reached_in (Some box) = box.reached
 
 -- the places are those of the boxes, each line split into its labels
 pub record ArePlaces (alphabet : Letters) (names : List (List ℕ)) (boxes : List GrfBox)
@@ -49,20 +42,23 @@ pub record ArePlaces (alphabet : Letters) (names : List (List ℕ)) (boxes : Lis
   pub lines : (n : ℕ) →
       AllZip (IsSplitLine alphabet names) (lines_at boxes n) (label_lines places n)
 
--- a step into a target, along one of its lines
+-- a step into a target, along one of its lines; outputs aren't made into places yet
 pub record IsPlaceStep (places : List Place) (step : Step) : Type 0 where
   pub before_end : step.from ≢ 1
   pub leads : Contains (place_targets places step.from) step.to
   pub line : Contains (label_lines places step.to) step.labels
+  pub puts : step.output ≡ []
 
 -- a run may end at the place
 abbrev pub IsEndPlace : List Place → ℕ → Type 0
 IsEndPlace places place = (place ≢ 1) × Contains (place_targets places place) 1
 
--- the places as a graph: place 0 is the start, and a run ends where place 1 is a target
+-- The places as a graph, but for place 1: place 0 is the start, and a run ends where place 1 is a
+-- target.
 abbrev pub place_graph : List Place → StepGraph
 place_graph places = record {
   start = 0;
+  IsPlace = λ n. (n ≢ 1) × (is_reached places n ≡ true);
   IsEnd = IsEndPlace places;
   IsStep = IsPlaceStep places;
 }

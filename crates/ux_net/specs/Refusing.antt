@@ -1,7 +1,7 @@
 -- Why a list of graphs isn't compiled. Public: the crate's public contracts speak of it.
 use Rattle.std.specs.Prelude.{◌≡◌, ℕ, zero, suc, ◌<◌, Bool, true, false, ◌||◌, nat_lt, List, [], length, map, Option, Some, None, slice_get, string_bytes, String, Contains, All}
 use Rattle.std.specs.declared.alloc.Global.{Global}
-use Rattle.std.specs.List.{list_any}
+use Rattle.std.specs.List.{flat_map, list_any}
 use Rattle.ux_alphabet.specs.Letters.{Letters}
 use Rattle.ux_grf.specs.declared.graph.Graph.{Graph}
 use Rattle.ux_grf.specs.declared.graph.GrfBox.{GrfBox}
@@ -9,7 +9,7 @@ use Rattle.ux_grf.specs.declared.item.Item.{Item}
 use Rattle.ux_grf.specs.declared.item.Item.TheVariants as item
 use Rattle.ux_net.specs.declared.error.NetError.{NetError}
 use Rattle.ux_net.specs.declared.error.NetError.TheVariants.{MissingGraph, NotYet, EmptyLoop, LeftRecursion, NoMemory}
-use Rattle.ux_grf.specs.Needs.{called_names}
+use Rattle.ux_grf.specs.Needs.{calls_of_box}
 use Rattle.ux_net.specs.Boxes.{Drawn, boxes_of, names_of, box_grammar}
 use Rattle.ux_net.specs.Admissible.{IsOnEmptyLoop, IsLeftRecursive, IsFirst, IsAdmissible}
 
@@ -82,7 +82,7 @@ HasFirstBeyond graphs NoMemory = ⊥
 
 -- the names by which a graph calls others, in order
 abbrev pub calls_of : Drawn → List (List ℕ)
-calls_of graph = called_names (record { boxes = graph.boxes })
+calls_of graph = flat_map calls_of_box graph.boxes
 
 abbrev pub calls_in : Option Drawn → List (List ℕ)
 calls_in None = []

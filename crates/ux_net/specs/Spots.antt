@@ -6,16 +6,16 @@ use Rattle.ux_net.specs.declared.way.Way.{Way}
 use Rattle.ux_net.specs.Admissible.{IsFirst}
 use Rattle.ux_net.specs.Ways.{IsOpen}
 
--- no spot behind the other, by graph and then by node
-abbrev pub IsNotBehind : Spot → Spot → Type 0
-IsNotBehind spot other =
+-- no spot after the other, by graph and then by node
+abbrev pub IsNotAfter : Spot → Spot → Type 0
+IsNotAfter spot other =
     (spot.graph < other.graph) ⊎ ((spot.graph ≡ other.graph) × (spot.node ≤ other.node))
 
--- one of the spots is behind none of them, or there is none
+-- one of the spots is after none of them, or there is none
 abbrev pub IsLeast : List Spot → Option Spot → Type 0
 IsLeast spots None = (spot : Spot) → Contains spots spot → ⊥
 IsLeast spots (Some spot) =
-    Contains spots spot × ((other : Spot) → Contains spots other → IsNotBehind spot other)
+    Contains spots spot × ((other : Spot) → Contains spots other → IsNotAfter spot other)
 
 -- the first place of which it is so, or there is none
 abbrev pub FindsFirst : ((g node : ℕ) → Type 0) → Option Spot → Type 0

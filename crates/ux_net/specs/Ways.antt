@@ -1,32 +1,20 @@
 -- The steps that may take nothing or enter a graph, as edges between numbered places. Inner: the
 -- crate's own functions alone speak of it.
-use Rattle.std.specs.Prelude.{◌≡◌, ℕ, ◌<◌, unwrap_or, ◌↔◌, List, [], ◌∷◌, Option, Some, None, All, Bool, true, false, Contains, length, get_or}
+use Rattle.std.specs.Prelude.{◌≡◌, ℕ, ◌<◌, unwrap_or, ◌↔◌, List, [], ◌∷◌, Option, Some, None, Bool, true, false, Contains, length, get_or}
 use Rattle.ux_digraph.specs.declared.closing.Rule.{Rule}
 use Rattle.ux_net.specs.declared.label.Label.{Label}
-use Rattle.ux_net.specs.declared.label.Label.TheVariants.{Empty, Fold, Exact, Space, Glue, Call}
+use Rattle.ux_net.specs.declared.label.Label.TheVariants.{Call}
 use Rattle.ux_net.specs.declared.place.Place.{Place}
 use Rattle.ux_net.specs.declared.way.Way.{Way}
-use Rattle.ux_net.specs.Words.{Step, Run, letters}
+use Rattle.ux_net.specs.Words.{Step, Letter, Run, letters}
 use Rattle.ux_net.specs.Places.{places_of, place_graph, place_grammar, IsPlaceStep, IsEndPlace}
+use Rattle.ux_net.specs.Silent.{are_silent}
 use Rattle.ux_net.specs.Admissible.{IsFree}
 use Rattle.ux_net.specs.Numbers.{number_of, all_places}
 
--- the label takes no token, and calls nothing
-abbrev pub takes_nothing : Label → Bool
-takes_nothing Empty = true
-takes_nothing Glue = true
-takes_nothing (Fold text) = false
-takes_nothing (Exact text) = false
-takes_nothing Space = false
-takes_nothing (Call graph) = false
-
--- all labels of the line take nothing
-abbrev pub IsStill : List Label → Type 0
-IsStill line = All (λ label. takes_nothing label ≡ true) line
-
--- a line that takes nothing calls no start; a line that is one call calls that of its graph
+-- a silent line calls no start; a line that is one call calls that of its graph
 abbrev pub CallsAt : List (List Place) → Option ℕ → List Label → Type 0
-CallsAt graphs None line = IsStill line
+CallsAt graphs None line = are_silent line ≡ true
 CallsAt graphs (Some start) line =
     (h : ℕ) × (line ≡ Call h ∷ []) × (start ≡ number_of graphs h 0)
 
@@ -55,8 +43,16 @@ pub record IsWayAlong (graphs : List (List Place)) (g a b : ℕ) (line : List La
 pub record IsWay (graphs : List (List Place)) (way : Way) : Type 0 where
   pub line : List Label
   pub step : IsPlaceStep (places_of graphs way.graph)
-      (record { from = way.source; to = way.target; labels = line })
+      (record { from = way.source; to = way.target; output = []; labels = line })
   pub along : IsWayAlong graphs way.graph way.source way.target line way
+
+-- a way of this graph
+abbrev pub IsWayOf : List (List Place) → ℕ → Way → Type 0
+IsWayOf graphs g way = IsWay graphs way × (way.graph ≡ g)
+
+-- a way from this place of the graph
+abbrev pub IsWayFrom : List (List Place) → (g a : ℕ) → Way → Type 0
+IsWayFrom graphs g a way = IsWayOf graphs g way × (way.source ≡ a)
 
 -- a step that may take nothing, as an edge
 pub record IsFreeEdge (graphs : List (List Place)) (u v : ℕ) : Type 0 where
@@ -80,9 +76,9 @@ pub record IsEntryEdge (graphs : List (List Place)) (u v : ℕ) : Type 0 where
 -- a run that may take nothing leads from the place to an end of its graph
 pub record EndsFreely (graphs : List (List Place)) (g a : ℕ) : Type 0 where
   pub last : ℕ
-  pub word : List Label
+  pub word : List Letter
   pub ends : IsEndPlace (places_of graphs g) last
-  pub run : Run (place_graph (places_of graphs g)) a last word
+  pub run : Run g (place_graph (places_of graphs g)) a last word
   pub free : IsFree (place_grammar graphs) word
 
 -- the rule of a way: its source leads to an end where its target and the start that it calls do
@@ -98,11 +94,14 @@ abbrev pub AreFreeRules : List (List Place) → List Rule → Type 0
 AreFreeRules graphs rules =
     (r : Rule) → Contains rules r ↔ ((way : Way) × IsWay graphs way × (rule_of way ≡ r))
 
+-- the number of a place at which a run may end
+abbrev pub IsEndNumber : List (List Place) → ℕ → Type 0
+IsEndNumber graphs x =
+    (g : ℕ) × (a : ℕ) × IsEndPlace (places_of graphs g) a × (x ≡ number_of graphs g a)
+
 -- the numbers are those of the places at which a run may end
 abbrev pub AreEnds : List (List Place) → List ℕ → Type 0
-AreEnds graphs ends =
-    (x : ℕ) → Contains ends x ↔
-    ((g : ℕ) × (a : ℕ) × IsEndPlace (places_of graphs g) a × (x ≡ number_of graphs g a))
+AreEnds graphs ends = (x : ℕ) → Contains ends x ↔ IsEndNumber graphs x
 
 -- the ways are those of all graphs
 pub record AreWays (graphs : List (List Place)) (ways : List Way) : Type 0 where

@@ -5,9 +5,9 @@ ghost use Rattle.ux_grf.specs.Size.{size_of};
 ghost use Rattle.ux_grf.specs.WellFormed.{IsWellFormed};
 ghost use Rattle.ux_net.specs.Boxes.{box_grammar};
 ghost use Rattle.ux_net.specs.Compiling.{IsConstructed};
-ghost use Rattle.ux_net.specs.Nets.{net_graph, states_of};
+ghost use Rattle.ux_net.specs.Nets.{net_grammar};
 ghost use Rattle.ux_net.specs.Refusing.{drawn, IsCompilable, Refuses};
-ghost use Rattle.ux_net.specs.Words.{HaveSameWords};
+ghost use Rattle.ux_net.specs.Words.{SayTheSame};
 
 use crate::error::NetError;
 use crate::grammar::compiled;
@@ -29,9 +29,8 @@ impl Net {
         requires small { All (λ graph. size_of graph.1 < 4294967296) graphs.items }
         requires distinct { AllPairs (λ a b. string_bytes a.0 ≢ string_bytes b.0) graphs.items }
         ensures compilable { OnOk result (IsCompilable alphabet.now (drawn graphs.items)) }
-        ensures words { IfOk result (λ net. (g : ℕ) → HaveSameWords
-            ((box_grammar alphabet.now (drawn graphs.items)).graph g)
-            (net_graph (states_of net g))) }
+        ensures words { IfOk result (λ net.
+            SayTheSame (box_grammar alphabet.now (drawn graphs.items)) (net_grammar net)) }
         ensures built { IfOk result (λ net.
             IsConstructed alphabet.now (drawn graphs.items) net) }
         ensures err { IfErr result (Refuses alphabet.now (drawn graphs.items)) }

@@ -14,9 +14,7 @@
 
 ghost use Rattle.std.specs.Prelude.{◌≡◌, ◌+◌, ◌-◌, ◌<◌, ◌++◌, length, IfOk, OnOk, cond, ltb};
 ghost use Rattle.std.specs.List.{range_with_len, flat_map};
-ghost use Rattle.ux_net.specs.Places.{place_graph, place_targets};
-ghost use Rattle.ux_net.specs.Words.{HaveSameWords};
-ghost use Rattle.ux_net.specs.Nets.{net_graph};
+ghost use Rattle.ux_net.specs.Places.{place_targets};
 ghost use Rattle.ux_net.specs.Construct.{AreFit, number as number_of, labels_at, chain_len as chain_len_of, chain_start, first_chain, edge_of, edges_to, place_state as place_state_of, chain_state as chain_state_of, along_line, along_lines, at_place, states_of, table_of, AreTargetsInside};
 
 use crate::numbering::{chain_len, has_state, labels, line_count, numbers, starts};
@@ -25,12 +23,10 @@ use crate::state::{Edge, State};
 use std::alloc::Global;
 use ux_base::{Lst, Mem};
 
-/// The states that are made of the places of a graph: they have the words of the places.
+/// The states that are made of the places of a graph.
 pub fn states(alloc: Global, places: &[Place]) -> Mem<Vec<State>>
     requires { AreFit places.now }
     ensures states { IfOk result (λ states. states.items ≡ states_of places.now) }
-    ensures words { IfOk result (λ states.
-        HaveSameWords (place_graph places.now) (net_graph states.items)) }
     ensures some { IfOk result (λ states. 0 < length states.items) }
     ensures few { IfOk result (λ states. length states.items < 4294967296) }
     ensures inside { IfOk result (λ states. AreTargetsInside states.items) }

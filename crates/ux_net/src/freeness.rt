@@ -4,9 +4,8 @@ ghost use Rattle.std.specs.Prelude.{◌≡◌, ℕ, ◌+◌, ◌-◌, ◌<◌, �
 ghost use Rattle.ux_net.specs.Places.{place_targets, IsEndPlace};
 ghost use Rattle.ux_net.specs.Fit.{IsFit};
 ghost use Rattle.ux_net.specs.Numbers.{AreOffsets, all_places};
-ghost use Rattle.ux_net.specs.Ways.{AreWays, AreEnds, AreFreeMarks, rule_of, IsOpen};
+ghost use Rattle.ux_net.specs.Ways.{AreWays, AreEnds, IsEndNumber, AreFreeMarks, rule_of, IsOpen};
 ghost use Rattle.ux_net.specs.Gains.{Gains};
-ghost use Rattle.ux_net.specs.Listed.{IsGraphEnd, IsListedEnd};
 
 use crate::offsets::count_of;
 use crate::place::Place;
@@ -52,8 +51,7 @@ fn push_ends(
     offsets: &[usize],
 ) -> Result<(), AllocError>
     requires offsets { AreOffsets graphs.now offsets.now }
-    ensures { OnOk result
-        (Gains ends.old.items ends.new.items (IsListedEnd offsets.now graphs.now)) }
+    ensures { OnOk result (Gains ends.old.items ends.new.items (IsEndNumber graphs.now)) }
 {
     for (k, places) in graphs.iter().enumerate() {
         push_graph_ends(ends, offsets[k], places.as_slice())?;
@@ -64,7 +62,8 @@ fn push_ends(
 /// Adds the numbers of the ends of a graph, whose places are numbered from the base.
 fn push_graph_ends(ends: &mut Vec<usize>, base: usize, places: &[Place]) -> Result<(), AllocError>
     requires room { base + length places.now < 18446744073709551616 }
-    ensures { OnOk result (Gains ends.old.items ends.new.items (IsGraphEnd base places.now)) }
+    ensures { OnOk result (Gains ends.old.items ends.new.items
+        (λ x. (n : ℕ) × IsEndPlace places.now n × (base + n ≡ x))) }
 {
     for n in 0..places.len() {
         push_end(ends, base, places, n)?;

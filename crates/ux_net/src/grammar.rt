@@ -12,13 +12,13 @@ ghost use Rattle.ux_net.specs.Boxes.{box_grammar, names_of as names_of_graphs};
 ghost use Rattle.ux_net.specs.Compiling.{AreSplit, IsBuiltOf, IsConstructed, RefusesPlaces};
 ghost use Rattle.ux_net.specs.Construct.{AreFit};
 ghost use Rattle.ux_net.specs.Fit.{IsFit};
-ghost use Rattle.ux_net.specs.Nets.{net_graph, states_of};
+ghost use Rattle.ux_net.specs.Nets.{net_grammar};
 ghost use Rattle.ux_net.specs.Places.{place_grammar};
 ghost use Rattle.ux_net.specs.Ranks.{AreBuilt, IsBuilt};
 ghost use Rattle.ux_net.specs.Refusing.{drawn, is_named, IsCompilable, Refuses};
 ghost use Rattle.ux_net.specs.Sound.{IsSound};
 ghost use Rattle.ux_net.specs.Splitting.{IsSplittableBox};
-ghost use Rattle.ux_net.specs.Words.{HaveSameWords};
+ghost use Rattle.ux_net.specs.Words.{SayTheSame};
 
 use crate::admissible::{Admission, AdmissionError, admit};
 use crate::checking::refuse_beyond;
@@ -48,9 +48,8 @@ pub fn compiled(
     requires distinct { AllPairs (λ a b. string_bytes a.0 ≢ string_bytes b.0) graphs.now }
     ensures compilable { OnOk result (IsCompilable alphabet.now (drawn graphs.now)) }
     ensures built { IfOk result (λ net. IsConstructed alphabet.now (drawn graphs.now) net.items) }
-    ensures words { IfOk result (λ net. (g : ℕ) → HaveSameWords
-        ((box_grammar alphabet.now (drawn graphs.now)).graph g)
-        (net_graph (states_of net.items g))) }
+    ensures words { IfOk result (λ net.
+        SayTheSame (box_grammar alphabet.now (drawn graphs.now)) (net_grammar net.items)) }
     ensures sound { IfOk result (λ net. IsSound net.items) }
     ensures err { IfErr result (Refuses alphabet.now (drawn graphs.now)) }
 {

@@ -7,14 +7,30 @@ use ux_base::Txt;
 pub enum Label {
     /// Nothing.
     Empty,
-    /// A token whose characters these fit, behind an optional space.
+    /// A token whose characters these fit, after an optional space.
     Fold(Txt),
-    /// A token of exactly this text, behind an optional space.
+    /// A token of exactly this text, after an optional space.
     Exact(Txt),
+    /// A span that the lexical mask of this text accepts, after an optional space.
+    Mask(Txt),
+    /// A sentence mark or a tag of exactly this text, after an optional space.
+    Brace(Txt),
     /// One space, required.
     Space,
     /// Nothing, where no space stands.
     Glue,
+    /// Nothing: the variable of this name begins.
+    Begin(Txt),
+    /// Nothing: the variable of this name ends.
+    End(Txt),
+    /// A context that has to follow opens.
+    Positive,
+    /// A context that may not follow opens.
+    Negative,
+    /// The context closes.
+    ContextEnd,
+    /// Nothing: what stands on the left is context.
+    Cut,
     /// A word of the graph of this number, counted from 1.
     Call(u32),
 }

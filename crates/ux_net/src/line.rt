@@ -1,25 +1,33 @@
 //! What a line of labels takes.
 
-ghost use Rattle.std.specs.Prelude.{◌≡◌, ℕ, ◌↔◌, [], ◌∷◌, IsTrue, IfSome, IfNone};
+ghost use Rattle.std.specs.Prelude.{◌≡◌, ℕ, [], ◌∷◌, IfSome, IfNone};
 ghost use Rattle.ux_net.specs.declared.label.Label.TheVariants.{Call};
-ghost use Rattle.ux_net.specs.Ways.{IsStill, takes_nothing};
+ghost use Rattle.ux_net.specs.Silent.{is_silent as is_silent_of, are_silent as are_silent_of};
 
 use crate::label::Label;
 
-/// Whether the line takes nothing: each label is empty, or a `#`.
-pub fn is_still(line: &[Label]) -> bool
-    ensures { IsTrue result ↔ IsStill line.now }
+/// Whether the line takes nothing: each of its labels is silent.
+pub fn are_silent(line: &[Label]) -> bool
+    ensures { result ≡ are_silent_of line.now }
 {
-    line.iter().all(|label| is_still_label(label))
+    line.iter().all(|label| is_silent(label))
 }
 
 /// Whether the label takes nothing.
-fn is_still_label(label: &Label) -> bool
-    ensures { result ≡ takes_nothing label.now }
+pub fn is_silent(label: &Label) -> bool
+    ensures { result ≡ is_silent_of label.now }
 {
     match label {
-        Label::Empty | Label::Glue => true,
-        Label::Fold(_) | Label::Exact(_) | Label::Space | Label::Call(_) => false,
+        Label::Empty | Label::Glue | Label::Begin(_) | Label::End(_) | Label::Cut => true,
+        Label::Fold(_)
+        | Label::Exact(_)
+        | Label::Mask(_)
+        | Label::Brace(_)
+        | Label::Space
+        | Label::Positive
+        | Label::Negative
+        | Label::ContextEnd
+        | Label::Call(_) => false,
     }
 }
 

@@ -1,7 +1,7 @@
 //! The table of the graphs' names, and the test that every call finds its graph.
 
 ghost use Rattle.std.specs.Prelude.{◌≡◌, ◌≢◌, All, AllPairs, Contains, IfErr, IfOk, MatchOption, OnOk, string_bytes, true, false};
-ghost use Rattle.ux_grf.specs.Needs.{called_names};
+ghost use Rattle.ux_grf.specs.Needs.{calls_of};
 ghost use Rattle.ux_grf.specs.WellFormed.{IsWellFormed};
 ghost use Rattle.ux_tokens.specs.Numbers.{texts_in};
 ghost use Rattle.ux_net.specs.Boxes.{names_of as names_of_graphs};
@@ -49,8 +49,8 @@ pub fn refuse_missing(
 fn first_missing(alloc: Global, graph: &Graph, names: &IndexSet<&str>) -> Mem<Option<Txt>>
     requires { IsWellFormed graph.now }
     ensures { IfOk result (λ found. MatchOption found
-        (AreThere (called_names graph.now) (texts_in names.now))
-        (IsFirstLacking (called_names graph.now) (texts_in names.now))) }
+        (AreThere (calls_of graph.now) (texts_in names.now))
+        (IsFirstLacking (calls_of graph.now) (texts_in names.now))) }
 {
     let called = needs(alloc, graph)?;
     for name in called.as_slice() {

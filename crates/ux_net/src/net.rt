@@ -2,7 +2,7 @@
 
 ghost use Rattle.std.specs.Prelude.{◌≡◌, ℕ, ◌≤◌, ◌<◌, Some, IsSomeAnd, length, slice_get, option_copied};
 ghost use Rattle.ux_net.specs.Measured.{IsMeasured};
-ghost use Rattle.ux_net.specs.Nets.{graph_at, states_of};
+ghost use Rattle.ux_net.specs.Nets.{graph_at, states_of, ArePlain};
 ghost use Rattle.ux_net.specs.Sound.{IsSound};
 
 use crate::net_graph::NetGraph;
@@ -47,6 +47,13 @@ impl Net {
     /// Every walk through a net ends: its ranks fall along each edge that may take nothing.
     pub fn is_measured(&self)
         ensures { IsMeasured self.now }
+    {
+        let _ = &self.graphs;
+    }
+
+    /// Every label of a net is of a kind that is compiled.
+    pub fn is_plain(&self)
+        ensures { ArePlain self.now }
     {
         let _ = &self.graphs;
     }

@@ -101,7 +101,7 @@ fn count(places: &[Place]) -> u32
     count
 }
 
-/// The number of the first chain state behind those of the place.
+/// The number of the first chain state after those of the place.
 fn next_start(places: &[Place], place: usize, start: u32) -> u32
     requires fit { AreFit places.now }
     requires place { place < length places.now }

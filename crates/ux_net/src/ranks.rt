@@ -2,15 +2,17 @@
 //!
 //! A rank falls along each edge that may take nothing, and so every walk through a net ends. The
 //! state of a place stands above the states that lead from it, and a chain state above what comes
-//! behind it on its line. `specs/Ranks.antt` has the rules.
+//! after it on its line. `specs/Ranks.antt` has the rules.
 
 ghost use Rattle.std.specs.Prelude.{◌≡◌, ℕ, ◌+◌, ◌-◌, ◌<◌, ◌≤◌, List, [], ◌∷◌, ◌++◌, length, map, IfOk, OnOk, All, get_or, drop, cond};
 ghost use Rattle.std.specs.List.{range_with_len, flat_map};
 ghost use Rattle.ux_net.specs.Places.{label_lines};
 ghost use Rattle.ux_net.specs.Construct.{has_state as has_state_of, labels_at, along_line, along_lines, at_place};
-ghost use Rattle.ux_net.specs.Ranks.{is_silent as is_silent_of, silent_len as silent_len_of, rest_rank as rest_rank_of, rest_free as rest_free_of, are_silent as are_silent_of, above, rank_at, free_at, chain_rank_at, chain_free_at, state_ranks, state_frees};
+ghost use Rattle.ux_net.specs.Silent.{are_silent as are_silent_of};
+ghost use Rattle.ux_net.specs.Ranks.{silent_len as silent_len_of, rest_rank as rest_rank_of, rest_free as rest_free_of, above, rank_at, free_at, chain_rank_at, chain_free_at, state_ranks, state_frees};
 
 use crate::label::Label;
+use crate::line::is_silent;
 use crate::net_graph::Rank;
 use crate::numbering::{has_state, labels, line_count};
 use crate::place::Place;
@@ -180,7 +182,7 @@ fn rest_rank(labels: &[Label], from: usize, front: usize, rank: usize) -> Rank
     requires small { rank < 4294967296 }
     ensures { result ≡ rest_rank_of rank (drop from labels.now) }
 {
-    if are_silent(labels, from, front) {
+    if is_rest_silent(labels, from, front) {
         return Rank {
             major: rank + 1,
             minor: front,
@@ -198,26 +200,16 @@ fn rest_free(labels: &[Label], from: usize, front: usize, free: bool) -> bool
     requires front { front ≡ silent_len_of (drop from labels.now) }
     ensures { result ≡ rest_free_of free (drop from labels.now) }
 {
-    are_silent(labels, from, front) && free
+    is_rest_silent(labels, from, front) && free
 }
 
 /// Whether all labels from `from` on are silent.
-fn are_silent(labels: &[Label], from: usize, front: usize) -> bool
+fn is_rest_silent(labels: &[Label], from: usize, front: usize) -> bool
     requires from { from ≤ length labels.now }
     requires front { front ≡ silent_len_of (drop from labels.now) }
     ensures { result ≡ are_silent_of (drop from labels.now) }
 {
     front == labels.len() - from
-}
-
-/// Whether the label takes nothing.
-fn is_silent(label: &Label) -> bool
-    ensures { result ≡ is_silent_of label.now }
-{
-    match label {
-        Label::Empty | Label::Glue => true,
-        Label::Fold(_) | Label::Exact(_) | Label::Space | Label::Call(_) => false,
-    }
 }
 
 /// How many labels from `from` on come before the first that isn't silent.
@@ -233,7 +225,7 @@ fn silent_len(labels: &[Label], from: usize) -> usize
     labels.len() - from
 }
 
-/// The same for the label behind: only where the label isn't silent are those behind it looked at,
+/// The same from the next label on: only where the label isn't silent are those after it looked at,
 /// so that along a line each is looked at twice at most.
 fn next_silent_len(labels: &[Label], from: usize, front: usize) -> usize
     requires from { from < length labels.now }

@@ -1,7 +1,7 @@
 //! A node of a graph, as a refusal names it.
 
 ghost use Rattle.std.specs.Prelude.{◌≡◌, ◌⊎◌, Some, IfSome};
-ghost use Rattle.ux_net.specs.Spots.{IsLeast, IsNotBehind};
+ghost use Rattle.ux_net.specs.Spots.{IsLeast, IsNotAfter};
 
 /// A place of a graph.
 #[derive(Clone, Copy)]
@@ -23,11 +23,11 @@ pub fn least(spots: &[Spot]) -> Option<Spot>
     best
 }
 
-/// The one of both that is not behind the other.
+/// The one of both that is not after the other.
 fn lesser(best: Option<Spot>, spot: Spot) -> Spot
     ensures one { (result ≡ spot) ⊎ (best ≡ Some result) }
-    ensures spot { IsNotBehind result spot }
-    ensures best { IfSome best (λ best. IsNotBehind result best) }
+    ensures spot { IsNotAfter result spot }
+    ensures best { IfSome best (λ best. IsNotAfter result best) }
 {
     match best {
         Some(best) => {

@@ -1,15 +1,15 @@
 //! The ways of all graphs, in one list.
 
-ghost use Rattle.std.specs.Prelude.{◌≡◌, ℕ, ◌+◌, ◌-◌, ◌<◌, ◌≤◌, ◌↔◌, List, length, get_or, All, Contains, IfOk, OnOk};
-ghost use Rattle.ux_net.specs.Places.{label_lines, place_targets};
+ghost use Rattle.std.specs.Prelude.{◌≡◌, ℕ, ◌-◌, ◌<◌, ◌≤◌, List, length, All, IfOk, OnOk};
+ghost use Rattle.ux_net.specs.declared.place.Place.{Place};
+ghost use Rattle.ux_net.specs.Places.{label_lines, place_targets, places_of as places_of_graph};
 ghost use Rattle.ux_net.specs.Fit.{IsFit, IsFitLine};
-ghost use Rattle.ux_net.specs.Numbers.{AreOffsets};
-ghost use Rattle.ux_net.specs.Ways.{AreWays};
-ghost use Rattle.ux_net.specs.Gains.{Gains};
-ghost use Rattle.ux_net.specs.Listed.{IsLineWay, IsTargetWay, IsSourceWay, IsPlaceWay, IsGraphWay, IsListedWay};
+ghost use Rattle.ux_net.specs.Numbers.{AreOffsets, number_of};
+ghost use Rattle.ux_net.specs.Ways.{AreWays, IsWay, IsWayOf, IsWayFrom, IsWayAlong};
+ghost use Rattle.ux_net.specs.Gains.{Gains, SoOfOne};
 
 use crate::label::Label;
-use crate::line::{is_still, one_call};
+use crate::line::{are_silent, one_call};
 use crate::place::Place;
 use crate::way::Way;
 use std::alloc::{AllocError, Global};
@@ -34,68 +34,64 @@ fn push_graphs(
 ) -> Result<(), AllocError>
     requires fit { All (IsFit (length graphs.now)) graphs.now }
     requires offsets { AreOffsets graphs.now offsets.now }
-    ensures { OnOk result
-        (Gains ways.old.items ways.new.items (IsListedWay offsets.now graphs.now)) }
+    ensures { OnOk result (Gains ways.old.items ways.new.items (IsWay graphs.now)) }
 {
-    for (k, places) in graphs.iter().enumerate() {
-        push_graph(ways, offsets, k + 1, offsets[k], places.as_slice())?;
+    for k in 0..graphs.len() {
+        push_graph(ways, graphs, offsets, k + 1)?;
     }
     Ok(())
 }
 
-/// Adds the ways of a graph, whose places are numbered from the base.
+/// Adds the ways of the graph of this number, counted from 1.
 fn push_graph(
     ways: &mut Vec<Way>,
+    graphs: &[Lst<Place>],
     offsets: &[usize],
     graph: usize,
-    base: usize,
-    places: &[Place],
 ) -> Result<(), AllocError>
-    requires fit { IsFit (length offsets.now - 1) places.now }
-    requires room { base + length places.now < 18446744073709551616 }
-    ensures { OnOk result
-        (Gains ways.old.items ways.new.items (IsGraphWay offsets.now graph base places.now)) }
+    requires fit { All (IsFit (length graphs.now)) graphs.now }
+    requires offsets { AreOffsets graphs.now offsets.now }
+    requires from { 1 ≤ graph }
+    requires to { graph ≤ length graphs.now }
+    ensures { OnOk result (Gains ways.old.items ways.new.items (IsWayOf graphs.now graph)) }
 {
-    for source in 0..places.len() {
-        push_place(ways, offsets, graph, base, places, source)?;
+    for source in 0..places_of(graphs, graph).len() {
+        push_place(ways, graphs, offsets, graph, source)?;
     }
     Ok(())
+}
+
+/// The places of the graph of this number.
+fn places_of(graphs: &[Lst<Place>], graph: usize) -> &[Place]
+    requires from { 1 ≤ graph }
+    requires to { graph ≤ length graphs.now }
+    ensures { result.now ≡ places_of_graph graphs.now graph }
+{
+    graphs[graph - 1].as_slice()
 }
 
 /// Adds the ways from the place, unless it is the end.
 fn push_place(
     ways: &mut Vec<Way>,
+    graphs: &[Lst<Place>],
     offsets: &[usize],
     graph: usize,
-    base: usize,
-    places: &[Place],
     source: usize,
 ) -> Result<(), AllocError>
-    requires fit { IsFit (length offsets.now - 1) places.now }
-    requires inside { source < length places.now }
-    requires room { base + length places.now < 18446744073709551616 }
-    ensures { OnOk result (Gains ways.old.items ways.new.items
-        (IsPlaceWay offsets.now graph base places.now source)) }
+    requires fit { All (IsFit (length graphs.now)) graphs.now }
+    requires offsets { AreOffsets graphs.now offsets.now }
+    requires from { 1 ≤ graph }
+    requires to { graph ≤ length graphs.now }
+    requires inside { source < length (places_of_graph graphs.now graph) }
+    ensures { OnOk result
+        (Gains ways.old.items ways.new.items (IsWayFrom graphs.now graph source)) }
 {
     if source == 1 {
         return Ok(());
     }
-    let step = Way {
-        graph,
-        source,
-        target: 0,
-        from: base + source,
-        to: base,
-        called: None,
-    };
-    push_source(
-        ways,
-        offsets,
-        base,
-        places,
-        step,
-        targets_of(places, source),
-    )?;
+    for target in targets_of(places_of(graphs, graph), source) {
+        push_target(ways, graphs, offsets, graph, source, *target as usize)?;
+    }
     Ok(())
 }
 
@@ -119,51 +115,41 @@ pub fn lines_of(places: &[Place], n: usize) -> &[Lst<Label>]
     }
 }
 
-/// Adds the ways of a step to each of the targets.
-fn push_source(
-    ways: &mut Vec<Way>,
-    offsets: &[usize],
-    base: usize,
-    places: &[Place],
-    step: Way,
-    targets: &[u32],
-) -> Result<(), AllocError>
-    requires fit { IsFit (length offsets.now - 1) places.now }
-    requires inside { All (λ target. target < length places.now) targets.now }
-    requires room { base + length places.now < 18446744073709551616 }
-    ensures { OnOk result (Gains ways.old.items ways.new.items
-        (IsSourceWay offsets.now base places.now step targets.now)) }
-{
-    for target in targets {
-        let target = *target as usize;
-        let step = Way {
-            target,
-            to: base + target,
-            ..step
-        };
-        push_target(ways, offsets, step, lines_of(places, target))?;
-    }
-    Ok(())
-}
-
-/// Adds the ways of a step along each of the lines.
+/// Adds the ways from the place to a target, along each of the target's lines.
 fn push_target(
     ways: &mut Vec<Way>,
+    graphs: &[Lst<Place>],
     offsets: &[usize],
-    step: Way,
-    lines: &[Lst<Label>],
+    graph: usize,
+    source: usize,
+    target: usize,
 ) -> Result<(), AllocError>
-    requires fit { All (IsFitLine (length offsets.now - 1)) lines.now }
-    ensures { OnOk result
-        (Gains ways.old.items ways.new.items (IsTargetWay offsets.now step lines.now)) }
+    requires fit { All (IsFit (length graphs.now)) graphs.now }
+    requires offsets { AreOffsets graphs.now offsets.now }
+    requires from { 1 ≤ graph }
+    requires to { graph ≤ length graphs.now }
+    requires source { source < length (places_of_graph graphs.now graph) }
+    requires target { target < length (places_of_graph graphs.now graph) }
+    ensures { OnOk result (Gains ways.old.items ways.new.items
+        (SoOfOne (label_lines (places_of_graph graphs.now graph) target)
+        (IsWayAlong graphs.now graph source target))) }
 {
-    for line in lines {
+    let base = offsets[graph - 1];
+    let step = Way {
+        graph,
+        source,
+        target,
+        from: base + source,
+        to: base + target,
+        called: None,
+    };
+    for line in lines_of(places_of(graphs, graph), target) {
         push_line(ways, offsets, step, line.as_slice())?;
     }
     Ok(())
 }
 
-/// Adds the way of a step along the line, if the line takes nothing or is one call.
+/// Adds the way of a step along the line, if the line is silent or one call.
 fn push_line(
     ways: &mut Vec<Way>,
     offsets: &[usize],
@@ -171,10 +157,13 @@ fn push_line(
     line: &[Label],
 ) -> Result<(), AllocError>
     requires fit { IsFitLine (length offsets.now - 1) line.now }
-    ensures { OnOk result
-        (Gains ways.old.items ways.new.items (IsLineWay offsets.now step line.now)) }
+    ensures { OnOk result ((graphs : List (List Place)) → AreOffsets graphs offsets.now →
+        step.from ≡ number_of graphs step.graph step.source →
+        step.to ≡ number_of graphs step.graph step.target →
+        Gains ways.old.items ways.new.items
+        (IsWayAlong graphs step.graph step.source step.target line.now)) }
 {
-    if is_still(line) {
+    if are_silent(line) {
         ways.push(Way {
             called: None,
             ..step

@@ -1,1 +1,4 @@
+pub mod Variables
 pub mod Rendering
+pub mod Following
+pub mod Kept

@@ -4,8 +4,21 @@
 //! renders. Positions stand before tokens, and are counted from 0.
 #![tactic(auto)]
 
-pub mod event;
-pub mod hit;
+mod answering;
+mod event;
+mod hit;
+mod known;
+mod names;
+mod rendered;
+mod rendering;
+mod span;
+mod table;
+mod taking;
+#[cfg(test)]
+mod tests;
+mod variables;
 
 pub use event::Event;
 pub use hit::Hit;
+pub use rendered::render;
+pub use span::Span;

@@ -31,4 +31,6 @@ mod tokens;
 #[cfg(test)]
 mod walk;
 #[cfg(test)]
+mod walker;
+#[cfg(test)]
 mod words;

@@ -19,6 +19,14 @@ fn show_label(all: &mut String, label: &Label) -> Result<(), AllocError> {
         Label::Fold(text) | Label::Exact(text) => all.push_str(text.as_str()),
         Label::Call(1) => all.push('A'),
         Label::Call(_) => all.push('B'),
+        Label::Mask(_)
+        | Label::Brace(_)
+        | Label::Begin(_)
+        | Label::End(_)
+        | Label::Positive
+        | Label::Negative
+        | Label::ContextEnd
+        | Label::Cut => all.push('?'),
     }
 }
 

@@ -38,7 +38,7 @@ fn walked(alloc: Global, net: &Net, text: &Text, alphabet: &Alphabet, start: usi
 type Row = (&'static str, &'static str, usize, &'static str);
 
 /// The graph of one box, compiled.
-fn one_box(alloc: Global, content: &str, alphabet: &Alphabet) -> Result<Net, Fail> {
+pub fn one_box(alloc: Global, content: &str, alphabet: &Alphabet) -> Result<Net, Fail> {
     let boxes = format!(in alloc; "E|2 | {content}|1")?;
     Ok(compiled(alloc, &[boxes.as_str()], alphabet)?)
 }
@@ -69,13 +69,13 @@ fn compare_rows(
 }
 
 /// The text of the rows.
-fn read(alloc: Global, alphabet: &Alphabet) -> Result<Text, Fail> {
+pub fn read(alloc: Global, alphabet: &Alphabet) -> Result<Text, Fail> {
     let text = String::from_str(alloc, "The  cat, x")?;
     Ok(Text::read(alloc, text, alphabet)?)
 }
 
 /// The letters of the rows.
-fn letters(alloc: Global) -> Result<Alphabet, Fail> {
+pub fn letters(alloc: Global) -> Result<Alphabet, Fail> {
     Ok(Alphabet::read(alloc, "Tt\nHh\nEe\nNn\nCc\nAa\n")?)
 }
 

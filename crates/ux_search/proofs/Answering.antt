@@ -8,8 +8,9 @@ use Rattle.ux_net.specs.Words.{Grammar}
 use Rattle.ux_net.specs.declared.net_graph.NetGraph.{NetGraph}
 use Rattle.ux_outputs.specs.declared.event.Event.{Event}
 use Rattle.ux_outputs.specs.declared.hit.Hit.{Hit}
-use Rattle.ux_walk.specs.Derivations.{Der}
-use Rattle.ux_walk.proofs.SameDerivations.{same_derivations}
+use Rattle.ux_meaning.specs.Meaning.{Der}
+use Rattle.ux_meaning.specs.Texts.{bare_text}
+use Rattle.ux_meaning.proofs.Renaming.{same_meaning}
 use Rattle.ux_plan.specs.Plans.{Answers}
 use Rattle.ux_alphabet.specs.Letters.{Letters}
 use Rattle.ux_search.specs.Hits.{IsHit}
@@ -19,7 +20,7 @@ use Rattle.ux_search.specs.Locate.{AreFiles, locate, search_plan}
 module _ (alphabet : Letters) (tokens : List Token) where
   -- grammars that derive the same give the same hits
   hit_alike : (old new : Grammar) → ((i j : ℕ) (events : List Event) →
-      Der alphabet tokens old 1 i j events → Der alphabet tokens new 1 i j events) →
+      Der (bare_text alphabet tokens) old 1 i j events → Der (bare_text alphabet tokens) new 1 i j events) →
       (hit : Hit) → IsHit alphabet tokens old hit → IsHit alphabet tokens new hit
   hit_alike old new same hit h = record {
     start = h.start;
@@ -32,7 +33,7 @@ module _ (alphabet : Letters) (tokens : List Token) where
 
   -- and so the same index
   index_alike : (old new : Grammar) → ((i j : ℕ) (events : List Event) →
-      Der alphabet tokens old 1 i j events ↔ Der alphabet tokens new 1 i j events) →
+      Der (bare_text alphabet tokens) old 1 i j events ↔ Der (bare_text alphabet tokens) new 1 i j events) →
       (text : List ℕ) → IsIndex (IsHit alphabet tokens old) text →
       IsIndex (IsHit alphabet tokens new) text
   index_alike old new same text index = record {
@@ -59,7 +60,7 @@ answered graph text alphabet chars told letters net tokens answer files index = 
   read = record { letters = letters; graphs = files.graphs; tokens = tokens };
   comes = files.comes;
   answers = index_alike letters tokens (net_grammar net) (box_grammar letters files.graphs)
-      (λ i j events. let same = same_derivations letters tokens
+      (λ i j events. let same = same_meaning (bare_text letters tokens)
       (box_grammar letters files.graphs) (net_grammar net) files.compiles 1 i j events in
       (same.1, same.0)) answer index;
 }

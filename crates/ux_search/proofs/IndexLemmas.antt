@@ -3,7 +3,7 @@ use Rattle.std.proofs.Common.{◌≡◌, ℕ, ◌+◌, ◌<◌, List, [], ◌∷
 use Rattle.std.specs.Prelude.{codes}
 use Rattle.std.proofs.lemmas.List.{append-nil, map-append, take_more}
 use Rattle.ux_tokens.specs.Tokens.{Token}
-use Rattle.ux_search.specs.declared.searching.Span.{Span}
+use Rattle.ux_outputs.specs.declared.span.Span.{Span}
 use Rattle.ux_outputs.specs.declared.hit.Hit.{Hit}
 use Rattle.ux_search.specs.Spans.{hit_at}
 use Rattle.ux_search.specs.Index.{index_line, index_lines, index_of}

@@ -3,17 +3,18 @@ use Rattle.std.proofs.Common.{arith, ◌≡◌, ℕ, zero, suc, ◌+◌, ◌<◌
 use Rattle.std.specs.Prelude.{All, Contains, Some, slice_get}
 use Rattle.std.proofs.lemmas.Option.{same_Some, slice_get_within}
 use Rattle.std.proofs.lemmas.List.Elements.{Contains-get_or}
+use Rattle.ux_base.specs.declared.settings.NoVar.TheVariants.{Nothing}
 use Rattle.ux_alphabet.specs.Letters.{Letters}
 use Rattle.ux_tokens.specs.Tokens.{Token}
 use Rattle.ux_net.specs.Words.{Grammar}
 use Rattle.ux_outputs.specs.declared.hit.Hit.{Hit}
-use Rattle.ux_walk.proofs.FollowingLemmas.{derivation_follows}
-use Rattle.ux_search.specs.declared.searching.Span.{Span}
+use Rattle.ux_outputs.specs.declared.span.Span.{Span}
+use Rattle.ux_outputs.proofs.IgnoredLemmas.{IsPlain, ignored_text}
 use Rattle.ux_search.specs.Hits.{IsHit}
 use Rattle.ux_search.specs.Index.{IsIndex, StandsBefore, index_of}
 use Rattle.ux_search.specs.Searching.{ListsSpans, Precedes}
 use Rattle.ux_search.specs.Spans.{IsSpan, hit_at}
-use Rattle.ux_search.proofs.Rendering.{hit_of_span, span_of_hit}
+use Rattle.ux_search.proofs.SpanLemmas.{followed, span_of}
 
 module _ {A B : Type 0} (f : A → B) where
   mapped : (xs : List A) (x : A) → Contains xs x → Contains (map f xs) (f x)
@@ -36,21 +37,30 @@ module _ {A B : Type 0} (f : A → B) where
   origin_at (x ∷ xs) (suc k) y e = origin_at xs k y e
 
 module _ (alphabet : Letters) (tokens : List Token) (grammar : Grammar) where
-  -- a listed span stands in the text
+  -- a hit's text is that of its tokens, and they stand in the text
+  plain : (hit : Hit) (h : IsHit alphabet tokens grammar hit) →
+      IsPlain tokens h.start h.end hit × (h.end ≤ length tokens)
+  plain hit h =
+      let f = followed alphabet tokens grammar h.start h.end h.events h.derived h.starts in
+      (ignored_text tokens Nothing h.start h.end h.events hit f.0 f.1 h.rendered, f.1)
+
   pub spans_in_order : (spans : List Span) → ListsSpans (IsSpan alphabet tokens grammar) spans →
       All (λ (span : Span). span.first ≤ span.last) spans
   spans_in_order spans l = λ k d lt.
-      ((l.exactly (get_or spans k d)).0 (Contains-get_or spans k d lt)).some
+      (plain (hit_at tokens (get_or spans k d))
+      ((l.exactly (get_or spans k d)).0 (Contains-get_or spans k d lt))).0.in_order
 
   pub spans_within : (spans : List Span) → ListsSpans (IsSpan alphabet tokens grammar) spans →
       All (λ (span : Span). span.last < length tokens) spans
   spans_within spans l = λ k d lt.
-      let span = get_or spans k d in
-      let is = (l.exactly span).0 (Contains-get_or spans k d lt) in
-      let first = slice_get_within tokens span.first is.starts.token is.starts.at_start in
-      let end = (derivation_follows alphabet tokens grammar 1 span.first (span.last + 1) is.events
-      is.derived (omega (arith, first))).1 in
-      omega (arith, end)
+      let p = plain (hit_at tokens (get_or spans k d))
+      ((l.exactly (get_or spans k d)).0 (Contains-get_or spans k d lt)) in
+      omega (arith, p.0.last, p.1)
+
+  -- each hit is that of its span
+  hit_is : (hit : Hit) → IsHit alphabet tokens grammar hit → hit ≡ hit_at tokens (span_of hit)
+  hit_is hit h = ap (λ (text : List ℕ). record { first = hit.first; last = hit.last; text = text })
+      (plain hit h).0.text
 
   stands_before : (a b : Span) → Precedes a b → StandsBefore (hit_at tokens a) (hit_at tokens b)
   stands_before a b (inl first) = inl first
@@ -66,12 +76,13 @@ module _ (alphabet : Letters) (tokens : List Token) (grammar : Grammar) where
       exactly = λ hit. (
         λ c.
             let o = origin (hit_at tokens) spans hit c in
-            subst (IsHit alphabet tokens grammar) (sym o.2)
-            (hit_of_span alphabet tokens grammar o.0 ((l.exactly o.0).0 o.1)),
+            subst (IsHit alphabet tokens grammar) (sym o.2) ((l.exactly o.0).0 o.1),
         λ h.
-            let s = span_of_hit alphabet tokens grammar hit h in
-            subst (Contains (map (hit_at tokens) spans)) (sym s.2)
-            (mapped (hit_at tokens) spans s.0 ((l.exactly s.0).1 s.1)),
+            let span = span_of hit in
+            let is = hit_is hit h in
+            subst (Contains (map (hit_at tokens) spans)) (sym is)
+            (mapped (hit_at tokens) spans span
+            ((l.exactly span).1 (subst (IsHit alphabet tokens grammar) is h))),
       );
       ordered = λ k a b first second.
           let x = origin_at (hit_at tokens) spans k a first in

@@ -2,6 +2,6 @@ pub mod Answering
 mod IndexExamples
 pub mod IndexLemmas
 pub mod Indexing
-pub mod Listing
-pub mod Rendering
+pub mod OrderLemmas
+pub mod SpanLemmas
 pub mod SearchLaws

@@ -1,6 +1,6 @@
 -- What a search lists. Inner: the crate's own functions alone speak of it.
 use Rattle.std.specs.Prelude.{◌≡◌, ℕ, ◌+◌, ◌-◌, ◌<◌, List, Contains, Some, slice_get, ◌↔◌, ◌⊎◌}
-use Rattle.ux_search.specs.declared.searching.Span.{Span}
+use Rattle.ux_outputs.specs.declared.span.Span.{Span}
 
 -- the span from a start up to a later position
 abbrev pub span_to : ℕ → ℕ → Span
@@ -10,12 +10,12 @@ span_to start end = record { first = start; last = end - 1 }
 abbrev pub Precedes : Span → Span → Type 0
 Precedes a b = (a.first < b.first) ⊎ ((a.first ≡ b.first) × (a.last < b.last))
 
+-- each span stands before the next
+abbrev pub AreInOrder : List Span → Type 0
+AreInOrder spans = (k : ℕ) (a b : Span) → slice_get spans k ≡ Some a →
+    slice_get spans (k + 1) ≡ Some b → Precedes a b
+
 -- each span of the set is listed once, by place
 pub record ListsSpans (Is : Span → Type 0) (spans : List Span) : Type 0 where
   pub exactly : (span : Span) → Contains spans span ↔ Is span
-  pub ordered : (k : ℕ) (a b : Span) → slice_get spans k ≡ Some a →
-      slice_get spans (k + 1) ≡ Some b → Precedes a b
-
--- the same of the spans that begin before a token
-abbrev pub ListsUpTo : (Span → Type 0) → ℕ → List Span → Type 0
-ListsUpTo Is start spans = ListsSpans (λ span. (span.first < start) × Is span) spans
+  pub ordered : AreInOrder spans

@@ -5,10 +5,10 @@ ghost use Rattle.std.specs.Fmt.{decimal};
 ghost use Rattle.ux_search.specs.Index.{index_line, index_of};
 ghost use Rattle.ux_search.specs.Spans.{hit_at};
 
-use crate::searching::Span;
 use itoa::Buffer;
 use std::alloc::{AllocError, Global};
 use ux_base::Mem;
+use ux_outputs::Span;
 use ux_tokens::Text;
 
 /// The index of the hits in the mode in which outputs are ignored. The hits lie in the text. Takes

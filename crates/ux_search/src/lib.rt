@@ -18,6 +18,7 @@ mod files;
 mod index;
 mod reason;
 mod searching;
+mod sorting;
 
 pub use command::locate;
 pub use reason::Reason;

@@ -67,7 +67,8 @@ impl Text {
 
     /// How many tokens there are.
     pub fn len(&self) -> usize
-        ensures { result ≡ length self.now }
+        ensures len { result ≡ length self.now }
+        ensures few { result ≤ MAX_TOKENS }
     {
         self.pieces.len()
     }

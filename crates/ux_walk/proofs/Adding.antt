@@ -1,11 +1,11 @@
 -- What is added to what a walk has reached, one step after another.
 use Rattle.std.proofs.Common.{◌≡◌, ℕ, List, [], ◌∷◌, ◌++◌, ◌⊎◌, ◌↔◌, inl, inr, refl, sym, ◌∙◌, ap, subst, append-nil, append_assoc}
 use Rattle.std.specs.Prelude.{Contains}
-use Rattle.ux_outputs.specs.declared.event.Event.{Event}
 use Rattle.ux_walk.specs.declared.lists.Link.{Link}
 use Rattle.ux_walk.specs.declared.config.Frame.{Frame}
 use Rattle.ux_walk.specs.declared.config.Config.{Config}
 use Rattle.ux_walk.specs.declared.config.Found.{Found}
+use Rattle.ux_walk.specs.declared.config.Taken.{Taken}
 use Rattle.ux_walk.specs.declared.reached.Reached.{Reached}
 use Rattle.ux_walk.specs.Links.{Names, AreBelow, Extends, IsConsed}
 use Rattle.ux_walk.specs.Configurations.{Course, Spells, IsNamed, IsFound, IsSound, Adds, frames_of, events_of}
@@ -32,7 +32,7 @@ pub keeps : {Told : Course → Type 0} {old new : Reached} → Adds Told old new
 keeps adds = record { frames = adds.frames; events = adds.events }
 
 module _ (old new : Reached) (kept : Keeps old new) where
-  pub spells_kept : (c : Config) (back : List Frame) (before : List Event) →
+  pub spells_kept : (c : Config) (back : List Frame) (before : List Taken) →
       Spells old c back before → Spells new c back before
   spells_kept c back before s = record {
     frames = names_kept (frames_of old) (frames_of new) kept.frames c.back back s.frames;
@@ -62,7 +62,7 @@ module _ (r : Reached) where
       let events = one_list (events_of r) c.events a.before b.before a.spells.events b.spells.events
       in
       a.is ∙ (ap (λ (x : List Frame). record { frames = c.here ∷ x; at = c.at; before = a.before })
-      frames ∙ (ap (λ (x : List Event). record {
+      frames ∙ (ap (λ (x : List Taken). record {
         frames = c.here ∷ b.back;
         at = c.at;
         before = x;
@@ -71,7 +71,7 @@ module _ (r : Reached) where
   pub one_found : (f : Found) (v w : Course) → IsFound r f v → IsFound r f w → v ≡ w
   one_found f v w a b =
       let events = one_list (events_of r) f.events a.before b.before a.events b.events in
-      a.is ∙ (ap (λ (x : List Event). record { frames = []; at = f.end; before = x }) events
+      a.is ∙ (ap (λ (x : List Taken). record { frames = []; at = f.end; before = x }) events
       ∙ sym b.is)
 
 -- no course
@@ -204,7 +204,7 @@ module _ (old new : Reached) (same : SameLists old new) (sound : IsSound old) wh
       sound.frames_below
 
   same_events_below : AreBelow (events_of new)
-  same_events_below = subst (λ (l : List (Link Event)). AreBelow l) (sym same.events)
+  same_events_below = subst (λ (l : List (Link Taken)). AreBelow l) (sym same.events)
       sound.events_below
 
   -- a configuration is pending beside those that were
@@ -322,11 +322,11 @@ adds_behind Told old mid new first second =
     adds_then NoCourse Told Told old mid new first second
     (λ w. (λ h. inr h, λ h. elim h [ inl none ↦ absurd none | inr t ↦ t ]))
 
--- an event in front of those of a list
-pub adds_event : (old mid : Reached) (e : Event) (tail n : ℕ) → IsSound old →
+-- what was taken in front of those of a list
+pub adds_event : (old mid : Reached) (e : Taken) (tail n : ℕ) → IsSound old →
     IsConsed (events_of old) (events_of mid) e tail n → frames_of mid ≡ frames_of old →
     mid.pending.keys ≡ old.pending.keys → mid.found.keys ≡ old.found.keys →
-    (before : List Event) → Names (events_of old) tail before →
+    (before : List Taken) → Names (events_of old) tail before →
     Adds NoCourse old mid × Names (events_of mid) n (e ∷ before)
 adds_event old mid e tail n sound consed frames pending found before named =
     let kept : Keeps old mid = record {
@@ -354,6 +354,6 @@ adds_frame old mid f tail n sound consed events pending found back named =
       adds_lists old mid kept pending found sound
           (consed_below (frames_of old) (frames_of mid) f tail n consed sound.frames_below back
           named)
-          (subst (λ (l : List (Link Event)). AreBelow l) (sym events) sound.events_below),
+          (subst (λ (l : List (Link Taken)). AreBelow l) (sym events) sound.events_below),
       consed_names (frames_of old) (frames_of mid) f tail n consed back named,
     )

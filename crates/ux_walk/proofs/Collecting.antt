@@ -3,7 +3,7 @@ use Rattle.std.proofs.Common.{arith, ◌≡◌, ℕ, zero, suc, ◌+◌, ◌<◌
 use Rattle.std.specs.Prelude.{Contains}
 use Rattle.std.proofs.lemmas.List.{take_more, take_all}
 use Rattle.std.proofs.lemmas.List.Elements.{Contains-append_left, Contains-push_cases, Contains-push}
-use Rattle.ux_walk.specs.Ends.{Includes}
+use Rattle.ux_walk.specs.Noting.{Includes}
 
 -- what some element of the list leads to
 abbrev pub Among : {S X : Type 0} → (S → X → Type 0) → List S → X → Type 0

@@ -7,8 +7,8 @@ use Rattle.std.specs.Str.{chars}
 use Rattle.std.proofs.lemmas.Option.{slice_get-map}
 use Rattle.ux_alphabet.specs.Letters.{Letters, Fits}
 use Rattle.ux_net.specs.declared.label.Label.{Label}
-use Rattle.ux_net.specs.declared.label.Label.TheVariants.{Empty, Fold, Exact, Space, Glue, Call}
-use Rattle.ux_walk.specs.Fronts.{AreCounted, FitsText, IsFitted, count_of}
+use Rattle.ux_net.specs.declared.label.Label.TheVariants.{Fold, Exact}
+use Rattle.ux_walk.specs.Literals.{AreCounted, FitsText, IsFitted, count_of}
 
 zip_length : (R : ℕ → ℕ → Type 0) (xs ys : List ℕ) → AllZip R xs ys → length ys ≡ length xs
 zip_length R [] [] z = refl
@@ -22,10 +22,7 @@ pub fitted_count : (alphabet : Letters) (label : Label) (text : List ℕ) →
 fitted_count alphabet (Fold entry) text fits =
     zip_length (Fits alphabet) (chars entry) (chars text) fits
 fitted_count alphabet (Exact exact) text fits = ap (λ (t : List ℕ). length (chars t)) fits
-fitted_count alphabet Empty text fits = absurd fits
-fitted_count alphabet Space text fits = absurd fits
-fitted_count alphabet Glue text fits = absurd fits
-fitted_count alphabet (Call h) text fits = absurd fits
+fitted_count alphabet other text fits = absurd fits
 
 -- and so the tokens
 pub fitted_counted : (alphabet : Letters) (texts : List (List ℕ)) (counts : List ℕ) →

@@ -1,5 +1,5 @@
--- The ends that a walk through fronts noted so far, and what its front gives.
-use Rattle.std.proofs.Common.{arith, ◌≡◌, ℕ, zero, suc, ◌+◌, ◌<◌, ◌≤◌, List, [], ◌∷◌, ◌++◌, ◌⊎◌, ◌↔◌, inl, inr, refl, sym, ap, subst, reverse}
+-- The ends that a walk through the automaton noted so far, and what its subset gives.
+use Rattle.std.proofs.Common.{arith, ◌≡◌, ℕ, zero, suc, ◌+◌, ◌<◌, ◌≤◌, List, [], ◌∷◌, ◌++◌, ◌⊎◌, ◌↔◌, inl, inr, refl, sym, ap, subst}
 use Rattle.std.specs.Prelude.{Contains, Some, slice_get, IsSomeAnd}
 use Rattle.std.specs.List.Sorted.{IsStrictlyIncreasing}
 use Rattle.std.proofs.lemmas.List.{append-nil}
@@ -13,14 +13,22 @@ use Rattle.ux_net.proofs.JoinedLemmas.{nothing_in, contains_first, contains_late
 use Rattle.ux_outputs.specs.declared.event.Event.{Event}
 use Rattle.ux_outputs.specs.declared.event.Event.TheVariants.{Take}
 use Rattle.ux_outputs.specs.Rendering.{skip}
-use Rattle.ux_walk.specs.declared.fronts.Fronts.{Fronts}
-use Rattle.ux_walk.specs.declared.fronts.Reading.{Reading}
-use Rattle.ux_walk.specs.declared.fronts.Reading.TheVariants.{Beyond, Through, Final}
-use Rattle.ux_walk.specs.Derivations.{Der, MayStandFor}
-use Rattle.ux_walk.specs.Ends.{AreEnds, EndsAt, Notes}
-use Rattle.ux_walk.specs.Fronts.{AreKept, IsReadAs, Stands, TurnsTo, ends_of, links_of}
+use Rattle.ux_meaning.specs.Meaning.{Der, RefusesBy}
+use Rattle.ux_meaning.specs.Texts.{MayStandFor, bare_text}
+use Rattle.ux_walk.specs.declared.config.Taken.{Taken}
+use Rattle.ux_walk.specs.declared.automaton.Automaton.{Automaton}
+use Rattle.ux_walk.specs.declared.automaton.Reading.{Reading}
+use Rattle.ux_walk.specs.declared.automaton.Reading.TheVariants.{Quit, Through, Final}
+use Rattle.ux_walk.specs.Configurations.{from_to, told}
+use Rattle.ux_outputs.specs.Following.{AreTakes}
+use Rattle.ux_walk.specs.Ends.{AreEnds, AreStraightEnds}
+use Rattle.ux_walk.specs.Noting.{EndsAt, Notes}
+use Rattle.ux_walk.specs.Settings.{Derives, Setting, setting_of}
+use Rattle.ux_walk.specs.Automata.{IsKept, IsReadAs, Stands, LeadsTo, ends_of, links_of}
 use Rattle.ux_walk.specs.Links.{Extends, Names}
+use Rattle.ux_walk.proofs.LevelsLemmas.{at_each_level}
 use Rattle.ux_walk.proofs.Lighter.{skip_forward}
+use Rattle.ux_walk.proofs.OneStep.{told-more}
 use Rattle.ux_walk.proofs.StraightExact.{IsExact, exact_begins, exact_kept, exact_ends, exact_over, exact_next}
 
 -- a number above all others is put last
@@ -37,7 +45,7 @@ push_ascends (x ∷ next ∷ xs) y up below (suc k) lt =
     rw on at (up (suc m) (omega (arith, low))))
     (λ z h. below z (contains_later x (next ∷ xs) z h)) k (omega (arith, lt)))
 
--- the position is behind the start, and something that was found ends there
+-- the position is after the start, and something that was found ends there
 abbrev IsNoted : (start : ℕ) → List (ℕ × List Event) → ℕ → Type 0
 IsNoted start found e = (start < e) × (es : List Event) × Contains found (e, es)
 
@@ -115,11 +123,11 @@ module _ (start at : ℕ) (es : List Event) (found : List (ℕ × List Event)) (
     before = λ e h. let lt = are.before e h in omega (arith, lt, further);
   }
 
--- what ends where a front was read was noted
+-- what ends where a subset was read was noted
 noted_more : (reading : Reading) (start at : ℕ) (es : List Event) (found : List (ℕ × List Event))
     (old new : List ℕ) (next : ℕ) → at < next → Notes reading start at old new →
     AreNoted start found old at → AreNoted start (found ++ ends_of reading at es) new next
-noted_more Beyond start at es found old new next further notes are =
+noted_more Quit start at es found old new next further notes are =
     subst (λ (l : List (ℕ × List Event)). AreNoted start l new next) (sym (append-nil found))
     (subst (λ (l : List ℕ). AreNoted start found l next) (sym notes)
     (noted_further start at es found old are next further))
@@ -134,101 +142,165 @@ noted_more Final start at es found old new next further notes are = elim notes [
       (sym not.1) (noted_not start at es found old are next further not.0)
 ]
 
+-- each that was found takes tokens alone
+abbrev AllTake : (start : ℕ) → List (ℕ × List Event) → Type 0
+AllTake start found = (j : ℕ) (es : List Event) → Contains found (j, es) → AreTakes start j es
+
+-- what ends where a subset was read takes tokens alone, as what comes before does
+taken_more : (reading : Reading) (start at : ℕ) (es : List Event) (found : List (ℕ × List Event)) →
+    AllTake start found → AreTakes start at es → AllTake start (found ++ ends_of reading at es)
+taken_more Quit start at es found taken takes j later there = taken j later
+    (subst (λ (l : List (ℕ × List Event)). Contains l (j, later)) (append-nil found) there)
+taken_more Through start at es found taken takes j later there = taken j later
+    (subst (λ (l : List (ℕ × List Event)). Contains l (j, later)) (append-nil found) there)
+taken_more Final start at es found taken takes j later there =
+    elim (Contains-push_cases found (at, es) (j, later) there) [
+      | inl old ↦ taken j later old
+      | inr is ↦ subst (λ (x : ℕ × List Event). AreTakes start x.0 x.1) is takes
+    ]
+
+-- one event more that takes tokens, after others
+takes_next : (start at next : ℕ) (es : List Event) → at < next → AreTakes start at es →
+    AreTakes start next (es ++ Take at next ∷ [])
+takes_next start at next [] further takes = (
+  next,
+  ap (λ (p : ℕ). Take p next) (sym takes),
+  omega (arith, further, takes),
+  refl,
+)
+takes_next start at next (event ∷ es) further (to, is, lt, later) =
+    (to, is, lt, takes_next to at next es further later)
+
+-- and so before them, where they stand in reverse order
+takes_more : (start at next : ℕ) (before : List Taken) → at < next →
+    AreTakes start at (told before) → AreTakes start next (told (from_to at next ∷ before))
+takes_more start at next before further takes =
+    subst (AreTakes start next) (sym (told-more (from_to at next) before))
+    (takes_next start at next (told before) further takes)
+
 module _ (alphabet : Letters) (tokens : List Token) (net : List NetGraph) (start : ℕ) where
   abbrev texts : List (List ℕ)
   texts = different_texts tokens
 
-  -- what was noted, and what the front gives, is what is derived
-  pub record Walked (fronts : Fronts) (ends : List ℕ) (front at : ℕ) : Type 0 where
+  abbrev setting : Setting
+  setting = setting_of net tokens alphabet
+
+  -- contexts are refused as so many levels tell
+  abbrev Refused : ℕ → (g opening closing p : ℕ) → Type 0
+  Refused n = RefusesBy (bare_text alphabet tokens) (net_grammar net) n
+
+  -- what was noted, and what the subset gives, is what each level derives, by taking tokens alone
+  pub record Walked (automaton : Automaton) (ends : List ℕ) (subset at : ℕ) : Type 0 where
     pub found : List (ℕ × List Event)
-    pub before : List Event
-    pub exact : IsExact alphabet tokens net start fronts found front at before
+    pub before : List Taken
+    pub exact : (n : ℕ) →
+        IsExact alphabet tokens net (Refused n) start automaton found subset at before
     pub noted : AreNoted start found ends at
+    pub taken : AllTake start found
+    pub takes : AreTakes start at (told before)
 
   -- what was noted is what is derived
   are_ends : (found : List (ℕ × List Event)) (ends : List ℕ) (at : ℕ) →
       ((j : ℕ) (es : List Event) → Contains found (j, es)
-      ↔ Der alphabet tokens (net_grammar net) 1 start j es) →
-      AreNoted start found ends at → AreEnds alphabet tokens net start ends
-  are_ends found ends at are noted = record {
-    exactly = λ e. (
-      λ h. let n = (noted.exactly e).0 h in (n.0, n.1, (are e n.1).0 n.2),
-      λ h. (noted.exactly e).1 (h.0, h.1, (are e h.1).1 h.2),
-    );
-    ascending = noted.ascending;
+      ↔ Der (bare_text alphabet tokens) (net_grammar net) 1 start j es) →
+      AreNoted start found ends at → AllTake start found → AreStraightEnds setting start ends
+  are_ends found ends at are noted taken = record {
+    ends_are = record {
+      exactly = λ e. (
+        λ h. let n = (noted.exactly e).0 h in (n.0, n.1, (are e n.1).0 n.2),
+        λ h. (noted.exactly e).1 (h.0, h.1, (are e h.1).1 h.2),
+      );
+      ascending = noted.ascending;
+    };
+    straight = λ e es d. taken e es ((are e es).1 d);
   }
 
   -- at the start
-  pub walked_begins : (fronts : Fronts) (ends : List ℕ) (front : ℕ) → ends ≡ [] →
-      front ≡ fronts.turns.first → AreKept alphabet texts net fronts →
-      Walked fronts ends front start
-  walked_begins fronts ends front none is kept = record {
+  pub walked_begins : (automaton : Automaton) (ends : List ℕ) (subset : ℕ) → ends ≡ [] →
+      subset ≡ automaton.transitions.first → IsKept alphabet texts net automaton →
+      Walked automaton ends subset start
+  walked_begins automaton ends subset none is kept = record {
     found = [];
     before = [];
-    exact = exact_begins alphabet tokens net start fronts front is kept;
+    exact = λ n. exact_begins alphabet tokens net (Refused n) start automaton subset is kept;
     noted = subst (λ (l : List ℕ). AreNoted start [] l start) (sym none) (none_noted start);
+    taken = λ j es there. absurd (nothing_in there);
+    takes = refl;
   }
 
-  -- in the empty front
-  pub walked_ends : (fronts : Fronts) (ends : List ℕ) (front at : ℕ) → front ≤ 0 →
-      Walked fronts ends front at → AreEnds alphabet tokens net start ends
-  walked_ends fronts ends front at none walked = are_ends walked.found ends at
-      (exact_ends alphabet tokens net start fronts walked.found front at walked.before none
-      walked.exact) walked.noted
+  -- in the empty subset
+  pub walked_ends : (automaton : Automaton) (ends : List ℕ) (subset at : ℕ) → subset ≤ 0 →
+      Walked automaton ends subset at → AreStraightEnds setting start ends
+  walked_ends automaton ends subset at none walked = are_ends walked.found ends at
+      (λ j es. at_each_level (bare_text alphabet tokens) (net_grammar net) 1 start j es
+      (Contains walked.found (j, es))
+      (λ n. exact_ends alphabet tokens net (Refused n) start automaton walked.found subset at
+      walked.before none (walked.exact n) j es)) walked.noted walked.taken
 
-  module _ (old fronts : Fronts) (ends noted : List ℕ) (front at : ℕ) (reading : Reading)
-      (within : reading ≡ Beyond → ⊥) (is : IsReadAs alphabet texts net fronts front reading)
-      (more : Extends (links_of old) (links_of fronts))
-      (named : (states : List ℕ) × Names (links_of old) front states)
-      (notes : Notes reading start at ends noted) (walked : Walked old ends front at) where
+  module _ (old automaton : Automaton) (ends noted : List ℕ) (subset at : ℕ) (reading : Reading)
+      (within : reading ≡ Quit → ⊥) (is : IsReadAs alphabet texts net automaton subset reading)
+      (more : Extends (links_of old) (links_of automaton))
+      (named : (states : List ℕ) × Names (links_of old) subset states)
+      (notes : Notes reading start at ends noted) (walked : Walked old ends subset at) where
     abbrev seen : List (ℕ × List Event)
-    seen = walked.found ++ ends_of reading at (reverse walked.before)
+    seen = walked.found ++ ends_of reading at (told walked.before)
 
-    exact : IsExact alphabet tokens net start fronts walked.found front at walked.before
-    exact = exact_kept alphabet tokens net start old fronts walked.found front at walked.before more
-        named walked.exact
+    exact : (n : ℕ) →
+        IsExact alphabet tokens net (Refused n) start automaton walked.found subset at walked.before
+    exact n = exact_kept alphabet tokens net (Refused n) start old automaton walked.found subset at
+        walked.before more named (walked.exact n)
 
     all_noted : (next : ℕ) → at < next → AreNoted start seen noted next
-    all_noted next further = noted_more reading start at (reverse walked.before) walked.found ends
+    all_noted next further = noted_more reading start at (told walked.before) walked.found ends
         noted next further notes walked.noted
+
+    all_taken : AllTake start seen
+    all_taken = taken_more reading start at (told walked.before) walked.found walked.taken
+        walked.takes
 
     -- no literal takes what comes next
     pub walked_over : (position : ℕ) → position ≡ skip tokens at →
         (IsSomeAnd (slice_get tokens position) (λ token. MayStandFor token.kind) → ⊥) →
-        AreEnds alphabet tokens net start noted
+        AreStraightEnds setting start noted
     walked_over position here none = are_ends seen noted (at + 1)
-        (exact_over alphabet tokens net start fronts front at walked.before reading walked.found
-        seen within is refl exact position here none) (all_noted (at + 1) (omega arith))
+        (λ j es. at_each_level (bare_text alphabet tokens) (net_grammar net) 1 start j es
+        (Contains seen (j, es))
+        (λ n. exact_over alphabet tokens net (Refused n) start automaton subset at walked.before
+        reading walked.found seen within is refl (exact n) position here none j es))
+        (all_noted (at + 1) (omega arith)) all_taken
 
     -- a token leads on
     pub walked_next : (token : Token) → slice_get tokens (skip tokens at) ≡ Some token →
         MayStandFor token.kind → (number next : ℕ) → slice_get texts number ≡ Some token.text →
-        ((to : ℕ) → Stands (links_of fronts) next to ↔ TurnsTo fronts front number to) →
-        Walked fronts noted next (skip tokens at + 1)
-    walked_next token there may number next numbered turned = record {
+        ((to : ℕ) → Stands (links_of automaton) next to ↔ LeadsTo automaton subset number to) →
+        Walked automaton noted next (skip tokens at + 1)
+    walked_next token there may number next numbered moved = record {
       found = seen;
-      before = Take at (skip tokens at + 1) ∷ walked.before;
-      exact = exact_next alphabet tokens net start fronts front at walked.before reading
-          walked.found seen within is refl exact token there may number next numbered turned;
-      noted = all_noted (skip tokens at + 1)
-          (let forward = skip_forward tokens at in omega (arith, forward));
+      before = from_to at (skip tokens at + 1) ∷ walked.before;
+      exact = λ n. exact_next alphabet tokens net (Refused n) start automaton subset at
+          walked.before reading walked.found seen within is refl (exact n) token there may number
+          next numbered moved;
+      noted = all_noted (skip tokens at + 1) further;
+      taken = all_taken;
+      takes = takes_more start at (skip tokens at + 1) walked.before further walked.takes;
     }
+      where
+        further : at < skip tokens at + 1
+        further = let forward = skip_forward tokens at in omega (arith, forward)
 
-  -- the ends of all that was found
-  pub ends_found : (found : List (ℕ × List Event)) (ends : List ℕ) →
-      ((j : ℕ) (es : List Event) → Contains found (j, es)
-      ↔ Der alphabet tokens (net_grammar net) 1 start j es) →
-      ((e : ℕ) → Contains ends e ↔ EndsAt found start e) → IsStrictlyIncreasing ends →
-      AreEnds alphabet tokens net start ends
-  ends_found found ends are at ascending = record {
-    exactly = λ e. (
-      λ h. let f = (at e).0 h in (
-        f.2.0,
-        f.0.1,
-        subst (λ (n : ℕ). Der alphabet tokens (net_grammar net) 1 start n f.0.1) f.2.1
-            ((are f.0.0 f.0.1).0 f.1),
-      ),
-      λ h. (at e).1 ((e, h.1), (are e h.1).1 h.2, (h.0, refl)),
-    );
-    ascending = ascending;
-  }
+-- the ends of all that was found
+pub ends_found : (setting : Setting) (start : ℕ) (found : List (ℕ × List Event)) (ends : List ℕ) →
+    ((j : ℕ) (es : List Event) → Contains found (j, es) ↔ Derives setting start j es) →
+    ((e : ℕ) → Contains ends e ↔ EndsAt found start e) → IsStrictlyIncreasing ends →
+    AreEnds setting start ends
+ends_found setting start found ends are at ascending = record {
+  exactly = λ e. (
+    λ h. let f = (at e).0 h in (
+      f.2.0,
+      f.0.1,
+      subst (λ (n : ℕ). Derives setting start n f.0.1) f.2.1 ((are f.0.0 f.0.1).0 f.1),
+    ),
+    λ h. (at e).1 ((e, h.1), (are e h.1).1 h.2, (h.0, refl)),
+  );
+  ascending = ascending;
+}

@@ -8,11 +8,11 @@ use Rattle.std.proofs.lemmas.Str.{chars_past_char, encodes-chars}
 use Rattle.std.proofs.lemmas.List.Elements.{All-cons, All-head, All-tail}
 use Rattle.ux_alphabet.specs.Letters.{Letters, Fits}
 use Rattle.ux_net.specs.declared.label.Label.{Label}
-use Rattle.ux_net.specs.declared.label.Label.TheVariants.{Empty, Fold, Exact, Space, Glue, Call}
+use Rattle.ux_net.specs.declared.label.Label.TheVariants.{Fold, Exact}
 use Rattle.ux_base.specs.Distinct.{StandOnce}
 use Rattle.ux_tokens.specs.Numbers.{texts_in}
 use Rattle.ux_walk.specs.declared.words.Words.{Words}
-use Rattle.ux_walk.specs.Fronts.{AreReady, FitsText, IsFitted, IsFixed, IsOf, IsPlainChar}
+use Rattle.ux_walk.specs.Literals.{AreReady, FitsText, IsFitted, IsFixed, IsOf, IsPlainChar}
 
 -- one more character of a text that has a property
 pub all_turn : (P : ℕ → Type 0) (Whole : Type 0) (text rest : List ℕ) (c : ℕ) → IsUtf8 text →
@@ -46,10 +46,7 @@ module _ (alphabet : Letters) where
       subst (λ (t : List ℕ). AllZip (Fits alphabet) (chars entry) (chars t)) (sym is)
       (fits_itself (chars entry))
   fits_if_fixed (Exact exact) text is = is
-  fits_if_fixed Empty text is = is
-  fits_if_fixed Space text is = is
-  fits_if_fixed Glue text is = is
-  fits_if_fixed (Call graph) text is = is
+  fits_if_fixed other text is = absurd is
 
   -- a literal that fits a text of plain characters is this text
   fixed_if_plain : (label : Label) (text : List ℕ) →
@@ -60,10 +57,7 @@ module _ (alphabet : Letters) where
       ∙ (ap encodes (sym (plain_same (chars entry) (chars text) fits plain))
       ∙ encodes-chars entry (entry_utf8 entry refl))
   fixed_if_plain (Exact exact) text entry_utf8 utf8 plain fits = fits
-  fixed_if_plain Empty text entry_utf8 utf8 plain fits = fits
-  fixed_if_plain Space text entry_utf8 utf8 plain fits = fits
-  fixed_if_plain Glue text entry_utf8 utf8 plain fits = fits
-  fixed_if_plain (Call graph) text entry_utf8 utf8 plain fits = fits
+  fixed_if_plain other text entry_utf8 utf8 plain fits = absurd fits
 
   -- what is fitted has the literal's text, or is one of those that others may fit
   module _ (texts : List (List ℕ)) (words : Words) (ready : AreReady alphabet texts words)

@@ -1,30 +1,30 @@
--- Gains of turns, one after another.
+-- Gains of transitions, one after another.
 use Rattle.std.proofs.Common.{arith, ◌≡◌, ℕ, ◌+◌, ◌<◌, ◌≤◌, List, [], ◌∷◌, ◌++◌, ◌↔◌, inl, inr, refl, sym, ◌∙◌, ap, subst, length, take, get_or}
 use Rattle.std.specs.Prelude.{Contains}
 use Rattle.std.proofs.lemmas.List.{take_more, take_all}
 use Rattle.std.proofs.lemmas.List.Elements.{Contains-append_left, Contains-push_cases, Contains-push}
-use Rattle.ux_walk.specs.declared.fronts.Fronts.{Fronts}
-use Rattle.ux_walk.specs.Fronts.{AreNamed, Gains, Grows, links_of}
+use Rattle.ux_walk.specs.declared.automaton.Automaton.{Automaton}
+use Rattle.ux_walk.specs.Automata.{AreNamed, Gains, Grows, links_of}
 use Rattle.ux_walk.proofs.Adding.{extends_same, extends_more}
 
 -- nothing grew
-pub grows_not : (front : ℕ) (r : Fronts) → AreNamed r → Grows front r r
-grows_not front r named = record {
+pub grows_not : (subset : ℕ) (r : Automaton) → AreNamed r → Grows subset r r
+grows_not subset r named = record {
   words = refl;
   first = refl;
   readings = refl;
   links = extends_same (links_of r);
   named = named;
-  others = λ turn next apart. (λ h. h, λ h. h);
+  others = λ transition next apart. (λ h. h, λ h. h);
 }
 
-module _ (r : Fronts) (left : ℕ) where
-  -- fronts of which only the comparisons that are left differ
-  abbrev pub spent : Fronts
+module _ (r : Automaton) (left : ℕ) where
+  -- automata of which only the comparisons that are left differ
+  abbrev pub spent : Automaton
   spent = record {
     words = r.words;
     lists = r.lists;
-    turns = r.turns;
+    transitions = r.transitions;
     readings = r.readings;
     left = left;
   }
@@ -32,9 +32,9 @@ module _ (r : Fronts) (left : ℕ) where
   pub named_spent : AreNamed r → AreNamed spent
   named_spent named = record { below = named.below; named = named.named }
 
-  pub gains_spent : (Told : ℕ → ℕ → Type 0) (front : ℕ) (new : Fronts) →
-      Gains Told front spent new → Gains Told front r new
-  gains_spent Told front new gains = record {
+  pub gains_spent : (Told : ℕ → ℕ → Type 0) (subset : ℕ) (new : Automaton) →
+      Gains Told subset spent new → Gains Told subset r new
+  gains_spent Told subset new gains = record {
     grows = record {
       words = gains.grows.words;
       first = gains.grows.first;
@@ -43,68 +43,70 @@ module _ (r : Fronts) (left : ℕ) where
       named = gains.grows.named;
       others = gains.grows.others;
     };
-    turns = gains.turns;
+    transitions = gains.transitions;
   }
 
 -- one growth after another
-pub grows_then : (front : ℕ) (old mid new : Fronts) → Grows front old mid → Grows front mid new →
-    Grows front old new
-grows_then front old mid new one two = record {
+pub grows_then : (subset : ℕ) (old mid new : Automaton) → Grows subset old mid →
+    Grows subset mid new →
+    Grows subset old new
+grows_then subset old mid new one two = record {
   words = two.words ∙ one.words;
   first = two.first ∙ one.first;
   readings = two.readings ∙ one.readings;
   links = extends_more (links_of old) (links_of mid) (links_of new) one.links two.links;
   named = two.named;
-  others = λ turn next apart. (
-    λ h. (one.others turn next apart).0 ((two.others turn next apart).0 h),
-    λ h. (two.others turn next apart).1 ((one.others turn next apart).1 h),
+  others = λ transition next apart. (
+    λ h. (one.others transition next apart).0 ((two.others transition next apart).0 h),
+    λ h. (two.others transition next apart).1 ((one.others transition next apart).1 h),
   );
 }
 
 -- the same gains, told in another way
-pub gains_alike : (Told Wanted : ℕ → ℕ → Type 0) (front : ℕ) (old new : Fronts) →
-    Gains Told front old new → ((number to : ℕ) → Told number to ↔ Wanted number to) →
-    Gains Wanted front old new
-gains_alike Told Wanted front old new gains same = record {
+pub gains_alike : (Told Wanted : ℕ → ℕ → Type 0) (subset : ℕ) (old new : Automaton) →
+    Gains Told subset old new → ((number to : ℕ) → Told number to ↔ Wanted number to) →
+    Gains Wanted subset old new
+gains_alike Told Wanted subset old new gains same = record {
   grows = gains.grows;
-  turns = λ number to. (
-    λ h. elim ((gains.turns number to).0 h) [
+  transitions = λ number to. (
+    λ h. elim ((gains.transitions number to).0 h) [
       | inl o ↦ inl o
       | inr t ↦ inr ((same number to).0 t)
     ],
-    λ h. (gains.turns number to).1 (elim h [
+    λ h. (gains.transitions number to).1 (elim h [
       | inl o ↦ inl o
       | inr t ↦ inr ((same number to).1 t)
     ]),
   );
 }
 
-module _ {S : Type 0} (Told : S → ℕ → ℕ → Type 0) (front : ℕ) where
+module _ {S : Type 0} (Told : S → ℕ → ℕ → Type 0) (subset : ℕ) where
   -- told of one of the elements
   abbrev pub Among : List S → ℕ → ℕ → Type 0
   Among all number to = (s : S) × Contains all s × Told s number to
 
-  pub gains_first : (r : Fronts) (all : List S) → AreNamed r → Gains (Among (take 0 all)) front r r
+  pub gains_first : (r : Automaton) (all : List S) → AreNamed r →
+      Gains (Among (take 0 all)) subset r r
   gains_first r all named = record {
-    grows = grows_not front r named;
-    turns = λ number to. (
+    grows = grows_not subset r named;
+    transitions = λ number to. (
       λ h. inl h,
       λ h. elim h [ inl o ↦ o | inr t ↦ absurd (omega (arith, t.1.1)) ],
     );
   }
 
   -- one element more
-  pub gains_next : (old mid new : Fronts) (all : List S) (i : ℕ) (s : S) → i < length all →
-      s ≡ get_or all i s → Gains (Among (take i all)) front old mid →
-      Gains (Told s) front mid new → Gains (Among (take (i + 1) all)) front old new
+  pub gains_next : (old mid new : Automaton) (all : List S) (i : ℕ) (s : S) → i < length all →
+      s ≡ get_or all i s → Gains (Among (take i all)) subset old mid →
+      Gains (Told s) subset mid new → Gains (Among (take (i + 1) all)) subset old new
   gains_next old mid new all i s lt is one two =
       let more : take (i + 1) all ≡ take i all ++ s ∷ [] = take_more all i s lt
       ∙ ap (λ y. take i all ++ y ∷ []) (sym is) in
       record {
-        grows = grows_then front old mid new one.grows two.grows;
-        turns = λ number to. (
-          λ h. elim ((two.turns number to).0 h) [
-            | inl m ↦ elim ((one.turns number to).0 m) [
+        grows = grows_then subset old mid new one.grows two.grows;
+        transitions = λ number to. (
+          λ h. elim ((two.transitions number to).0 h) [
+            | inl m ↦ elim ((one.transitions number to).0 m) [
               | inl o ↦ inl o
               | inr a ↦ inr (
                 a.0,
@@ -120,12 +122,12 @@ module _ {S : Type 0} (Told : S → ℕ → ℕ → Type 0) (front : ℕ) where
             )
           ],
           λ h. elim h [
-            | inl o ↦ (two.turns number to).1 (inl ((one.turns number to).1 (inl o)))
+            | inl o ↦ (two.transitions number to).1 (inl ((one.transitions number to).1 (inl o)))
             | inr a ↦ elim (Contains-push_cases (take i all) s a.0
                 (subst (λ (l : List S). Contains l a.0) more a.1)) [
-                  | inl before ↦ (two.turns number to).1
-                      (inl ((one.turns number to).1 (inr (a.0, before, a.2))))
-                  | inr e ↦ (two.turns number to).1
+                  | inl before ↦ (two.transitions number to).1
+                      (inl ((one.transitions number to).1 (inr (a.0, before, a.2))))
+                  | inr e ↦ (two.transitions number to).1
                       (inr (subst (λ (x : S). Told x number to) (sym e) a.2))
                 ]
           ],
@@ -133,7 +135,7 @@ module _ {S : Type 0} (Told : S → ℕ → ℕ → Type 0) (front : ℕ) where
       }
 
   -- told of all elements
-  pub gains_all : (old new : Fronts) (all : List S) (i : ℕ) → length all ≤ i →
-      Gains (Among (take i all)) front old new → Gains (Among all) front old new
+  pub gains_all : (old new : Automaton) (all : List S) (i : ℕ) → length all ≤ i →
+      Gains (Among (take i all)) subset old new → Gains (Among all) subset old new
   gains_all old new all i past gains =
-      subst (λ (l : List S). Gains (Among l) front old new) (take_all i all past) gains
+      subst (λ (l : List S). Gains (Among l) subset old new) (take_all i all past) gains

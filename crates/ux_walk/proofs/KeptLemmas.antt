@@ -1,4 +1,4 @@
--- What is kept of fronts stays right as one more is read.
+-- What is kept of the automaton stays right as one more subset is read.
 use Rattle.std.proofs.Common.{◌≡◌, ℕ, List, [], ◌∷◌, ◌++◌, ◌⊎◌, ◌↔◌, inl, inr, refl, sym, ◌∙◌, subst, reverse}
 use Rattle.std.specs.Prelude.{Contains, Some, slice_get}
 use Rattle.std.proofs.lemmas.List.{reverse-append}
@@ -10,14 +10,15 @@ use Rattle.ux_net.specs.declared.net_graph.NetGraph.{NetGraph}
 use Rattle.ux_net.specs.Nets.{IsNetEnd, states_of}
 use Rattle.ux_walk.specs.declared.lists.Link.{Link}
 use Rattle.ux_walk.specs.declared.words.Words.{Words}
-use Rattle.ux_walk.specs.declared.fronts.Reading.{Reading}
-use Rattle.ux_walk.specs.declared.fronts.Reading.TheVariants.{Beyond, Through, Final}
-use Rattle.ux_walk.specs.declared.fronts.Fronts.{Fronts}
+use Rattle.ux_walk.specs.declared.automaton.Reading.{Reading}
+use Rattle.ux_walk.specs.declared.automaton.Reading.TheVariants.{Quit, Through, Final}
+use Rattle.ux_walk.specs.declared.automaton.Automaton.{Automaton}
 use Rattle.ux_walk.specs.Links.{Names}
-use Rattle.ux_walk.specs.Turns.{HasValue}
-use Rattle.ux_walk.specs.Fronts.{AreKept, AreReady, Gains, Grows, HasEnd, IsLiteral, IsRead, IsReadAs, Leads, Stands, TurnsTo, links_of}
+use Rattle.ux_walk.specs.Transitions.{HasValue}
+use Rattle.ux_walk.specs.Automata.{IsKept, Gains, Grows, HasEnd, IsRead, IsReadAs, Leads, Stands, LeadsTo, links_of}
+use Rattle.ux_walk.specs.Literals.{AreReady, IsLiteral}
 use Rattle.ux_walk.proofs.LinksLemmas.{names_kept, one_list}
-use Rattle.ux_walk.proofs.FrontsLemmas.{stands_kept}
+use Rattle.ux_walk.proofs.AutomataLemmas.{stands_kept}
 
 -- a list in reverse order has the same elements
 reversed_has : (xs : List ℕ) (x : ℕ) → Contains (reverse xs) x ↔ Contains xs x
@@ -37,11 +38,11 @@ reversed_has (y ∷ ys) x =
           ]),
     )
 
--- the states that are spelled out are those of the front
-pub spelled : (links : List (Link ℕ)) (front : ℕ) (states items : List ℕ) →
-    Names links front states → items ≡ reverse states → (s : ℕ) →
-    Contains items s ↔ Stands links front s
-spelled links front states items named is s = (
+-- the states that are spelled out are those of the subset
+pub spelled : (links : List (Link ℕ)) (subset : ℕ) (states items : List ℕ) →
+    Names links subset states → items ≡ reverse states → (s : ℕ) →
+    Contains items s ↔ Stands links subset s
+spelled links subset states items named is s = (
   λ inside. (
     states,
     named,
@@ -50,87 +51,87 @@ spelled links front states items named is s = (
   ),
   λ (others, are, inside). subst (λ (l : List ℕ). Contains l s) (sym is)
       ((reversed_has states s).1
-      (subst (λ (l : List ℕ). Contains l s) (one_list links front others states are named)
+      (subst (λ (l : List ℕ). Contains l s) (one_list links subset others states are named)
       inside)),
 )
 
 -- and so are those of them that are listed once
-pub spelled_once : (links : List (Link ℕ)) (front : ℕ) (states items listed keys once : List ℕ) →
-    Names links front states → items ≡ reverse states → listed ≡ items →
+pub spelled_once : (links : List (Link ℕ)) (subset : ℕ) (states items listed keys once : List ℕ) →
+    Names links subset states → items ≡ reverse states → listed ≡ items →
     ((s : ℕ) → Contains keys s ↔ Contains listed s) → once ≡ keys → (s : ℕ) →
-    Contains once s ↔ Stands links front s
-spelled_once links front states items listed keys once named is same has are s =
-    let all = spelled links front states listed named (same ∙ is) s in (
+    Contains once s ↔ Stands links subset s
+spelled_once links subset states items listed keys once named is same has are s =
+    let all = spelled links subset states listed named (same ∙ is) s in (
       λ h. all.0 ((has s).0 (subst (λ (l : List ℕ). Contains l s) are h)),
       λ h. subst (λ (l : List ℕ). Contains l s) (sym are) ((has s).1 (all.1 h)),
     )
 
 module _ (alphabet : Letters) (texts : List (List ℕ)) (net : List NetGraph) where
-  module _ (old new : Fronts) (front : ℕ) (items : List ℕ)
+  module _ (old new : Automaton) (subset : ℕ) (items : List ℕ)
       (gains : Gains (λ number to.
-      (from : ℕ) × Contains items from × Leads alphabet texts net from number to) front old new)
-      (named : (states : List ℕ) × Names (links_of old) front states)
-      (are : (s : ℕ) → Contains items s ↔ Stands (links_of old) front s)
+      (from : ℕ) × Contains items from × Leads alphabet texts net from number to) subset old new)
+      (named : (states : List ℕ) × Names (links_of old) subset states)
+      (are : (s : ℕ) → Contains items s ↔ Stands (links_of old) subset s)
       (literals : (s : ℕ) (state : State) (edge : Edge) → Contains items s →
       slice_get (states_of net 1) s ≡ Some state → Contains state.edges edge →
       IsLiteral edge.label)
-      (unread : (number to : ℕ) → TurnsTo old front number to → ⊥) where
-    stands : (s : ℕ) → Stands (links_of new) front s ↔ Contains items s
+      (unread : (number to : ℕ) → LeadsTo old subset number to → ⊥) where
+    stands : (s : ℕ) → Stands (links_of new) subset s ↔ Contains items s
     stands s =
-        let k = stands_kept (links_of old) (links_of new) gains.grows.links front named.0 named.1 s
+        let k = stands_kept (links_of old) (links_of new) gains.grows.links subset named.0 named.1 s
         in (λ h. (are s).1 (k.0 h), λ h. k.1 ((are s).0 h))
 
-    -- the front was read
-    pub front_read : IsRead alphabet texts net new front
-    front_read = record {
+    -- the subset was read
+    pub subset_read : IsRead alphabet texts net new subset
+    subset_read = record {
       literal = λ s state edge h found inside. literals s state edge ((stands s).0 h) found inside;
-      turns = λ number to. (
-        λ h. elim ((gains.turns number to).0 h) [
+      transitions = λ number to. (
+        λ h. elim ((gains.transitions number to).0 h) [
           | inl o ↦ absurd (unread number to o)
           | inr (from, inside, leads) ↦ (from, (stands from).1 inside, leads)
         ],
-        λ (from, h, leads). (gains.turns number to).1 (inr (from, (stands from).0 h, leads)),
+        λ (from, h, leads). (gains.transitions number to).1 (inr (from, (stands from).0 h, leads)),
       );
     }
 
     -- and has the ends of its states
-    pub front_end : ((s : ℕ) × Contains items s × IsNetEnd (states_of net 1) s)
-        ↔ HasEnd alphabet texts net new front
-    front_end = (
+    pub subset_end : ((s : ℕ) × Contains items s × IsNetEnd (states_of net 1) s)
+        ↔ HasEnd alphabet texts net new subset
+    subset_end = (
       λ (s, inside, is). (s, (stands s).1 inside, is),
       λ (s, h, is). (s, (stands s).0 h, is),
     )
 
-  module _ (old new : Fronts) (front : ℕ) (grows : Grows front old new)
-      (kept : AreKept alphabet texts net old) where
+  module _ (old new : Automaton) (subset : ℕ) (grows : Grows subset old new)
+      (kept : IsKept alphabet texts net old) where
     still : (f : ℕ) → (states : List ℕ) × Names (links_of old) f states → (s : ℕ) →
         Stands (links_of new) f s ↔ Stands (links_of old) f s
     still f named s =
         stands_kept (links_of old) (links_of new) grows.links f named.0 named.1 s
 
-    turns_still : (f : ℕ) → (f ≡ front → ⊥) → (number to : ℕ) →
-        TurnsTo new f number to ↔ TurnsTo old f number to
-    turns_still f apart number to = (
+    leads_still : (f : ℕ) → (f ≡ subset → ⊥) → (number to : ℕ) →
+        LeadsTo new f number to ↔ LeadsTo old f number to
+    leads_still f apart number to = (
       λ (next, inside, h).
-          let was = (grows.others (record { front = f; number = number }) next apart).0 inside in
+          let was = (grows.others (record { subset = f; number = number }) next apart).0 inside in
           (next, was, (still next (kept.named _ next was) to).0 h),
       λ (next, inside, h). (
         next,
-        (grows.others (record { front = f; number = number }) next apart).1 inside,
+        (grows.others (record { subset = f; number = number }) next apart).1 inside,
         (still next (kept.named _ next inside) to).1 h,
       ),
     )
 
-    read_still : (f : ℕ) → (f ≡ front → ⊥) → (states : List ℕ) × Names (links_of old) f states →
+    read_still : (f : ℕ) → (f ≡ subset → ⊥) → (states : List ℕ) × Names (links_of old) f states →
         IsRead alphabet texts net old f → IsRead alphabet texts net new f
     read_still f apart named is = record {
       literal = λ s state edge h found inside.
           is.literal s state edge ((still f named s).0 h) found inside;
-      turns = λ number to. (
-        λ h. let t = (is.turns number to).0 ((turns_still f apart number to).0 h) in
+      transitions = λ number to. (
+        λ h. let t = (is.transitions number to).0 ((leads_still f apart number to).0 h) in
             (t.0, (still f named t.0).1 t.1, t.2),
-        λ (from, h, leads). (turns_still f apart number to).1
-            ((is.turns number to).1 (from, (still f named from).0 h, leads)),
+        λ (from, h, leads). (leads_still f apart number to).1
+            ((is.transitions number to).1 (from, (still f named from).0 h, leads)),
       );
     }
 
@@ -141,37 +142,37 @@ module _ (alphabet : Letters) (texts : List (List ℕ)) (net : List NetGraph) wh
       λ (s, h, is). (s, (still f named s).1 h, is),
     )
 
-    reading_still : (f : ℕ) (reading : Reading) → (f ≡ front → ⊥) →
+    reading_still : (f : ℕ) (reading : Reading) → (f ≡ subset → ⊥) →
         (states : List ℕ) × Names (links_of old) f states →
         IsReadAs alphabet texts net old f reading → IsReadAs alphabet texts net new f reading
-    reading_still f Beyond apart named is = tt
+    reading_still f Quit apart named is = tt
     reading_still f Through apart named is =
         (read_still f apart named is.0, λ h. is.1 ((end_still f named).0 h))
     reading_still f Final apart named is =
         (read_still f apart named is.0, (end_still f named).1 is.1)
 
-    module _ (reading : Reading) (noted : Fronts)
+    module _ (reading : Reading) (noted : Automaton)
         (set : (f : ℕ) (r : Reading) → HasValue noted.readings.items f r
-        ↔ (((f ≡ front) × (r ≡ reading))
-        ⊎ ((f ≡ front → ⊥) × HasValue new.readings.items f r)))
-        (named : (states : List ℕ) × Names (links_of old) front states)
-        (is : IsReadAs alphabet texts net new front reading) where
-      -- the fronts with what was noted of one
-      abbrev pub later : Fronts
+        ↔ (((f ≡ subset) × (r ≡ reading))
+        ⊎ ((f ≡ subset → ⊥) × HasValue new.readings.items f r)))
+        (named : (states : List ℕ) × Names (links_of old) subset states)
+        (is : IsReadAs alphabet texts net new subset reading) where
+      -- the automaton with what was noted of one
+      abbrev pub later : Automaton
       later = record {
         words = new.words;
         lists = new.lists;
-        turns = new.turns;
+        transitions = new.transitions;
         readings = noted.readings;
         left = new.left;
       }
 
       later_read : (f : ℕ) → IsRead alphabet texts net new f → IsRead alphabet texts net later f
-      later_read f r = record { literal = r.literal; turns = r.turns }
+      later_read f r = record { literal = r.literal; transitions = r.transitions }
 
       pub later_reading : (f : ℕ) (r : Reading) → IsReadAs alphabet texts net new f r →
           IsReadAs alphabet texts net later f r
-      later_reading f Beyond h = tt
+      later_reading f Quit h = tt
       later_reading f Through h = (later_read f h.0, h.1)
       later_reading f Final h = (later_read f h.0, h.1)
 
@@ -186,13 +187,14 @@ module _ (alphabet : Letters) (texts : List (List ℕ)) (net : List NetGraph) wh
           (states : List ℕ) × Names (links_of later) f states
       more_named f n = (n.0, names_kept (links_of old) (links_of new) grows.links f n.0 n.1)
 
-      -- all is right with one front more
-      pub kept_more : AreKept alphabet texts net later
+      -- all is right with one subset more
+      pub kept_more : IsKept alphabet texts net later
       kept_more = record {
         words = subst (λ (w : Words). AreReady alphabet texts w) (sym grows.words) kept.words;
         below = grows.named.below;
         first = subst (λ (f : ℕ). Names (links_of new) f (0 ∷ [])) (sym grows.first)
-            (names_kept (links_of old) (links_of new) grows.links old.turns.first (0 ∷ []) kept.first);
+            (names_kept (links_of old) (links_of new) grows.links old.transitions.first
+            (0 ∷ []) kept.first);
         named = grows.named.named;
         known = λ f r inside. elim ((set f r).0 inside) [
           | inl here ↦ more_named f
@@ -200,16 +202,16 @@ module _ (alphabet : Letters) (texts : List (List ℕ)) (net : List NetGraph) wh
               named)
           | inr there ↦ more_named f (kept.known f r (was_known f r there.1))
         ];
-        unread = λ f number to none turns.
-            let apart : f ≡ front → ⊥ = λ e. none reading ((set f reading).1 (inl (e, refl))) in
+        unread = λ f number to none transitions.
+            let apart : f ≡ subset → ⊥ = λ e. none reading ((set f reading).1 (inl (e, refl))) in
             kept.unread f number to
             (λ r inside. none r ((set f r).1 (inr (apart, now_known f r inside))))
-            ((turns_still f apart number to).0 turns);
+            ((leads_still f apart number to).0 transitions);
         read = λ f r inside. elim ((set f r).0 inside) [
           | inl here ↦
               subst (λ (x : Reading). IsReadAs alphabet texts net later f x) (sym here.1)
               (subst (λ (g : ℕ). IsReadAs alphabet texts net later g reading) (sym here.0)
-              (later_reading front reading is))
+              (later_reading subset reading is))
           | inr there ↦
               let was = was_known f r there.1 in
               later_reading f r

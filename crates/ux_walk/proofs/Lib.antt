@@ -5,14 +5,14 @@ pub mod Results
 pub mod Adding
 pub mod Stepping
 pub mod OneStep
+pub mod LevelsLemmas
 pub mod Weights
 pub mod Lighter
 pub mod Rounds
 pub mod Derived
 pub mod FollowingLemmas
-pub mod SameDerivations
 pub mod LookUpsLemmas
-pub mod FrontsLemmas
+pub mod AutomataLemmas
 pub mod StraightLemmas
 pub mod BehindLemmas
 pub mod StraightExact
@@ -25,8 +25,8 @@ pub mod FittedLemmas
 pub mod RaisedLemmas
 pub mod CountsLemmas
 pub mod SlotsLemmas
-pub mod TurnsLemmas
-pub mod SieveLemmas
+pub mod TransitionsLemmas
+pub mod PrefilterLemmas
 pub mod Collecting
 pub mod PositionSets
 pub mod EndsLemmas

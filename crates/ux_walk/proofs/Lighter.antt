@@ -10,15 +10,15 @@ use Rattle.ux_tokens.specs.Tokens.{Token}
 use Rattle.ux_tokens.specs.declared.kind.Kind.{Kind}
 use Rattle.ux_tokens.specs.declared.kind.Kind.TheVariants as kind
 use Rattle.ux_net.specs.declared.label.Label.{Label}
-use Rattle.ux_net.specs.declared.label.Label.TheVariants.{Empty, Fold, Exact, Space, Glue, Call}
+use Rattle.ux_net.specs.declared.label.Label.TheVariants.{Empty, Fold, Exact, Brace, Space, Glue, Call}
 use Rattle.ux_net.specs.declared.net_graph.NetGraph.{NetGraph}
 use Rattle.ux_net.specs.declared.net_graph.Rank.{Rank}
 use Rattle.ux_net.specs.Measured.{rank_of, rank_in, bound_of, width_of, weigh, is_free, must, IsLower, Falls, IsMeasured}
-use Rattle.ux_outputs.specs.declared.event.Event.{Event}
 use Rattle.ux_outputs.specs.Rendering.{kind_of, skip, skip_past}
+use Rattle.ux_meaning.specs.Texts.{IsSpaceAt, Takes, no_spans}
 use Rattle.ux_walk.specs.declared.config.Frame.{Frame}
-use Rattle.ux_walk.specs.Derivations.{Takes, Stays, IsSpaceAt}
-use Rattle.ux_walk.specs.Configurations.{Course, GoesOn}
+use Rattle.ux_walk.specs.declared.config.Taken.{Taken}
+use Rattle.ux_walk.specs.Configurations.{Course, GoesOn, Passes}
 use Rattle.ux_walk.proofs.Weights.{weight_of}
 
 -- powers
@@ -63,20 +63,22 @@ space_within tokens p is = go (slice_get tokens p) refl is
     go (Some token) at h = slice_get_within tokens p token at
 
 pub takes_forward : (alphabet : Letters) (tokens : List Token) (x : Label) (p k : ℕ) →
-    Takes alphabet tokens x p k → (p < k) × (k ≤ length tokens)
+    Takes alphabet tokens no_spans x p k → (p < k) × (k ≤ length tokens)
 takes_forward alphabet tokens (Fold text) p k t =
     let within = slice_get_within tokens (skip tokens p) t.0 t.1 in
     let forward = skip_forward tokens p in
-    (omega (arith, forward, t.4), omega (arith, within, t.4))
+    (omega (arith, forward, t.3), omega (arith, within, t.3))
 takes_forward alphabet tokens (Exact text) p k t =
     let within = slice_get_within tokens (skip tokens p) t.0 t.1 in
     let forward = skip_forward tokens p in
-    (omega (arith, forward, t.4), omega (arith, within, t.4))
+    (omega (arith, forward, t.3), omega (arith, within, t.3))
 takes_forward alphabet tokens Space p k t =
     let within = space_within tokens p t.0 in (omega (arith, t.1), omega (arith, within, t.1))
-takes_forward alphabet tokens Empty p k t = absurd t
-takes_forward alphabet tokens Glue p k t = absurd t
-takes_forward alphabet tokens (Call h) p k t = absurd t
+takes_forward alphabet tokens (Brace text) p k t =
+    let within = slice_get_within tokens (skip tokens p) t.0 t.1 in
+    let forward = skip_forward tokens p in
+    (omega (arith, forward, t.3), omega (arith, within, t.3))
+takes_forward alphabet tokens other p k t = absurd t
 
 module _ (graphs : List NetGraph) where
   -- no rank is above the sum of all
@@ -175,7 +177,7 @@ module _ (graphs : List NetGraph) where
       (omega arith) in
       omega arith
 
-  -- it calls a graph, and goes on behind it
+  -- it calls a graph, and goes on after it
   calls_lighter : (f : Frame) (to h m : ℕ) (fs : List Frame) → 0 < m →
       Falls graphs f.graph f.state to (Call h) →
       weight_of graphs m (record { graph = h; state = 0 } ∷ to_state f to ∷ fs)
@@ -220,20 +222,17 @@ module _ (graphs : List NetGraph) where
   weight_at len w = weight_of graphs ((len - w.at) + 1) w.frames
 
   module _ (alphabet : Letters) (tokens : List Token) (measured : IsMeasured graphs) (f : Frame)
-      (fs : List Frame) (i : ℕ) (before : List Event) (inside : i ≤ length tokens) where
+      (fs : List Frame) (i : ℕ) (before : List Taken) (inside : i ≤ length tokens) where
     -- inside the text, and lighter than the frames at the position
     abbrev IsLighter : Course → Type 0
     IsLighter w = (w.at ≤ length tokens)
         × (weight_at (length tokens) w < weight_of graphs ((length tokens - i) + 1) (f ∷ fs))
 
-    lower_of : (x : Label) (to : ℕ) → Falls graphs f.graph f.state to x → Stays tokens x i →
+    lower_of : (x : Label) (to : ℕ) → Falls graphs f.graph f.state to x → Passes tokens x i →
         IsLower graphs f.graph f.state to
     lower_of Empty to falls s = falls
     lower_of Glue to falls s = falls
-    lower_of (Fold text) to falls s = absurd s
-    lower_of (Exact text) to falls s = absurd s
-    lower_of Space to falls s = absurd s
-    lower_of (Call h) to falls s = absurd s
+    lower_of other to falls s = absurd s
 
     -- a course one step on is so
     pub next_lighter : (w : Course) → GoesOn alphabet tokens graphs f fs i before w → IsLighter w
@@ -244,7 +243,7 @@ module _ (graphs : List NetGraph) where
               (measured.ends f.graph f.state state found final),
         )
     next_lighter w (state, found, inl (edge, of_state, inl (k, t, is))) =
-        let ahead = takes_forward alphabet tokens edge.label i k t in
+        let ahead = takes_forward alphabet tokens edge.label i k t.1 in
         let forward = ahead.0 in
         let within = ahead.1 in
         subst (λ (v : Course). IsLighter v) (sym is) (

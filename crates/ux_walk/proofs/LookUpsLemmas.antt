@@ -8,20 +8,20 @@ use Rattle.indexmap.specs.IndexMap.{insert_entry}
 use Rattle.ux_alphabet.specs.Letters.{Letters}
 use Rattle.ux_tokens.specs.Tokens.{Token}
 use Rattle.ux_net.specs.declared.label.Label.{Label}
-use Rattle.ux_net.specs.declared.label.Label.TheVariants.{Empty, Fold, Exact, Space, Glue, Call}
+use Rattle.ux_net.specs.declared.label.Label.TheVariants.{Fold, Exact, Call}
 use Rattle.ux_net.specs.declared.state.Edge.{Edge}
 use Rattle.ux_net.specs.declared.state.State.{State}
 use Rattle.ux_net.specs.declared.net_graph.NetGraph.{NetGraph}
 use Rattle.ux_net.specs.Nets.{states_of}
 use Rattle.ux_net.proofs.JoinedLemmas.{less_or, first_or_later, contains_first, contains_later}
-use Rattle.ux_outputs.specs.declared.event.Event.{Event}
 use Rattle.ux_outputs.specs.Rendering.{skip}
+use Rattle.ux_meaning.specs.Texts.{FoldsTo}
 use Rattle.ux_walk.specs.declared.config.Frame.{Frame}
 use Rattle.ux_walk.specs.declared.config.Config.{Config}
+use Rattle.ux_walk.specs.declared.config.Taken.{Taken}
 use Rattle.ux_walk.specs.declared.reached.Reached.{Reached}
 use Rattle.ux_walk.specs.declared.look_ups.LookUp.{LookUp}
 use Rattle.ux_walk.specs.declared.look_ups.LookUps.{LookUps}
-use Rattle.ux_walk.specs.Derivations.{FoldsTo}
 use Rattle.ux_walk.specs.Configurations.{Course, IsBehind, IsOverSome, IsOverSomeAt, AddsFrom}
 use Rattle.ux_walk.specs.LookUps.{Refuses, AreEnough, IsListed, AreSound}
 use Rattle.ux_walk.proofs.Adding.{adds_alike}
@@ -135,31 +135,28 @@ module _ (alphabet : Letters) (text : List ℕ) (edges : List Edge) where
       before n edge (omega (arith, within, past)) at
 
 module _ (alphabet : Letters) (tokens : List Token) (fs : List Frame) (i : ℕ)
-    (before : List Event) where
+    (before : List Taken) where
   -- a label that refuses the token's text leads nowhere
   refused : (label : Label) (token : Token) → slice_get tokens (skip tokens i) ≡ Some token →
       Refuses alphabet label token.text → (f : Frame) (w : Course) →
       IsBehind alphabet tokens label f fs i before w → ⊥
   refused (Fold entry) token at refuses f w b = elim b [
-    | inl t ↦ refuses (subst (λ (x : Token). FoldsTo alphabet entry x)
-        (same_Some t.1.0 token (sym t.1.1 ∙ at)) t.1.3)
+    | inl t ↦ refuses.1 (subst (λ (x : Token). FoldsTo alphabet entry x)
+        (same_Some t.1.1.0 token (sym t.1.1.1 ∙ at)) t.1.1.2.1)
     | inr o ↦ elim o [
       | inl s ↦ s.0
       | inr h ↦ let no : Fold entry ≡ Call h.0 = h.1 in cc
     ]
   ]
   refused (Exact exact) token at refuses f w b = elim b [
-    | inl t ↦ refuses (subst (λ (x : Token). x.text ≡ exact)
-        (same_Some t.1.0 token (sym t.1.1 ∙ at)) t.1.3)
+    | inl t ↦ refuses.1 (subst (λ (x : Token). x.text ≡ exact)
+        (same_Some t.1.1.0 token (sym t.1.1.1 ∙ at)) t.1.1.2.1)
     | inr o ↦ elim o [
       | inl s ↦ s.0
       | inr h ↦ let no : Exact exact ≡ Call h.0 = h.1 in cc
     ]
   ]
-  refused Space token at refuses f w b = refuses
-  refused Empty token at refuses f w b = refuses
-  refused Glue token at refuses f w b = refuses
-  refused (Call h) token at refuses f w b = refuses
+  refused other token at refuses f w b = absurd refuses.0
 
   -- the edges at places that are enough lead where all edges lead
   same_courses : (f : Frame) (edges : List Edge) (places : List ℕ) (token : Token) →

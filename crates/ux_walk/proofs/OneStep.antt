@@ -1,45 +1,81 @@
--- A course completes as the courses one step on do.
+-- A course completes as the courses one step on do, whatever contexts are refused.
 use Rattle.std.proofs.Common.{◌≡◌, ℕ, List, [], ◌∷◌, ◌++◌, refl, sym, ◌∙◌, ap, subst, ◌⊎◌, inl, inr, append_assoc, append-nil, reverse}
-use Rattle.std.specs.Prelude.{Some, slice_get, Contains}
-use Rattle.std.proofs.lemmas.List.{reverse-append}
+use Rattle.std.specs.Prelude.{Some, slice_get, Contains, map}
+use Rattle.std.proofs.lemmas.List.{map-append, reverse-append}
 use Rattle.ux_alphabet.specs.Letters.{Letters}
 use Rattle.ux_tokens.specs.Tokens.{Token}
+use Rattle.ux_grf.specs.declared.item.Piece.{Piece}
 use Rattle.ux_net.specs.declared.label.Label.{Label}
 use Rattle.ux_net.specs.declared.label.Label.TheVariants.{Empty, Fold, Exact, Space, Glue, Call}
 use Rattle.ux_net.specs.declared.state.Edge.{Edge}
 use Rattle.ux_net.specs.declared.state.State.{State}
 use Rattle.ux_net.specs.declared.net_graph.NetGraph.{NetGraph}
-use Rattle.ux_net.specs.Words.{Run, stop, along, letters}
-use Rattle.ux_net.specs.Nets.{IsNetEnd, net_graph, net_grammar, states_of}
+use Rattle.ux_net.specs.Words.{Letter, plain, piece, ordinary, opens, mark_of, letters, Run, stop, along, across}
+use Rattle.ux_net.specs.Nets.{IsNetEnd, IsPlain, net_graph, net_grammar, states_of}
 use Rattle.ux_outputs.specs.declared.event.Event.{Event}
 use Rattle.ux_outputs.specs.declared.event.Event.TheVariants.{Take}
+use Rattle.ux_meaning.specs.Meaning.{Seq, done, takes, stays, calls, Stays, DerWith}
+use Rattle.ux_meaning.specs.Texts.{Takes, bare_text, no_spans}
 use Rattle.ux_walk.specs.declared.config.Frame.{Frame}
-use Rattle.ux_walk.specs.Derivations.{Seq, done, takes, stays, calls, Takes, Stays, Der}
-use Rattle.ux_walk.specs.Configurations.{Course, GoesOn}
+use Rattle.ux_walk.specs.declared.config.Taken.{Taken}
+use Rattle.ux_walk.specs.Configurations.{Course, GoesOn, Passes, TakesPlainly, event_of, from_to, told}
 
--- the events before, which are listed latest first, and the later ones
-abbrev pub onto : List Event → List Event → List Event
+-- what was taken before, which is listed latest first, and the later events
+abbrev pub onto : List Taken → List Event → List Event
 onto [] later = later
-onto (event ∷ before) later = onto before (event ∷ later)
+onto (tokens ∷ before) later = onto before (event_of tokens ∷ later)
 
-onto-reverse : (before later : List Event) → onto before later ≡ reverse before ++ later
-onto-reverse [] later = refl
-onto-reverse (event ∷ before) later =
-    onto-reverse before (event ∷ later)
-    ∙ (sym (append_assoc (reverse before) (event ∷ []) later)
-    ∙ ap (λ (l : List Event). l ++ later) (sym (reverse-append (event ∷ []) before)))
+-- what was taken last is told last
+pub told-more : (tokens : Taken) (before : List Taken) →
+    told (tokens ∷ before) ≡ told before ++ event_of tokens ∷ []
+told-more tokens before =
+    ap (λ (l : List Taken). map event_of l) (reverse-append (tokens ∷ []) before)
+    ∙ map-append event_of (reverse before) (tokens ∷ [])
 
-pub onto-none : (before : List Event) → onto before [] ≡ reverse before
-onto-none before = onto-reverse before [] ∙ append-nil (reverse before)
+onto-told : (before : List Taken) (later : List Event) → onto before later ≡ told before ++ later
+onto-told [] later = refl
+onto-told (tokens ∷ before) later =
+    onto-told before (event_of tokens ∷ later)
+    ∙ (sym (append_assoc (told before) (event_of tokens ∷ []) later)
+    ∙ ap (λ (l : List Event). l ++ later) (sym (told-more tokens before)))
 
-module _ (alphabet : Letters) (tokens : List Token) (graphs : List NetGraph) where
+pub onto-none : (before : List Taken) → onto before [] ≡ told before
+onto-none before = onto-told before [] ∙ append-nil (told before)
+
+-- the labels of nets open and close no context
+plain_mark : (x : Label) → IsPlain x → mark_of (x ∷ []) ≡ ordinary
+plain_mark Empty is = refl
+plain_mark (Fold text) is = refl
+plain_mark (Exact text) is = refl
+plain_mark Space is = refl
+plain_mark Glue is = refl
+plain_mark (Call h) is = refl
+plain_mark other is = absurd is
+
+module _ (alphabet : Letters) (tokens : List Token) (graphs : List NetGraph)
+    (Refuses : (g opening closing p : ℕ) → Type 0) where
+  -- the letters of the word apply one after another
+  abbrev Applies : List Letter → ℕ → ℕ → List Event → Type 0
+  Applies word i j events =
+      Seq (bare_text alphabet tokens) (net_grammar graphs) Refuses word i j events
+
+  -- a run of the graph leads from a state to a state
+  abbrev Runs : (g a b : ℕ) → List Letter → Type 0
+  Runs g a b word = Run g (net_graph (states_of graphs g)) a b word
+
   -- from this state of the graph an end is reached, from i to j with these events
   pub record Goes (g n i j : ℕ) (events : List Event) : Type 0 where
     pub last : ℕ
     pub ends : IsNetEnd (states_of graphs g) last
-    pub word : List Label
-    pub run : Run (net_graph (states_of graphs g)) n last word
-    pub seq : Seq alphabet tokens (net_grammar graphs) word i j events
+    pub word : List Letter
+    pub run : Runs g n last word
+    pub seq : Applies word i j events
+
+  -- each label on an edge of the state is one that nets have
+  abbrev pub ArePlainAt : (g n : ℕ) → Type 0
+  ArePlainAt g n = (state : State) (edge : Edge) →
+      slice_get (states_of graphs g) n ≡ Some state → Contains state.edges edge →
+      IsPlain edge.label
 
   -- each frame is gone through in turn
   abbrev pub Through : List Frame → ℕ → ℕ → List Event → Type 0
@@ -49,7 +85,7 @@ module _ (alphabet : Letters) (tokens : List Token) (graphs : List NetGraph) whe
       × (events ≡ here ++ later)
 
   -- from this position, with these events before, latest first, all frames can be gone through
-  abbrev pub Completes : List Frame → ℕ → List Event → ℕ → List Event → Type 0
+  abbrev pub Completes : List Frame → ℕ → List Taken → ℕ → List Event → Type 0
   Completes frames i before j events =
       (later : List Event) × Through frames i j later × (events ≡ onto before later)
 
@@ -57,72 +93,97 @@ module _ (alphabet : Letters) (tokens : List Token) (graphs : List NetGraph) whe
   abbrev pub Ends : Course → ℕ → List Event → Type 0
   Ends w j events = Completes w.frames w.at w.before j events
 
-  -- the first label of a word, and what the others derive behind it
-  abbrev First : Label → List Label → ℕ → ℕ → List Event → Type 0
+  -- the first label of a word, and what the others derive after it
+  abbrev First : Label → List Letter → ℕ → ℕ → List Event → Type 0
   First x word p j events =
-      ((k : ℕ) × (later : List Event) × Takes alphabet tokens x p k
-      × Seq alphabet tokens (net_grammar graphs) word k j later × (events ≡ Take p k ∷ later))
-      ⊎ ((Stays tokens x p × Seq alphabet tokens (net_grammar graphs) word p j events)
+      ((k : ℕ) × (later : List Event) × TakesPlainly alphabet tokens x p k
+      × Applies word k j later × (events ≡ Take p k ∷ later))
+      ⊎ ((Passes tokens x p × Applies word p j events)
       ⊎ ((h k : ℕ) × (inside later : List Event) × (x ≡ Call h) × Goes h 0 p k inside
-      × Seq alphabet tokens (net_grammar graphs) word k j later × (events ≡ inside ++ later)))
+      × Applies word k j later × (events ≡ inside ++ later)))
 
-  first_of : {x : Label} {word : List Label} {p j : ℕ} {events : List Event} →
-      Seq alphabet tokens (net_grammar graphs) (x ∷ word) p j events → First x word p j events
-  first_of (takes {k = k} {later = later} t s) = inl (k, later, t, s, refl)
-  first_of (stays t s) = inr (inl (t, s))
-  first_of (calls {h = h} {called = called} {k = k} {inside = inside} {later = later} is i s) =
+  -- of the labels of nets `#` alone stays, and gives no event
+  stays_first : (x : Label) → IsPlain x → (word : List Letter) (p j : ℕ)
+      (here later : List Event) → Stays (bare_text alphabet tokens) (plain x) p here →
+      Applies word p j later → First x word p j (here ++ later)
+  stays_first Glue is word p j here later t s =
+      inr (inl (t.0, subst (λ (l : List Event). Applies word p j (l ++ later)) (sym t.1) s))
+  stays_first Empty is word p j here later t s = absurd t
+  stays_first (Fold text) is word p j here later t s = absurd t
+  stays_first (Exact text) is word p j here later t s = absurd t
+  stays_first Space is word p j here later t s = absurd t
+  stays_first (Call h) is word p j here later t s = absurd t
+  stays_first other is word p j here later t s = absurd is
+
+  first_of : {x : Label} {word : List Letter} {p j : ℕ} {events : List Event} → IsPlain x →
+      Applies (plain x ∷ word) p j events → First x word p j events
+  first_of is (takes {k = k} {later = later} t s) = inl (k, later, (is, t), s, refl)
+  first_of {x = x} {word = word} {p = p} {j = j} is (stays {later = later} here t s) =
+      stays_first x is word p j here later t s
+  first_of is
+      (calls {h = h} {called = called} {k = k} {inside = inside} {later = later} of i s) =
       inr (inr (
         h,
         k,
         inside,
         later,
         refl,
-        record { last = is.last; ends = is.ends; word = called; run = is.run; seq = i },
+        record { last = of.last; ends = of.ends; word = called; run = of.run; seq = i },
         s,
         refl,
       ))
 
-  first_back : (x : Label) (word : List Label) (p j : ℕ) (events : List Event) →
-      First x word p j events → Seq alphabet tokens (net_grammar graphs) (x ∷ word) p j events
-  first_back x word p j events (inl (k, later, t, s, is)) =
-      subst (λ (e : List Event). Seq alphabet tokens (net_grammar graphs) (x ∷ word) p j e) (sym is)
-      (takes t s)
-  first_back x word p j events (inr (inl (t, s))) = stays t s
-  first_back x word p j events (inr (inr (h, k, inside, later, label, goes, s, is))) =
-      subst (λ (e : List Event). Seq alphabet tokens (net_grammar graphs) (x ∷ word) p j e) (sym is)
-      (subst (λ (y : Label). Seq alphabet tokens (net_grammar graphs) (y ∷ word) p j
-      (inside ++ later)) (sym label)
+  -- the same of a label of an edge, of which the empty word is no letter
+  first_letter : (x : Label) → IsPlain x → (word : List Letter) (p j : ℕ) (events : List Event) →
+      Applies (letters (x ∷ []) ++ word) p j events → First x word p j events
+  first_letter Empty is word p j events s = inr (inl (tt, s))
+  first_letter other is word p j events s = first_of is s
+
+  back_takes : (x : Label) (word : List Letter) (p j k : ℕ) (events later : List Event) →
+      Takes alphabet tokens no_spans x p k → Applies word k j later →
+      events ≡ Take p k ∷ later → Applies (plain x ∷ word) p j events
+  back_takes x word p j k events later t s is =
+      subst (λ (e : List Event). Applies (plain x ∷ word) p j e) (sym is) (takes t s)
+
+  back_calls : (x : Label) (word : List Letter) (p j h k : ℕ) (events inside later : List Event) →
+      x ≡ Call h → Goes h 0 p k inside → Applies word k j later → events ≡ inside ++ later →
+      Applies (plain x ∷ word) p j events
+  back_calls x word p j h k events inside later label goes s is =
+      subst (λ (e : List Event). Applies (plain x ∷ word) p j e) (sym is)
+      (subst (λ (y : Label). Applies (plain y ∷ word) p j (inside ++ later)) (sym label)
       (calls (record { last = goes.last; ends = goes.ends; run = goes.run }) goes.seq s))
 
-  -- the same of a label of an edge, of which the empty word is no letter
-  first_letter : (x : Label) (word : List Label) (p j : ℕ) (events : List Event) →
-      Seq alphabet tokens (net_grammar graphs) (letters (x ∷ []) ++ word) p j events →
-      First x word p j events
-  first_letter Empty word p j events s = inr (inl (tt, s))
-  first_letter (Fold text) word p j events s = first_of s
-  first_letter (Exact text) word p j events s = first_of s
-  first_letter Space word p j events s = first_of s
-  first_letter Glue word p j events s = first_of s
-  first_letter (Call h) word p j events s = first_of s
-
-  letter_back : (x : Label) (word : List Label) (p j : ℕ) (events : List Event) →
-      First x word p j events →
-      Seq alphabet tokens (net_grammar graphs) (letters (x ∷ []) ++ word) p j events
-  letter_back Empty word p j events (inl (k, later, t, s, is)) = absurd t
+  letter_back : (x : Label) (word : List Letter) (p j : ℕ) (events : List Event) →
+      First x word p j events → Applies (letters (x ∷ []) ++ word) p j events
+  letter_back Empty word p j events (inl (k, later, t, s, is)) = absurd t.1
   letter_back Empty word p j events (inr (inl (t, s))) = s
   letter_back Empty word p j events (inr (inr (h, k, inside, later, label, goes, s, is))) = cc
-  letter_back (Fold text) word p j events f = first_back (Fold text) word p j events f
-  letter_back (Exact text) word p j events f = first_back (Exact text) word p j events f
-  letter_back Space word p j events f = first_back Space word p j events f
-  letter_back Glue word p j events f = first_back Glue word p j events f
-  letter_back (Call h) word p j events f = first_back (Call h) word p j events f
+  letter_back Glue word p j events (inr (inl (t, s))) = stays [] (t, refl) s
+  letter_back other word p j events (inr (inl (t, s))) = absurd t
+  letter_back other word p j events (inl (k, later, t, s, is)) =
+      back_takes other word p j k events later t.1 s is
+  letter_back other word p j events (inr (inr (h, k, inside, later, label, goes, s, is))) =
+      back_calls other word p j h k events inside later label goes s is
+
+  -- a label that applies so is one that nets have
+  passes_plain : (x : Label) (p : ℕ) → Passes tokens x p → IsPlain x
+  passes_plain Empty p t = tt
+  passes_plain Glue p t = tt
+  passes_plain other p t = absurd t
+
+  first_plain : (x : Label) (word : List Letter) (p j : ℕ) (events : List Event) →
+      First x word p j events → IsPlain x
+  first_plain x word p j events (inl (k, later, t, s, is)) = t.0
+  first_plain x word p j events (inr (inl (t, s))) = passes_plain x p t
+  first_plain x word p j events (inr (inr (h, k, inside, later, label, goes, s, is))) =
+      subst (λ (y : Label). IsPlain y) (sym label) tt
 
   -- over a label to a state, and on from there
   abbrev Onward : Label → (g n i j : ℕ) → List Event → Type 0
   Onward x g n i j events =
-      ((k : ℕ) × (later : List Event) × Takes alphabet tokens x i k × Goes g n k j later
+      ((k : ℕ) × (later : List Event) × TakesPlainly alphabet tokens x i k × Goes g n k j later
       × (events ≡ Take i k ∷ later))
-      ⊎ ((Stays tokens x i × Goes g n i j events)
+      ⊎ ((Passes tokens x i × Goes g n i j events)
       ⊎ ((h k : ℕ) × (inside later : List Event) × (x ≡ Call h) × Goes h 0 i k inside
       × Goes g n k j later × (events ≡ inside ++ later)))
 
@@ -135,11 +196,11 @@ module _ (alphabet : Letters) (tokens : List Token) (graphs : List NetGraph) whe
   Stops g n i j events = IsNetEnd (states_of graphs g) n × (i ≡ j) × (events ≡ [])
 
   none_left : {p j : ℕ} {events : List Event} →
-      Seq alphabet tokens (net_grammar graphs) [] p j events → (p ≡ j) × (events ≡ [])
+      Applies [] p j events → (p ≡ j) × (events ≡ [])
   none_left done = (refl, refl)
 
-  onward : (x : Label) (g n i j : ℕ) (events : List Event) (word : List Label) (last : ℕ) →
-      IsNetEnd (states_of graphs g) last → Run (net_graph (states_of graphs g)) n last word →
+  onward : (x : Label) (g n i j : ℕ) (events : List Event) (word : List Letter) (last : ℕ) →
+      IsNetEnd (states_of graphs g) last → Runs g n last word →
       First x word i j events → Onward x g n i j events
   onward x g n i j events word last ends run (inl (k, later, t, s, is)) = inl (
     k,
@@ -164,22 +225,21 @@ module _ (alphabet : Letters) (tokens : List Token) (graphs : List NetGraph) whe
         is,
       ))
 
-  goes_only : (g n i j : ℕ) (events : List Event) → Goes g n i j events →
+  goes_only : (g n i j : ℕ) (events : List Event) → ArePlainAt g n → Goes g n i j events →
       Stops g n i j events ⊎ Ahead g n i j events
-  goes_only g n i j events goes = by_run goes.run goes.ends goes.seq
+  goes_only g n i j events are goes = by_run goes.run are goes.ends goes.seq
     where
-      by_run : {a last : ℕ} {word : List Label} → Run (net_graph (states_of graphs g)) a last word →
-          IsNetEnd (states_of graphs g) last →
-          Seq alphabet tokens (net_grammar graphs) word i j events →
+      by_run : {a last : ℕ} {word : List Letter} → Runs g a last word → ArePlainAt g a →
+          IsNetEnd (states_of graphs g) last → Applies word i j events →
           Stops g a i j events ⊎ Ahead g a i j events
-      by_run stop ends seq = let e = none_left seq in inl (ends, e.0, e.1)
-      by_run (along {b = b} {word = word} s is run) ends seq =
+      by_run stop are ends seq = let e = none_left seq in inl (ends, e.0, e.1)
+      by_run (along {b = b} {word = word} s is mark run) are ends seq =
           let edge : Edge = is.edge in
-          let at : Run (net_graph (states_of graphs g)) edge.target b word =
-          subst (λ m. Run (net_graph (states_of graphs g)) m b word) is.to run in
-          let first = first_letter edge.label word i j events
-          (subst (λ (l : List Label). Seq alphabet tokens (net_grammar graphs) (letters l ++ word)
-          i j events) is.label seq) in
+          let at : Runs g edge.target b word = subst (λ m. Runs g m b word) is.to run in
+          let first = first_letter edge.label (are is.state edge is.found is.inside) word i j events
+          (subst (λ (l : List Label). Applies (letters l ++ word) i j events) is.label
+          (subst (λ (o : List Piece). Applies ((map piece o ++ letters s.labels) ++ word) i j
+          events) is.puts seq)) in
           inr (
             is.state,
             is.found,
@@ -187,25 +247,34 @@ module _ (alphabet : Letters) (tokens : List Token) (graphs : List NetGraph) whe
             is.inside,
             onward edge.label g edge.target i j events word b ends at first,
           )
+      by_run (across sign s t is mark body closes closed run) are ends seq =
+          let no : opens sign ≡ ordinary = sym mark ∙ (ap mark_of is.label
+          ∙ plain_mark is.edge.label (are is.state is.edge is.found is.inside)) in
+          cc
 
   -- the run from where an edge leads, with the edge in front
   by_edge : (g n i j : ℕ) (events : List Event) (state : State) →
       slice_get (states_of graphs g) n ≡ Some state → (edge : Edge) → Contains state.edges edge →
-      (last : ℕ) → IsNetEnd (states_of graphs g) last → (word : List Label) →
-      Run (net_graph (states_of graphs g)) edge.target last word →
-      First edge.label word i j events → Goes g n i j events
+      (last : ℕ) → IsNetEnd (states_of graphs g) last → (word : List Letter) →
+      Runs g edge.target last word → First edge.label word i j events → Goes g n i j events
   by_edge g n i j events state found edge inside last ends word run first = record {
     last = last;
     ends = ends;
     word = letters (edge.label ∷ []) ++ word;
-    run = along (record { from = n; to = edge.target; labels = edge.label ∷ [] }) (record {
+    run = along (record {
+      from = n;
+      to = edge.target;
+      output = [];
+      labels = edge.label ∷ [];
+    }) (record {
       state = state;
       found = found;
       edge = edge;
       inside = inside;
       to = refl;
       label = refl;
-    }) run;
+      puts = refl;
+    }) (plain_mark edge.label (first_plain edge.label word i j events first)) run;
     seq = letter_back edge.label word i j events first;
   }
 
@@ -225,13 +294,13 @@ module _ (alphabet : Letters) (tokens : List Token) (graphs : List NetGraph) whe
   goes_at_end g n i ends =
       record { last = n; ends = ends; word = []; run = stop; seq = done }
 
-  module _ (f : Frame) (fs : List Frame) (i : ℕ) (before : List Event) (j : ℕ)
+  module _ (f : Frame) (fs : List Frame) (i : ℕ) (before : List Taken) (j : ℕ)
       (events : List Event) where
     -- what completes a course completes one a step on
-    pub step_forth : Completes (f ∷ fs) i before j events →
+    pub step_forth : ArePlainAt f.graph f.state → Completes (f ∷ fs) i before j events →
         (w : Course) × GoesOn alphabet tokens graphs f fs i before w × Ends w j events
-    step_forth (all, (k, here, rest, goes, through, split), is) =
-        elim (goes_only f.graph f.state i k here goes) [
+    step_forth are (all, (k, here, rest, goes, through, split), is) =
+        elim (goes_only f.graph f.state i k here are goes) [
           | inl s ↦ (
             record { frames = fs; at = i; before = before },
             (s.0.state, s.0.found, inr (s.0.final, refl)),
@@ -251,7 +320,7 @@ module _ (alphabet : Letters) (tokens : List Token) (graphs : List NetGraph) whe
             (w : Course) × GoesOn alphabet tokens graphs f fs i before w × Ends w j events
         over state found edge inside (inl (m, later, t, on, e)) =
             let next : Frame = record { graph = f.graph; state = edge.target } in (
-              record { frames = next ∷ fs; at = m; before = Take i m ∷ before },
+              record { frames = next ∷ fs; at = m; before = from_to i m ∷ before },
               (state, found, inl (edge, inside, inl (m, t, refl))),
               (
                 later ++ rest,
@@ -303,7 +372,7 @@ module _ (alphabet : Letters) (tokens : List Token) (graphs : List NetGraph) whe
         )
     step_back w (state, found, inl (edge, inside, inl (m, t, is))) ends =
         let next : Frame = record { graph = f.graph; state = edge.target } in
-        let c : Completes (next ∷ fs) m (Take i m ∷ before) j events =
+        let c : Completes (next ∷ fs) m (from_to i m ∷ before) j events =
         subst (λ (x : Course). Ends x j events) is ends in
         let u = c.1 in (
           Take i m ∷ c.0,
@@ -361,7 +430,7 @@ module _ (alphabet : Letters) (tokens : List Token) (graphs : List NetGraph) whe
 
   -- a graph derives as the course from its start completes
   pub starts_forth : (g i j : ℕ) (events : List Event) →
-      Der alphabet tokens (net_grammar graphs) g i j events →
+      DerWith (bare_text alphabet tokens) (net_grammar graphs) Refuses g i j events →
       Completes (record { graph = g; state = 0 } ∷ []) i [] j events
   starts_forth g i j events d = (
     events,
@@ -384,14 +453,14 @@ module _ (alphabet : Letters) (tokens : List Token) (graphs : List NetGraph) whe
 
   pub starts_back : (g i j : ℕ) (events : List Event) →
       Completes (record { graph = g; state = 0 } ∷ []) i [] j events →
-      Der alphabet tokens (net_grammar graphs) g i j events
+      DerWith (bare_text alphabet tokens) (net_grammar graphs) Refuses g i j events
   starts_back g i j events (all, (k, here, rest, goes, through, split), is) =
       let same : here ≡ events = sym (is ∙ (split
       ∙ (ap (λ (l : List Event). here ++ l) through.1 ∙ append-nil here))) in
       record {
         word = goes.word;
         of_graph = record { last = goes.last; ends = goes.ends; run = goes.run };
-        seq = subst (λ m. Seq alphabet tokens (net_grammar graphs) goes.word i m events) through.0
-            (subst (λ (e : List Event). Seq alphabet tokens (net_grammar graphs) goes.word i k e)
+        seq = subst (λ m. Applies goes.word i m events) through.0
+            (subst (λ (e : List Event). Applies goes.word i k e)
             same goes.seq);
       }

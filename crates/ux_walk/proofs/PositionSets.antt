@@ -8,7 +8,7 @@ use Rattle.std.specs.Cmp.{nat_cmp_total}
 use Rattle.std.specs.BTreeMap.{is_at}
 use Rattle.std.specs.BTreeSet.{BTreeSet, contains, Updates}
 use Rattle.std.proofs.lemmas.Map.Lookups.{exact_unsigned}
-use Rattle.ux_walk.specs.Ends.{Includes}
+use Rattle.ux_walk.specs.Noting.{Includes}
 use Rattle.std.proofs.lemmas.Map.Views.{btree_set_contains_iff}
 
 either : (b c : Bool) → cond b true c ≡ true → (b ≡ true) ⊎ (c ≡ true)

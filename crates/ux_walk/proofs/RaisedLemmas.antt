@@ -9,7 +9,7 @@ use Rattle.std.proofs.lemmas.List.Elements.{Contains-append_left, Contains-push,
 use Rattle.std.proofs.lemmas.Option.{same_Some, slice_get_within, get_or_from_slice_get}
 use Rattle.ux_net.proofs.JoinedLemmas.{less_or}
 use Rattle.ux_alphabet.specs.Letters.{Letters}
-use Rattle.ux_walk.specs.Fronts.{AreRaised, IsPlainChar}
+use Rattle.ux_walk.specs.Literals.{AreRaised, IsPlainChar}
 
 module _ (alphabet : Letters) (slices : List (Bor (List ℕ))) where
   -- of the texts before the place, those that others may fit are listed

@@ -6,15 +6,16 @@ use Rattle.std.proofs.lemmas.List.Elements.{Contains-append_left, Contains-appen
 use Rattle.ux_alphabet.specs.Letters.{Letters}
 use Rattle.ux_tokens.specs.Tokens.{Token}
 use Rattle.ux_net.specs.declared.net_graph.NetGraph.{NetGraph}
-use Rattle.ux_net.specs.Nets.{net_grammar}
+use Rattle.ux_net.specs.Nets.{ArePlain, net_grammar}
 use Rattle.ux_net.specs.Measured.{IsMeasured}
 use Rattle.ux_outputs.specs.declared.event.Event.{Event}
+use Rattle.ux_meaning.specs.Meaning.{DerWith}
+use Rattle.ux_meaning.specs.Texts.{bare_text}
 use Rattle.ux_walk.specs.declared.lists.Link.{Link}
 use Rattle.ux_walk.specs.declared.config.Frame.{Frame}
 use Rattle.ux_walk.specs.declared.config.Config.{Config}
 use Rattle.ux_walk.specs.declared.config.Found.{Found}
 use Rattle.ux_walk.specs.declared.reached.Reached.{Reached}
-use Rattle.ux_walk.specs.Derivations.{Der}
 use Rattle.ux_walk.specs.Links.{AreBelow}
 use Rattle.ux_walk.specs.Configurations.{Course, GoesOn, IsAfter, IsRound, IsFoundAs, IsNamed, IsFound, Has, IsSound, AddsFrom, frames_of, events_of}
 use Rattle.ux_walk.proofs.OneStep.{Completes, Ends, step_forth, step_back, starts_forth, starts_back, onto, onto-none}
@@ -44,16 +45,22 @@ nothing_below {A} links none = subst (λ (l : List (Link A)). AreBelow l) (sym n
     empty : let no : List (Link A) = [] in AreBelow no
     empty i link at = absurd (let w = slice_get_within [] i link at in omega (arith, w))
 
-module _ (alphabet : Letters) (tokens : List Token) (graphs : List NetGraph) (start : ℕ) where
+module _ (alphabet : Letters) (tokens : List Token) (graphs : List NetGraph)
+    (Refuses : (g opening closing p : ℕ) → Type 0) (start : ℕ) where
+  -- the main graph derives the events from the start, where contexts are refused so
+  abbrev IsDerived : ℕ → List Event → Type 0
+  IsDerived j events =
+      DerWith (bare_text alphabet tokens) (net_grammar graphs) Refuses 1 start j events
+
   -- what was found, and what the pending configurations give, is all that is derived
   pub record Walking (r : Reached) : Type 0 where
     pub sound : IsSound r
     pub inside : (w : Course) → Has r w → w.at ≤ length tokens
     pub exact : (j : ℕ) (events : List Event) →
-        Der alphabet tokens (net_grammar graphs) 1 start j events
-        ↔ ((w : Course) × Has r w × Ends alphabet tokens graphs w j events)
+        IsDerived j events
+        ↔ ((w : Course) × Has r w × Ends alphabet tokens graphs Refuses w j events)
 
-  module _ (measured : IsMeasured graphs) where
+  module _ (measured : IsMeasured graphs) (are : ArePlain graphs) where
     -- after the first step
     pub walking_begins : (none r : Reached) → frames_of none ≡ [] → events_of none ≡ [] →
         none.pending.keys ≡ [] → none.found.keys ≡ [] → start ≤ length tokens →
@@ -87,13 +94,13 @@ module _ (alphabet : Letters) (tokens : List Token) (graphs : List NetGraph) (st
           ];
           exact = λ j es. (
             λ d.
-                let n = step_forth alphabet tokens graphs main [] start [] j es
-                (starts_forth alphabet tokens graphs 1 start j es d) in
+                let n = step_forth alphabet tokens graphs Refuses main [] start [] j es
+                (are 1 0) (starts_forth alphabet tokens graphs Refuses 1 start j es d) in
                 (n.0, (first.has n.0).1 (inr n.1), n.2),
             λ n. elim ((first.has n.0).0 n.1) [
               | inl o ↦ absurd (had_none n.0 o)
-              | inr g ↦ starts_back alphabet tokens graphs 1 start j es
-                  (step_back alphabet tokens graphs main [] start [] j es n.0 g n.2)
+              | inr g ↦ starts_back alphabet tokens graphs Refuses 1 start j es
+                  (step_back alphabet tokens graphs Refuses main [] start [] j es n.0 g n.2)
             ],
           );
         }
@@ -134,14 +141,15 @@ module _ (alphabet : Letters) (tokens : List Token) (graphs : List NetGraph) (st
             (walk.inside _ (before_it c h w a)) w a.3).0
 
         pending_forth : (c : Config) → Contains old.pending.keys c → (v : Course) →
-            IsNamed old c v → (j : ℕ) (es : List Event) → Ends alphabet tokens graphs v j es →
-            (w : Course) × Has new w × Ends alphabet tokens graphs w j es
+            IsNamed old c v → (j : ℕ) (es : List Event) →
+            Ends alphabet tokens graphs Refuses v j es →
+            (w : Course) × Has new w × Ends alphabet tokens graphs Refuses w j es
         pending_forth c h v named j es ends =
-            let whole : Completes alphabet tokens graphs (c.here ∷ named.back) c.at named.before j
-            es
-            = subst (λ (x : Course). Ends alphabet tokens graphs x j es) named.is ends in
-            let n = step_forth alphabet tokens graphs c.here named.back c.at named.before j es whole
-            in (
+            let whole : Completes alphabet tokens graphs Refuses (c.here ∷ named.back) c.at
+            named.before j es
+            = subst (λ (x : Course). Ends alphabet tokens graphs Refuses x j es) named.is ends in
+            let n = step_forth alphabet tokens graphs Refuses c.here named.back c.at named.before
+            j es (are c.here.graph c.here.state) whole in (
               n.0,
               (round.has n.0).1 (inr (c, h, (named.back, named.before, named.spells, n.1))),
               n.2,
@@ -149,18 +157,16 @@ module _ (alphabet : Letters) (tokens : List Token) (graphs : List NetGraph) (st
 
         pending_back : (c : Config) → Contains old.pending.keys c → (w : Course) →
             IsAfter alphabet tokens graphs old c w → (j : ℕ) (es : List Event) →
-            Ends alphabet tokens graphs w j es →
-            Der alphabet tokens (net_grammar graphs) 1 start j es
+            Ends alphabet tokens graphs Refuses w j es → IsDerived j es
         pending_back c h w a j es ends = (walk.exact j es).1 (
           record { frames = c.here ∷ a.0; at = c.at; before = a.1 },
           before_it c h w a,
-          step_back alphabet tokens graphs c.here a.0 c.at a.1 j es w a.3 ends,
+          step_back alphabet tokens graphs Refuses c.here a.0 c.at a.1 j es w a.3 ends,
         )
 
     -- where nothing is pending all is found
     pub walking_ends : (r : Reached) → Walking r → length r.pending.keys ≤ 0 →
-        (j : ℕ) (events : List Event) →
-        IsFoundAs r j events ↔ Der alphabet tokens (net_grammar graphs) 1 start j events
+        (j : ℕ) (events : List Event) → IsFoundAs r j events ↔ IsDerived j events
     walking_ends r walk none j events = (
       λ f. (walk.exact j events).1 (
         record { frames = []; at = f.found.end; before = f.before },
@@ -174,10 +180,10 @@ module _ (alphabet : Letters) (tokens : List Token) (graphs : List NetGraph) (st
     )
       where
         ended : (f : Found) → Contains r.found.keys f → (w : Course) → IsFound r f w →
-            Ends alphabet tokens graphs w j events → IsFoundAs r j events
+            Ends alphabet tokens graphs Refuses w j events → IsFoundAs r j events
         ended f h w is ends =
-            let c : Completes alphabet tokens graphs [] f.end is.before j events =
-            subst (λ (x : Course). Ends alphabet tokens graphs x j events) is.is ends in
+            let c : Completes alphabet tokens graphs Refuses [] f.end is.before j events =
+            subst (λ (x : Course). Ends alphabet tokens graphs Refuses x j events) is.is ends in
             record {
               found = f;
               inside = h;

@@ -2,7 +2,7 @@
 use Rattle.std.proofs.Common.{arith, ◌≡◌, ◌<◌, ◌↔◌, ℕ, zero, suc, List, [], ◌∷◌, ◌++◌, ◌⊎◌, inl, inr, refl, sym, ap, length, set}
 use Rattle.std.specs.Prelude.{Option, Some, None}
 use Rattle.std.proofs.lemmas.Option.{none-some, same_Some}
-use Rattle.ux_walk.specs.Turns.{HasValue}
+use Rattle.ux_walk.specs.Transitions.{HasValue}
 
 module _ {V : Type 0} where
   -- a place that is added has no value

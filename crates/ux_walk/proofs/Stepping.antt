@@ -12,23 +12,21 @@ use Rattle.ux_net.specs.declared.state.Edge.{Edge}
 use Rattle.ux_net.specs.declared.state.State.{State}
 use Rattle.ux_net.specs.declared.net_graph.NetGraph.{NetGraph}
 use Rattle.ux_net.specs.Nets.{states_of}
-use Rattle.ux_outputs.specs.declared.event.Event.{Event}
-use Rattle.ux_outputs.specs.declared.event.Event.TheVariants.{Take}
 use Rattle.ux_walk.specs.declared.lists.Link.{Link}
 use Rattle.ux_walk.specs.declared.config.Frame.{Frame}
 use Rattle.ux_walk.specs.declared.config.Config.{Config}
 use Rattle.ux_walk.specs.declared.config.Found.{Found}
+use Rattle.ux_walk.specs.declared.config.Taken.{Taken}
 use Rattle.ux_walk.specs.declared.matching.Passage.{Passage}
 use Rattle.ux_walk.specs.declared.matching.Passage.TheVariants as passage
 use Rattle.ux_walk.specs.declared.reached.Reached.{Reached}
-use Rattle.ux_walk.specs.Derivations.{Takes, Stays}
 use Rattle.ux_walk.specs.Links.{link_at, Names, AreBelow}
-use Rattle.ux_walk.specs.Configurations.{Course, IsAfter, IsAfterSome, IsRound, IsNamed, IsBehind, IsOverSome, GoesOn, IsSound, Adds, AddsFrom, frames_of, events_of}
+use Rattle.ux_walk.specs.Configurations.{Course, IsAfter, IsAfterSome, IsRound, IsNamed, IsBehind, IsOverSome, GoesOn, IsSound, Adds, AddsFrom, Passes, TakesPlainly, frames_of, events_of, from_to}
 use Rattle.ux_walk.proofs.LinksLemmas.{one_list}
 use Rattle.ux_walk.proofs.Adding.{Keeps, SameLists, adds_nothing, adds_then, adds_alike, keeps, keeps_same, same_back, spells_kept, named_kept, found_kept}
 
 -- the course that goes on in these frames
-abbrev pub course : List Frame → ℕ → List Event → Course
+abbrev pub course : List Frame → ℕ → List Taken → Course
 course frames at before = record { frames = frames; at = at; before = before }
 
 module _ (r new : Reached) (c : Config) where
@@ -58,7 +56,7 @@ module _ (r new : Reached) (c : Config) where
 
   -- where none is left, the course has ended
   pub leaves_none : link_at (frames_of r) c.back ≡ None →
-      ((before : List Event) → IsSound r → Names (events_of r) c.events before →
+      ((before : List Taken) → IsSound r → Names (events_of r) c.events before →
       Adds (λ w. w ≡ course [] c.at before) r new) →
       AddsFrom r new c (λ back before w. w ≡ course back c.at before)
   leaves_none none adds [] before sound spells = adds before sound spells.events
@@ -68,8 +66,8 @@ module _ (r new : Reached) (c : Config) where
 -- the label applies at the position in just this way
 pub record IsPassage (alphabet : Letters) (tokens : List Token) (label : Label) (i : ℕ)
     (r : Passage) : Type 0 where
-  pub takes : (k : ℕ) → (r ≡ passage.Takes k) ↔ Takes alphabet tokens label i k
-  pub stays : (r ≡ passage.Stays) ↔ Stays tokens label i
+  pub takes : (k : ℕ) → (r ≡ passage.Takes k) ↔ TakesPlainly alphabet tokens label i k
+  pub stays : (r ≡ passage.Stays) ↔ Passes tokens label i
   pub calls : (graph : ℕ) → (r ≡ passage.Calls graph) ↔ (label ≡ Call graph)
 
 takes_once : (k m : ℕ) → passage.Takes k ≡ passage.Takes m → k ≡ m
@@ -79,17 +77,17 @@ calls_once : (k m : ℕ) → passage.Calls k ≡ passage.Calls m → k ≡ m
 calls_once k m h = cc
 
 module _ (alphabet : Letters) (tokens : List Token) (label : Label) (f : Frame)
-    (fs : List Frame) (i : ℕ) (before : List Event) (r : Passage)
+    (fs : List Frame) (i : ℕ) (before : List Taken) (r : Passage)
     (is : IsPassage alphabet tokens label i r) (w : Course) where
   pub behind_takes : (k : ℕ) → r ≡ passage.Takes k →
-      (w ≡ course (f ∷ fs) k (Take i k ∷ before))
+      (w ≡ course (f ∷ fs) k (from_to i k ∷ before))
       ↔ IsBehind alphabet tokens label f fs i before w
   behind_takes k this = (
     λ e. inl (k, (is.takes k).0 this, e),
     λ b. elim b [
       | inl t ↦
           let same : k ≡ t.0 = takes_once k t.0 (sym this ∙ (is.takes t.0).1 t.1) in
-          t.2 ∙ ap (λ n. course (f ∷ fs) n (Take i n ∷ before)) (sym same)
+          t.2 ∙ ap (λ n. course (f ∷ fs) n (from_to i n ∷ before)) (sym same)
       | inr o ↦ elim o [
         | inl s ↦ let no : passage.Takes k ≡ passage.Stays = sym this ∙ is.stays.1 s.0 in cc
         | inr h ↦
@@ -182,13 +180,13 @@ module _ {S : Type 0} (Leads : S → Course → Type 0) where
       subst (λ (l : List S). Adds (Among l) old now) (take_all i all past) adds
 
 module _ (alphabet : Letters) (tokens : List Token) (graphs : List NetGraph) (c : Config) where
-  abbrev Next : List Frame → List Event → Course → Type 0
+  abbrev Next : List Frame → List Taken → Course → Type 0
   Next back before = GoesOn alphabet tokens graphs c.here back c.at before
 
-  abbrev Over : List Edge → List Frame → List Event → Course → Type 0
+  abbrev Over : List Edge → List Frame → List Taken → Course → Type 0
   Over edges back before = IsOverSome alphabet tokens c.here back c.at before edges
 
-  abbrev Left : List Frame → List Event → Course → Type 0
+  abbrev Left : List Frame → List Taken → Course → Type 0
   Left back before w = w ≡ course back c.at before
 
   -- there is no such state
@@ -261,7 +259,7 @@ module _ (alphabet : Letters) (tokens : List Token) (graphs : List NetGraph) whe
             a.2.frames named.spells.frames in
             let events : a.1 ≡ named.before = one_list (events_of old) c.events a.1 named.before
             a.2.events named.spells.events in
-            subst (λ (b : List Event). GoesOn alphabet tokens graphs c.here named.back c.at b w)
+            subst (λ (b : List Taken). GoesOn alphabet tokens graphs c.here named.back c.at b w)
             events (subst (λ (b : List Frame). GoesOn alphabet tokens graphs c.here b c.at a.1 w)
             frames a.3),
       ))
@@ -282,7 +280,7 @@ module _ (alphabet : Letters) (tokens : List Token) (graphs : List NetGraph) whe
       let mid_sound : IsSound mid = record {
         frames_below = subst (λ (l : List (Link Frame)). AreBelow l) (sym same.frames)
             sound.frames_below;
-        events_below = subst (λ (l : List (Link Event)). AreBelow l) (sym same.events)
+        events_below = subst (λ (l : List (Link Taken)). AreBelow l) (sym same.events)
             sound.events_below;
         pending = λ c h. absurd (nothing c h);
         found = λ f h. let v = sound.found f (subst (λ (l : List Found). Contains l f) found h) in

@@ -1,20 +1,17 @@
 -- A table of the different texts of a text's tokens, as it grows, and what is found in it.
-use Rattle.std.proofs.Common.{arith, ◌≡◌, ◌↔◌, ℕ, ◌+◌, ◌<◌, ◌≤◌, Bool, true, false, cond, List, [], ◌∷◌, ◌++◌, ◌⊎◌, inl, inr, Bor, map, length, get_or, take, drop, refl, sym, ◌∙◌, ap, subst, append_assoc, append-nil}
+use Rattle.std.proofs.Common.{arith, ◌≡◌, ◌↔◌, ℕ, ◌+◌, ◌<◌, ◌≤◌, List, [], ◌∷◌, ◌++◌, inl, inr, Bor, map, length, get_or, take, drop, refl, sym, ◌∙◌, ap, subst}
 use Rattle.std.specs.Prelude.{Option, Some, None, IsSomeAnd, Contains, slice_get, position}
 use Rattle.std.specs.List.{list_any}
 use Rattle.std.specs.Option.{is_some}
 use Rattle.std.specs.Str.{IsUtf8, bytes_eq}
-use Rattle.std.proofs.lemmas.Slice.Eq.{bytes_eq-Decides}
-use Rattle.std.proofs.lemmas.List.{length_push, map-append, map_more, take-append-drop}
-use Rattle.std.proofs.lemmas.List.Elements.{Contains-get_or, Contains-push_cases}
-use Rattle.std.proofs.lemmas.List.Folds.{list_any_at}
+use Rattle.std.proofs.lemmas.List.{map-append, map_more, take-append-drop}
 use Rattle.std.proofs.lemmas.Option.{same_Some, slice_get_within, slice_get-get_or, get_or_from_slice_get}
 use Rattle.ux_tokens.specs.Tokens.{Token}
 use Rattle.ux_base.specs.Distinct.{StandOnce, each_once, with_text}
 use Rattle.ux_tokens.specs.Numbers.{different_texts}
 use Rattle.ux_base.proofs.DistinctLemmas.{each_once-keeps, each_once-push, length-with_text, with_text-from, with_text-there}
 use Rattle.ux_net.proofs.NamesLemmas.{named_at, named_there}
-use Rattle.ux_walk.specs.Fronts.{AreUtf8}
+use Rattle.ux_walk.specs.Literals.{AreUtf8}
 
 -- texts that are UTF-8 stay so as one is added that is
 utf8_more : (texts : List (List ℕ)) (text : List ℕ) → AreUtf8 texts → IsUtf8 text →
@@ -95,7 +92,8 @@ module _ (tokens : List Token) (i : ℕ) (texts : List (List ℕ)) (table : IsTa
         length texts < 4294967296 → IsUtf8 text →
         IsSomeAnd (slice_get tokens i) (λ token. text ≡ token.text) → IsTable tokens (i + 1) more
     table_more more text is room utf8 there =
-        let grown : length (with_text texts text) ≤ length texts + 1 = length-with_text texts text in
+        let grown : length (with_text texts text) ≤ length texts + 1 =
+        length-with_text texts text in
         subst (IsTable tokens (i + 1)) (sym is) (record {
           texts_are = ap (λ (l : List (List ℕ)). with_text l text) table.texts_are
               ∙ sym (texts_more tokens i text there);

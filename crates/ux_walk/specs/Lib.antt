@@ -1,10 +1,12 @@
-pub mod Derivations
-pub mod Following
+pub mod Settings
 pub mod Links
 pub mod Configurations
+pub mod Literals
 pub mod LookUps
-pub mod Turns
-pub mod Fronts
+pub mod Transitions
+pub mod Automata
 pub mod Marks
-pub mod Sieves
+pub mod Prefilters
 pub mod Ends
+pub mod Noting
+pub mod Walkers

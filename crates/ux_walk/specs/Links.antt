@@ -1,5 +1,5 @@
 -- Lists that share their tails, each named by a number: 0 is the empty list, and n + 1 the list
--- that begins with link n. Inner: the crate's own functions alone speak of it.
+-- that begins with link n. Inner, but for `AreOnce`, of which public contracts speak.
 use Rattle.std.specs.Prelude.{◌≡◌, ℕ, zero, suc, ◌≤◌, List, [], ◌∷◌, ◌++◌, ◌⊎◌, Option, Some, None, slice_get}
 use Rattle.ux_walk.specs.declared.lists.Link.{Link}
 

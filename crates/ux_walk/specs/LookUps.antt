@@ -1,26 +1,19 @@
--- Which edges of a state may apply at a token, by its text, and lists of them that are kept. Inner,
--- but for what it says of the public table `LookUps`.
+-- Which edges of a state may apply at a token, by its text, and lists of them that are kept. Inner:
+-- the crate's own functions alone speak of it.
 use Rattle.std.specs.Prelude.{◌≡◌, ℕ, List, ◌⊎◌, Some, slice_get, Contains}
-use Rattle.std.specs.List.{AllZip}
-use Rattle.std.specs.Str.{chars}
-use Rattle.ux_alphabet.specs.Letters.{Letters, Fits}
+use Rattle.ux_alphabet.specs.Letters.{Letters}
 use Rattle.ux_net.specs.declared.label.Label.{Label}
-use Rattle.ux_net.specs.declared.label.Label.TheVariants.{Empty, Fold, Exact, Space, Glue, Call}
 use Rattle.ux_net.specs.declared.state.Edge.{Edge}
 use Rattle.ux_net.specs.declared.state.State.{State}
 use Rattle.ux_net.specs.declared.net_graph.NetGraph.{NetGraph}
 use Rattle.ux_net.specs.Nets.{states_of}
 use Rattle.ux_walk.specs.declared.look_ups.LookUp.{LookUp}
 use Rattle.ux_walk.specs.declared.look_ups.LookUps.{LookUps}
+use Rattle.ux_walk.specs.Literals.{FitsText, IsLiteral}
 
--- whatever its kind, no token of this text is taken by the label, which takes nothing else
+-- a literal that fits no token of this text; any other label may apply
 abbrev pub Refuses : Letters → Label → List ℕ → Type 0
-Refuses alphabet (Fold entry) text = AllZip (Fits alphabet) (chars entry) (chars text) → ⊥
-Refuses alphabet (Exact exact) text = text ≡ exact → ⊥
-Refuses alphabet Space text = ⊥
-Refuses alphabet Empty text = ⊥
-Refuses alphabet Glue text = ⊥
-Refuses alphabet (Call graph) text = ⊥
+Refuses alphabet label text = IsLiteral label × (FitsText alphabet label text → ⊥)
 
 -- each edge stands at one of the places, or its label refuses the text
 abbrev pub AreEnough : Letters → List ℕ → List Edge → List ℕ → Type 0

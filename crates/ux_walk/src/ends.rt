@@ -1,18 +1,19 @@
-//! Walks of which the ends alone are asked, as where outputs are ignored.
+//! Ends of walks: those of a walk through the automaton, and those of derivations that were found.
+//!
+//! A walk through the automaton takes a look-up a token and lists no events. It notes each position
+//! after the start at which a word ends, and stops where no transition leads on, or in a state from
+//! which the automaton can't tell what comes next.
 
-ghost use Rattle.std.specs.Prelude.{◌≡◌, ◌<◌, ◌≤◌, ◌↔◌, ℕ, List, Contains, IfOk, IsTrue, OnOk, length};
+ghost use Rattle.std.specs.Prelude.{◌≡◌, ◌<◌, ◌≤◌, ◌↔◌, ℕ, Contains, IfOk, IsTrue, OnOk, length};
 ghost use Rattle.std.specs.List.Sorted.{IsStrictlyIncreasing};
-ghost use Rattle.ux_net.specs.Measured.{IsMeasured};
-ghost use Rattle.ux_outputs.specs.declared.event.Event.{Event};
 ghost use Rattle.ux_tokens.specs.Numbers.{different_texts};
-ghost use Rattle.ux_walk.specs.Ends.{AreEnds, EndsAt, Includes, IsEndOf, Notes};
-ghost use Rattle.ux_walk.specs.Fronts.{AreKept};
-ghost use Rattle.ux_walk.specs.LookUps.{AreSound};
+ghost use Rattle.ux_walk.specs.Automata.{IsKept};
+ghost use Rattle.ux_walk.specs.Ends.{AreStraightEnds};
+ghost use Rattle.ux_walk.specs.Noting.{EndsAt, Includes, IsEndOf, Notes};
+ghost use Rattle.ux_walk.specs.Settings.{setting_of};
 
-use crate::fronts::{Fronts, Reading};
-use crate::look_ups::LookUps;
+use crate::automaton::{Automaton, Reading};
 use crate::matching::{may_stand_for, skip};
-use crate::walking::walk_through;
 use std::alloc::{AllocError, Global};
 use std::collections::BTreeSet;
 use ux_alphabet::Alphabet;
@@ -21,63 +22,30 @@ use ux_net::Net;
 use ux_outputs::Event;
 use ux_tokens::Text;
 
-/// Lets `ends` be the positions behind the start at which a derivation from it ends, in order.
-///
-/// A walk of literals alone goes on through fronts that are kept from walk to walk, a step a token,
-/// and takes no memory but for `ends`. Another begins anew, by rounds: at a state of many edges and a
-/// token that were met before, the edges that may apply are looked up.
-pub fn ends_with(
+/// Lets `ends` be the positions after the start at which a derivation from it ends, in order, where
+/// a walk comes to no state in which the automaton quits, and answers whether it did.
+pub fn straight_ends(
     alloc: Global,
     net: &Net,
     text: &Text,
     alphabet: &Alphabet,
-    fronts: &mut Fronts,
-    look_ups: &mut LookUps,
-    start: usize,
-    ends: &mut Vec<usize>,
-) -> Mem<()>
-    requires measured { IsMeasured net.now }
-    requires kept { AreKept alphabet.now (different_texts text.now) net.now fronts.now }
-    requires sound { AreSound alphabet.now net.now (different_texts text.now) look_ups.now }
-    requires inside { start ≤ length text.now }
-    ensures kept { OnOk result
-        (AreKept alphabet.now (different_texts text.now) net.now fronts.new) }
-    ensures sound { AreSound alphabet.now net.now (different_texts text.now) look_ups.new }
-    ensures ends { OnOk result
-        (AreEnds alphabet.now text.now net.now start ends.new.items) }
-{
-    if straight_ends(alloc, net, text, alphabet, fronts, start, ends)? {
-        return Ok(());
-    }
-    let found = walk_through(alloc, net, text, alphabet, look_ups, start)?;
-    *ends = end_positions(alloc, start, found.as_slice())?;
-    Ok(())
-}
-
-/// Lets `ends` be these positions, where a walk comes to no front that it must look beyond, and
-/// answers whether it did.
-fn straight_ends(
-    alloc: Global,
-    net: &Net,
-    text: &Text,
-    alphabet: &Alphabet,
-    fronts: &mut Fronts,
+    automaton: &mut Automaton,
     start: usize,
     ends: &mut Vec<usize>,
 ) -> Mem<bool>
-    requires kept { AreKept alphabet.now (different_texts text.now) net.now fronts.now }
+    requires kept { IsKept alphabet.now (different_texts text.now) net.now automaton.now }
     requires inside { start ≤ length text.now }
     ensures kept { OnOk result
-        (AreKept alphabet.now (different_texts text.now) net.now fronts.new) }
+        (IsKept alphabet.now (different_texts text.now) net.now automaton.new) }
     ensures ends { IfOk result (λ all. IsTrue all →
-        AreEnds alphabet.now text.now net.now start ends.new.items) }
+        AreStraightEnds (setting_of net.now text.now alphabet.now) start ends.new.items) }
 {
     ends.clear();
-    let mut front = fronts.first();
+    let mut subset = automaton.first();
     let mut at = start;
-    while front > 0 {
-        let reading = fronts.read(alloc, net, alphabet, front)?;
-        if is_beyond(reading) {
+    while subset > 0 {
+        let reading = automaton.read(alloc, net, alphabet, subset)?;
+        if is_quit(reading) {
             return Ok(false);
         }
         note_end(start, at, reading, ends)?;
@@ -85,31 +53,31 @@ fn straight_ends(
         if !may_stand_for(text, position) {
             return Ok(true);
         }
-        front = fronts.turn(front, text.number(position));
+        subset = automaton.transition(subset, text.number(position));
         at = position + 1;
     }
     Ok(true)
 }
 
-/// Whether a walk can't go on from a front by its turns.
-fn is_beyond(reading: Reading) -> bool
-    ensures { IsTrue result ↔ (reading ≡ Reading.Beyond) }
+/// Whether the automaton quits in a state.
+fn is_quit(reading: Reading) -> bool
+    ensures { IsTrue result ↔ (reading ≡ Reading.Quit) }
 {
-    matches!(reading, Reading::Beyond)
+    matches!(reading, Reading::Quit)
 }
 
-/// Adds the position, where one ends there behind the start.
+/// Adds the position, where one ends there after the start.
 fn note_end(start: usize, at: usize, reading: Reading, ends: &mut Vec<usize>) -> Mem<()>
     ensures { OnOk result (Notes reading start at ends.old.items ends.new.items) }
 {
     match reading {
-        Reading::Final => push_behind(start, at, ends),
-        Reading::Through | Reading::Beyond => Ok(()),
+        Reading::Final => push_after(start, at, ends),
+        Reading::Through | Reading::Quit => Ok(()),
     }
 }
 
-/// Adds the position, where it lies behind the start.
-fn push_behind(start: usize, at: usize, ends: &mut Vec<usize>) -> Mem<()>
+/// Adds the position, where it lies after the start.
+fn push_after(start: usize, at: usize, ends: &mut Vec<usize>) -> Mem<()>
     ensures { OnOk result (Notes Reading.Final start at ends.old.items ends.new.items) }
 {
     if start < at {
@@ -118,8 +86,8 @@ fn push_behind(start: usize, at: usize, ends: &mut Vec<usize>) -> Mem<()>
     Ok(())
 }
 
-/// The positions behind the start at which a derivation ends, in order.
-fn end_positions(alloc: Global, start: usize, found: &[(usize, Lst<Event>)]) -> Mem<Vec<usize>>
+/// The positions after the start at which a derivation ends, in order.
+pub fn end_positions(alloc: Global, start: usize, found: &[(usize, Lst<Event>)]) -> Mem<Vec<usize>>
     ensures exactly { IfOk result (λ ends.
         (e : ℕ) → Contains ends.items e ↔ EndsAt found.now start e) }
     ensures ascending { IfOk result (λ ends. IsStrictlyIncreasing ends.items) }
@@ -132,7 +100,7 @@ fn end_positions(alloc: Global, start: usize, found: &[(usize, Lst<Event>)]) -> 
     Ok(listed(alloc, &positions)?)
 }
 
-/// Adds the end of a derivation, where it lies behind the start.
+/// Adds the end of a derivation, where it lies after the start.
 fn add_end(
     start: usize,
     derivation: &(usize, Lst<Event>),

@@ -12,29 +12,35 @@
 //! `look_ups` lists those that may apply at a token, once, and no others are tried there.
 //!
 //! Nearly every walk over a text is of literals alone, and comes to its end after a token or two.
-//! Such a walk needs no rounds: `ends` takes it through `fronts`, one look-up a token, and lists no
-//! events. Most are told by their first two tokens, and `sieve` holds these back.
+//! Such a walk needs no rounds: a `walker` takes it through a lazy `automaton`, one look-up a
+//! token, and lists no events. Most starts are told by their first two tokens, and a `prefilter`
+//! holds these back.
+//!
+//! ```text
+//! let mut walker = Walker::of(alloc, &net, &text, &alphabet)?;
+//! if walker.may_begin(start) && walker.straight_ends(alloc, start, &mut ends)? {
+//!     // Every derivation from the start takes the tokens up to one of the ends.
+//! }
+//! ```
 #![tactic(auto)]
 
+mod automaton;
 mod config;
 mod ends;
-mod fronts;
 mod lists;
 mod literals;
 mod look_ups;
 mod marks;
 mod matching;
+mod prefilter;
 mod reached;
 mod sets;
-mod sieve;
 mod slots;
 mod tables;
-mod turns;
+mod transitions;
+mod walker;
 mod walking;
 mod words;
 
-pub use ends::ends_with;
-pub use fronts::Fronts;
-pub use look_ups::LookUps;
-pub use sieve::Sieve;
+pub use walker::Walker;
 pub use walking::walk;

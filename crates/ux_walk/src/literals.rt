@@ -4,7 +4,7 @@ ghost use Rattle.std.specs.Prelude.{◌≡◌, ◌↔◌, ℕ, Some, Contains, I
 ghost use Rattle.ux_net.specs.declared.state.State.{State};
 ghost use Rattle.ux_net.specs.declared.state.Edge.{Edge};
 ghost use Rattle.ux_net.specs.Nets.{IsNetEnd, states_of};
-ghost use Rattle.ux_walk.specs.Fronts.{IsLiteral};
+ghost use Rattle.ux_walk.specs.Literals.{IsLiteral};
 
 use ux_net::{Edge, Label, Net};
 
@@ -46,13 +46,10 @@ fn are_literals(edges: &[Edge]) -> bool
 }
 
 /// Whether the label is a literal.
-fn is_literal(label: &Label) -> bool
-    ensures { IsTrue result → IsLiteral label.now }
+pub fn is_literal(label: &Label) -> bool
+    ensures { IsTrue result ↔ IsLiteral label.now }
 {
-    match label {
-        Label::Fold(_) | Label::Exact(_) => true,
-        Label::Empty | Label::Space | Label::Glue | Label::Call(_) => false,
-    }
+    matches!(label, Label::Fold(_) | Label::Exact(_))
 }
 
 /// Whether a word may end at one of these states.

@@ -1,14 +1,14 @@
 //! How a label applies at a position of the text.
 
 ghost use Rattle.std.specs.Prelude.{◌≡◌, ◌+◌, ◌^◌, ◌<◌, ◌↔◌, ℕ, false, IsTrue, IsSome, IsSomeAnd, Some, length, slice_get};
-ghost use Rattle.std.specs.List.{AllZip};
-ghost use Rattle.std.specs.Str.{chars};
-ghost use Rattle.ux_alphabet.specs.Letters.{Fits};
 ghost use Rattle.ux_net.specs.declared.label.Label.{Label};
 ghost use Rattle.ux_outputs.specs.Rendering.{kind_of, skip as skip_of};
-ghost use Rattle.ux_walk.specs.Derivations.{FoldsTo, IsSpaceAt, MayStandFor, Stays, Takes, TakesToken};
+ghost use Rattle.ux_meaning.specs.Texts.{Folds, FoldsTo, IsSpaceAt, MayStandFor, TakesToken};
+ghost use Rattle.ux_walk.specs.Configurations.{Passes, TakesPlainly};
 ghost use Rattle.ux_walk.specs.LookUps.{Refuses};
 
+use crate::literals::is_literal;
+use crate::words::fits;
 use ux_alphabet::Alphabet;
 use ux_net::Label;
 use ux_tokens::{Kind, Text};
@@ -26,11 +26,11 @@ pub enum Passage {
     Closed,
 }
 
-/// How the label applies at the position.
+/// How the label applies at the position. Labels that stand in no net don't apply.
 pub fn passage_at(text: &Text, alphabet: &Alphabet, label: &Label, position: usize) -> Passage
     ensures takes { (k : ℕ) →
-        (result ≡ Passage.Takes k) ↔ Takes alphabet.now text.now label.now position k }
-    ensures stays { (result ≡ Passage.Stays) ↔ Stays text.now label.now position }
+        (result ≡ Passage.Takes k) ↔ TakesPlainly alphabet.now text.now label.now position k }
+    ensures stays { (result ≡ Passage.Stays) ↔ Passes text.now label.now position }
     ensures calls { (graph : ℕ) → (result ≡ Passage.Calls graph) ↔ (label.now ≡ Label.Call graph) }
 {
     match label {
@@ -46,18 +46,22 @@ pub fn passage_at(text: &Text, alphabet: &Alphabet, label: &Label, position: usi
             }
         },
         Label::Call(graph) => Passage::Calls(*graph),
+        Label::Mask(_)
+        | Label::Brace(_)
+        | Label::Begin(_)
+        | Label::End(_)
+        | Label::Positive
+        | Label::Negative
+        | Label::ContextEnd
+        | Label::Cut => Passage::Closed,
     }
 }
 
-/// Whether the label may apply where a token of this text stands behind an optional space.
+/// Whether the label may apply where a token of this text stands after an optional space.
 pub fn may_apply(alphabet: &Alphabet, label: &Label, text: &str) -> bool
     ensures { (result ≡ false) ↔ Refuses alphabet.now label.now text.now }
 {
-    match label {
-        Label::Fold(entry) => fits_text(alphabet, entry.as_str(), text),
-        Label::Exact(exact) => text == exact.as_str(),
-        Label::Empty | Label::Space | Label::Glue | Label::Call(_) => true,
-    }
+    !is_literal(label) || fits(alphabet, label, text)
 }
 
 /// The passage to an end, where there is one.
@@ -72,7 +76,7 @@ fn taking(end: Option<usize>) -> Passage
     }
 }
 
-/// The position behind the token whose characters the entry fits, which may stand behind a space.
+/// The position after the token whose characters the entry fits, which may stand after a space.
 fn after_fold(text: &Text, alphabet: &Alphabet, entry: &str, position: usize) -> Option<usize>
     ensures { (k : ℕ) → (result ≡ Some k)
         ↔ TakesToken text.now (FoldsTo alphabet.now entry.now) position k }
@@ -85,7 +89,7 @@ fn after_fold(text: &Text, alphabet: &Alphabet, entry: &str, position: usize) ->
     }
 }
 
-/// The position behind the token of exactly this text, which may stand behind a space.
+/// The position after the token of exactly this text, which may stand after a space.
 fn after_exact(text: &Text, exact: &str, position: usize) -> Option<usize>
     ensures { (k : ℕ) → (result ≡ Some k)
         ↔ TakesToken text.now (λ token. token.text ≡ exact.now) position k }
@@ -98,7 +102,7 @@ fn after_exact(text: &Text, exact: &str, position: usize) -> Option<usize>
     }
 }
 
-/// The position behind a space that stands at this one.
+/// The position after a space that stands at this one.
 fn after_space(text: &Text, position: usize) -> Option<usize>
     ensures { (k : ℕ) → (result ≡ Some k)
         ↔ (IsSpaceAt text.now position × (k ≡ position + 1)) }
@@ -110,7 +114,7 @@ fn after_space(text: &Text, position: usize) -> Option<usize>
     }
 }
 
-/// The position behind a space that stands at this one, or this one.
+/// The position after a space that stands at this one, or this one.
 pub fn skip(text: &Text, position: usize) -> usize
     ensures { result ≡ skip_of text.now position }
 {
@@ -157,7 +161,7 @@ fn kind_at(text: &Text, position: usize) -> Option<Kind>
 
 /// Whether a text has as many characters as the entry, and each of the entry's fits.
 pub fn fits_text(alphabet: &Alphabet, entry: &str, text: &str) -> bool
-    ensures { IsTrue result ↔ AllZip (Fits alphabet.now) (chars entry.now) (chars text.now) }
+    ensures { IsTrue result ↔ Folds alphabet.now entry.now text.now }
 {
     let mut rest = entry.chars();
     for c in text.chars() {

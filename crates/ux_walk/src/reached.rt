@@ -1,6 +1,6 @@
 //! What a walk has reached, and how it goes one step on.
 
-ghost use Rattle.std.specs.Prelude.{◌≡◌, ◌<◌, ◌↔◌, ℕ, List, [], ◌∷◌, Contains, IfOk, IsTrue, OnOk, Some, length, option_copied, slice_get};
+ghost use Rattle.std.specs.Prelude.{◌≡◌, ◌<◌, ◌↔◌, ℕ, List, [], ◌∷◌, Contains, IfOk, IsTrue, OnOk, Some, length, map, option_copied, slice_get};
 ghost use Rattle.ux_net.specs.declared.net_graph.NetGraph.{NetGraph};
 ghost use Rattle.ux_net.specs.Nets.{states_of};
 ghost use Rattle.ux_outputs.specs.declared.event.Event.{Event};
@@ -8,9 +8,10 @@ ghost use Rattle.ux_tokens.specs.Numbers.{different_texts};
 ghost use Rattle.ux_walk.specs.Links.{AreOnce, Names};
 ghost use Rattle.ux_walk.specs.LookUps.{AreSound};
 ghost use Rattle.ux_walk.specs.declared.config.Config.{Config};
-ghost use Rattle.ux_walk.specs.Configurations.{Adds, AddsFrom, Course, GoesOn, IsAfterSome, IsFoundAs, IsNamed, IsNothing, IsOver, IsOverAt, IsOverSome, IsOverSomeAt, IsRound, IsSound, events_of};
+ghost use Rattle.ux_walk.specs.declared.config.Taken.{Taken};
+ghost use Rattle.ux_walk.specs.Configurations.{Adds, AddsFrom, Course, GoesOn, IsAfterSome, IsFoundAs, IsNamed, IsNothing, IsOver, IsOverAt, IsOverSome, IsOverSomeAt, IsRound, IsSound, event_of, events_of, from_to};
 
-use crate::config::{Config, Found, Frame};
+use crate::config::{Config, Found, Frame, Taken};
 use crate::lists::Lists;
 use crate::look_ups::{LookUp, LookUps, places_for};
 use crate::matching::{Passage, passage_at, skip};
@@ -31,7 +32,7 @@ const FEW: usize = 8;
 #[derive(Drop)]
 pub struct Reached {
     frames: Lists<Frame>,
-    events: Lists<Event>,
+    events: Lists<Taken>,
     pending: IndexSet<Config>,
     found: IndexSet<Found>,
 }
@@ -84,7 +85,8 @@ impl Reached {
     {
         let mut derivations = Vec::new(alloc);
         for found in self.found.as_slice() {
-            let events = self.events.spell(alloc, found.events)?;
+            let taken = self.events.spell(alloc, found.events)?;
+            let events = as_events(alloc, taken.as_slice())?;
             derivations.push((found.end, Lst::new(events)))?;
         }
         stand_once(&self.found);
@@ -250,15 +252,15 @@ impl Reached {
         }
     }
 
-    /// Goes on in a frame behind the tokens that were taken.
+    /// Goes on in a frame after the tokens that were taken.
     fn take(&mut self, config: Config, here: Frame, end: usize) -> Mem<()>
         ensures { OnOk result (AddsFrom self.old self.new config (λ back before w. w ≡ record {
           frames = here ∷ back;
           at = end;
-          before = Event.Take config.at end ∷ before;
+          before = from_to config.at end ∷ before;
         })) }
     {
-        let taken = Event::Take {
+        let taken = Taken {
             from: config.at,
             to: end,
         };
@@ -328,12 +330,29 @@ impl Reached {
 
     /// Adds a derivation, where it is new.
     fn end(&mut self, found: Found) -> Mem<()>
-        ensures { OnOk result ((before : List Event) → IsSound self.old →
+        ensures { OnOk result ((before : List Taken) → IsSound self.old →
             Names (events_of self.old) found.events before →
             Adds (λ w. w ≡ record { frames = []; at = found.end; before = before })
             self.old self.new) }
     {
         put(&mut self.found, found)
+    }
+}
+
+/// The events that tell what was taken.
+fn as_events(alloc: Global, taken: &[Taken]) -> Mem<Vec<Event>>
+    ensures { IfOk result (λ events. events.items ≡ map event_of taken.now) }
+{
+    Ok(taken.iter().map(as_event).collect(alloc)?)
+}
+
+/// The event that tells of it.
+fn as_event(taken: &Taken) -> Event
+    ensures { result ≡ event_of taken.now }
+{
+    Event::Take {
+        from: taken.from,
+        to: taken.to,
     }
 }
 

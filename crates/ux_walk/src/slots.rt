@@ -1,7 +1,7 @@
 //! Values by number, in a list with a place for each number.
 
 ghost use Rattle.std.specs.Prelude.{◌≡◌, ◌↔◌, ◌⊎◌, ◌<◌, ℕ, Some, OnOk, length};
-ghost use Rattle.ux_walk.specs.Turns.{HasValue};
+ghost use Rattle.ux_walk.specs.Transitions.{HasValue};
 
 use ux_base::Mem;
 

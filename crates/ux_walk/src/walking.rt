@@ -4,9 +4,10 @@ ghost use Rattle.std.specs.Prelude.{◌≡◌, ◌≤◌, ◌↔◌, ℕ, List, 
 ghost use Rattle.ux_net.specs.Measured.{IsMeasured};
 ghost use Rattle.ux_net.specs.Nets.{net_grammar};
 ghost use Rattle.ux_outputs.specs.declared.event.Event.{Event};
+ghost use Rattle.ux_outputs.specs.Following.{Follows};
+ghost use Rattle.ux_meaning.specs.Meaning.{Der};
+ghost use Rattle.ux_meaning.specs.Texts.{bare_text};
 ghost use Rattle.ux_walk.specs.Configurations.{IsFoundAs, IsNothing, IsSound};
-ghost use Rattle.ux_walk.specs.Derivations.{Der};
-ghost use Rattle.ux_walk.specs.Following.{Follows};
 ghost use Rattle.ux_tokens.specs.Numbers.{different_texts};
 ghost use Rattle.ux_walk.specs.Links.{AreOnce};
 ghost use Rattle.ux_walk.specs.LookUps.{AreSound};
@@ -35,7 +36,7 @@ pub fn walk(
     requires inside { start ≤ length text.now }
     ensures exactly { IfOk result (λ found. (end : ℕ) (events : List Event) →
         Contains found.items (end, events)
-        ↔ Der alphabet.now text.now (net_grammar net.now) 1 start end events) }
+        ↔ Der (bare_text alphabet.now text.now) (net_grammar net.now) 1 start end events) }
     ensures follows { IfOk result (λ found. (end : ℕ) (events : List Event) →
         Contains found.items (end, events) →
         Follows start end events × (end ≤ length text.now)) }
@@ -59,7 +60,7 @@ pub fn walk_through(
     ensures sound { AreSound alphabet.now net.now (different_texts text.now) look_ups.new }
     ensures exactly { IfOk result (λ found. (end : ℕ) (events : List Event) →
         Contains found.items (end, events)
-        ↔ Der alphabet.now text.now (net_grammar net.now) 1 start end events) }
+        ↔ Der (bare_text alphabet.now text.now) (net_grammar net.now) 1 start end events) }
     ensures follows { IfOk result (λ found. (end : ℕ) (events : List Event) →
         Contains found.items (end, events) →
         Follows start end events × (end ≤ length text.now)) }
@@ -88,8 +89,9 @@ fn reach(
     ensures named { OnOk result (IsSound reached.new) }
     ensures exactly { OnOk result ((end : ℕ) (events : List Event) →
         IsFoundAs reached.new end events
-        ↔ Der alphabet.now text.now (net_grammar net.now) 1 start end events) }
+        ↔ Der (bare_text alphabet.now text.now) (net_grammar net.now) 1 start end events) }
 {
+    net.is_plain();
     let main = Frame { graph: 1, state: 0 };
     let first = Config {
         here: main,

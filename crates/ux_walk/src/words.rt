@@ -1,14 +1,14 @@
 //! The different tokens of a text, and which of them a literal fits.
 //!
-//! A literal that has the text of a token fits it. Another literal fits it only where a character of
-//! the token may be an upper-case form, so most tokens are found by the literal's text alone.
+//! A literal that has the text of a token fits it. Another literal fits it only where a character
+//! of the token may be an upper-case form, so most tokens are found by the literal's text alone.
 
 ghost use Rattle.std.specs.Prelude.{◌≡◌, ◌↔◌, ◌≤◌, ℕ, Some, Contains, IfOk, IsTrue, List, All, slice_get, length};
 ghost use Rattle.std.specs.Str.{IsUtf8, chars};
 ghost use Rattle.ux_net.specs.declared.label.Label.{Label};
 ghost use Rattle.ux_base.specs.Distinct.{StandOnce};
 ghost use Rattle.ux_tokens.specs.Numbers.{different_texts, texts_in};
-ghost use Rattle.ux_walk.specs.Fronts.{AreCounted, AreRaised, AreReady, AreUtf8, FitsText, IsFitted, IsOf, IsPlainChar, count_of as count_of_label};
+ghost use Rattle.ux_walk.specs.Literals.{AreCounted, AreRaised, AreReady, AreUtf8, FitsText, IsFitted, IsOf, IsPlainChar, count_of as count_of_label};
 
 use crate::matching::fits_text;
 use indexmap::IndexSet;
@@ -69,7 +69,8 @@ impl<'t> Words<'t> {
     /// Whether the label is a literal of so many characters and fits the token of this number. Most
     /// tokens have another number of characters.
     fn is_fitted(&self, alphabet: &Alphabet, label: &Label, count: usize, number: u32) -> bool
-        ensures fits { IsTrue result → IsFitted alphabet.now (texts_in self.now.texts) label.now number }
+        ensures fits { IsTrue result →
+            IsFitted alphabet.now (texts_in self.now.texts) label.now number }
         ensures all { AreCounted (texts_in self.now.texts) self.now.counts.items →
             count ≡ count_of_label label.now →
             IsFitted alphabet.now (texts_in self.now.texts) label.now number → IsTrue result }
@@ -117,9 +118,10 @@ fn char_count(text: &&str) -> usize
 fn count_of(label: &Label) -> usize
     ensures { result ≡ count_of_label label.now }
 {
-    match label {
-        Label::Fold(literal) | Label::Exact(literal) => char_count(&literal.as_str()),
-        Label::Empty | Label::Space | Label::Glue | Label::Call(_) => 0,
+    if let Label::Fold(literal) | Label::Exact(literal) = label {
+        char_count(&literal.as_str())
+    } else {
+        0
     }
 }
 
@@ -170,9 +172,10 @@ fn number_by(texts: &IndexSet<&str>, label: &Label) -> Option<u32>
         (n : ℕ) → (result ≡ Some n) ↔ IsOf (texts_in texts.now) label.now n }
     ensures utf8 { (entry : List ℕ) → label.now ≡ Label.Fold entry → IsUtf8 entry }
 {
-    match label {
-        Label::Fold(literal) | Label::Exact(literal) => number_at(texts, literal.as_str()),
-        Label::Empty | Label::Space | Label::Glue | Label::Call(_) => None,
+    if let Label::Fold(literal) | Label::Exact(literal) = label {
+        number_at(texts, literal.as_str())
+    } else {
+        None
     }
 }
 
@@ -196,12 +199,23 @@ fn is_fitted(texts: &IndexSet<&str>, alphabet: &Alphabet, label: &Label, number:
 }
 
 /// Whether the label is a literal and fits the text.
-fn fits(alphabet: &Alphabet, label: &Label, text: &str) -> bool
+pub fn fits(alphabet: &Alphabet, label: &Label, text: &str) -> bool
     ensures { IsTrue result ↔ FitsText alphabet.now label.now text.now }
 {
     match label {
         Label::Fold(entry) => fits_text(alphabet, entry.as_str(), text),
         Label::Exact(exact) => text == exact.as_str(),
-        Label::Empty | Label::Space | Label::Glue | Label::Call(_) => false,
+        Label::Empty
+        | Label::Mask(_)
+        | Label::Brace(_)
+        | Label::Space
+        | Label::Glue
+        | Label::Begin(_)
+        | Label::End(_)
+        | Label::Positive
+        | Label::Negative
+        | Label::ContextEnd
+        | Label::Cut
+        | Label::Call(_) => false,
     }
 }

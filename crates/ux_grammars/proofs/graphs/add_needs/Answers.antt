@@ -1,8 +1,10 @@
-use Rattle.std.proofs.Common.{◌≡◌, ◌∙◌, List, ℕ, [], ◌∷◌, fold, map, string_bytes, ap, sym}
+use Rattle.std.proofs.Common.{◌≡◌, ◌∙◌, List, ℕ, [], ◌∷◌, fold, map, string_bytes, ap, sym, subst}
 use Rattle.std.proofs.lemmas.Iterator.Consumers.{YieldsList-end}
 use Rattle.std.proofs.lemmas.Iterator.Adapters.{YieldsList-from_vec}
 use Rattle.std.proofs.lemmas.List.{map-id, map-append}
-use Rattle.ux_base.specs.Distinct.{with_text}
+use Rattle.ux_base.specs.Distinct.{GrowsBy, with_text}
+use Rattle.ux_base.proofs.FirstTextsLemmas.{GrowsBy-firsts}
+use Rattle.ux_grf.specs.Needs.{calls_of}
 use Rattle.ux_grammars.proofs.TableLemmas.{fold_push}
 use Rattle.ux_grammars.proofs.graphs.add_needs.Goals as goal
 
@@ -26,6 +28,9 @@ returns c =
     YieldsList-end (YieldsList-from_vec items gives.0 (gives.1 ∙ kept.0)) c.loop-name.yielded
     _ c.loop-name.yielded_by c.next.result c.next.new.self c.in-None.is c.next.ensures.steps in
     let same : c.loop-name.yielded ≡ items = sym (map-id c.loop-name.yielded) ∙ all.0 in
-    c.loop-name.invariant
-    ∙ ap (λ (l : List (List ℕ)). fold with_text c.args.names.now.keys l)
-    (ap (map string_bytes) same ∙ c.in_ok-name-items.ensures)
+    let old = c.args.names.now.keys in
+    let calls = calls_of c.args.graph.now in
+    subst (GrowsBy calls old)
+    (sym (c.loop-name.invariant
+    ∙ ap (λ (l : List (List ℕ)). fold with_text old l) (ap (map string_bytes) same)))
+    (GrowsBy-firsts calls (map string_bytes items) old c.in_ok-name-items.ensures)

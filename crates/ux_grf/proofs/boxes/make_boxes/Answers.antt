@@ -5,7 +5,7 @@ use Rattle.std.proofs.lemmas.List.{length-map}
 use Rattle.ux_grf.specs.declared.graph.GrfBox.{GrfBox}
 use Rattle.ux_grf.specs.BoxLine.{said_by}
 use Rattle.ux_grf.specs.Content.{IsMade}
-use Rattle.ux_grf.specs.File.{mark_at}
+use Rattle.ux_digraph.specs.Rules.{is_marked_at}
 use Rattle.ux_grf.proofs.ReadLemmas.{text_is}
 use Rattle.ux_grf.proofs.MadeLemmas.{made_more, bad_marked}
 use Rattle.ux_grf.proofs.boxes.make_boxes.Goals as goal
@@ -30,7 +30,7 @@ loop-node-preserved c =
       made = made_more (map said_by c.args.boxes.now) c.args.reached.now c.loop-node.made.items
           c.push.new.self.items c.loop-node.node c.in_ok-make_box.field-0
           c.loop-node.invariant.len c.loop-node.invariant.made
-          (subst (λ t. IsMade t c.loop-node.node (mark_at c.args.reached.now c.loop-node.node)
+          (subst (λ t. IsMade t c.loop-node.node (is_marked_at c.args.reached.now c.loop-node.node)
           c.in_ok-make_box.field-0)
           (text_is c.args.boxes.now c.loop-node.node c.index-boxes-node.result lt
           c.index-boxes-node.is) c.in_ok-make_box.ensures.made)

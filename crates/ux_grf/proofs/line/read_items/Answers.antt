@@ -17,12 +17,12 @@ returns-in-Bad-clause-bad c =
 
 pub loop-items-preserved : goal.loop-items-preserved
 loop-items-preserved c =
-    let is : begin_of c.loop-items.rest.now ≡ part c.in-Written.item c.in-Written.behind.now =
+    let is : begin_of c.loop-items.rest.now ≡ part c.in-Written.item c.in-Written.after.now =
     sym c.in_ok-read_start.ensures.begins ∙ ap begin_by c.in-Written.is in
     record {
       text = search rules;
       reads = reads_more c.args.text.now c.loop-items.items.items c.loop-items.rest.now
-          c.loop-items.invariant.reads c.in-Written.item c.in-Written.behind.now
+          c.loop-items.invariant.reads c.in-Written.item c.in-Written.after.now
           c.put.new.items.items is c.in_ok-put-in-Written.ensures;
       fails = λ left h. c.loop-items.invariant.fails left (fault_later is h);
       shorter = search rules;

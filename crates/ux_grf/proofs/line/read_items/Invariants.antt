@@ -9,8 +9,8 @@ use Rattle.ux_grf.proofs.line.read_items.Given as goal
 abbrev pub invariant-loop-items : goal.invariant-loop-items
 invariant-loop-items l = record {
   text : shadow (Utf8 l.rest);
-  reads : (later : List Item) (behind : List ℕ) → Reads l.rest later behind →
-      Reads l.text (l.items.items ++ later) behind;
+  reads : (later : List Item) (after : List ℕ) → Reads l.rest later after →
+      Reads l.text (l.items.items ++ later) after;
   fails : (left : List ℕ) → Fails l.rest left → Fails l.text left;
   shorter : length l.rest ≤ length l.text;
 }

@@ -7,7 +7,7 @@ pub returns-then-begins_with_mark-clause-line : goal.returns-then-begins_with_ma
 returns-then-begins_with_mark-clause-line c =
     IfOk-weaker c.read_marked.result _ _
     (λ line h. marked_line c.args.text.now c.skip_blanks-front.result.now
-    c.skip_blanks-front.ensures line.items.items line.behind.now
+    c.skip_blanks-front.ensures line.items.items line.after.now
     (sym c.if-begins_with_mark.ensures) h)
     c.read_marked.ensures.line
 
@@ -39,7 +39,7 @@ returns-in_err-line-clause-bad c =
 pub returns-clause-line : goal.returns-clause-line
 returns-clause-line c =
     items_line c.args.text.now c.skip_blanks-front.result.now c.skip_blanks-front.ensures
-    c.in_ok-line.line.items.items c.in_ok-fill_empty.field-0.items c.in_ok-line.line.behind.now
+    c.in_ok-line.line.items.items c.in_ok-fill_empty.field-0.items c.in_ok-line.line.after.now
     (sym c.if-begins_with_mark.ensures) c.in_ok-line.ensures.line c.in_ok-fill_empty.ensures
 
 pub returns-clause-ends : goal.returns-clause-ends

@@ -17,19 +17,19 @@ pub loop-lines-preserved : goal.loop-lines-preserved
 loop-lines-preserved c = record {
   text = search rules;
   lines = lines_more c.args.text.now c.loop-lines.rest.now c.loop-lines.lines.items
-      c.loop-lines.invariant.lines c.in_ok-line.line.items.items c.in_ok-line.line.behind.now
+      c.loop-lines.invariant.lines c.in_ok-line.line.items.items c.in_ok-line.line.after.now
       c.in_ok-line.ensures.line c.in-Some.next.now c.push.new.self.items c.in-Some.ensures.some
       (c.in_ok-push.ensures.items ∙ ap (λ (l : List Item). c.loop-lines.lines.items ++ l ∷ [])
       c.new.ensures);
   bad = bad_more c.args.text.now c.loop-lines.rest.now c.in_ok-line.line.items.items
-      c.in_ok-line.line.behind.now c.in-Some.next.now c.loop-lines.invariant.bad
+      c.in_ok-line.line.after.now c.in-Some.next.now c.loop-lines.invariant.bad
       c.in_ok-line.ensures.line c.in-Some.ensures.some;
 }
 
 pub returns-in-None-clause-lines : goal.returns-in-None-clause-lines
 returns-in-None-clause-lines c =
     lines_all c.args.text.now c.loop-lines.rest.now c.loop-lines.lines.items
-    c.loop-lines.invariant.lines c.in_ok-line.line.items.items c.in_ok-line.line.behind.now
+    c.loop-lines.invariant.lines c.in_ok-line.line.items.items c.in_ok-line.line.after.now
     c.in_ok-line.ensures.line c.last_output-output.result.now c.push.new.self.items c.last_output-output.ensures
     (c.in_ok-push.ensures.items ∙ ap (λ (l : List Item). c.loop-lines.lines.items ++ l ∷ [])
     c.new.ensures)

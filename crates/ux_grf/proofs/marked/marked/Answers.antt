@@ -2,5 +2,5 @@ use Rattle.std.proofs.Common.{arith}
 use Rattle.std.proofs.lemmas.Grind.{common_steps}
 use Rattle.ux_grf.proofs.marked.marked.Goals as goal
 
-pub behind-rest-requires-clause-inside : goal.behind-rest-requires-clause-inside
-behind-rest-requires-clause-inside c = grind (arith, common_steps)
+pub after-rest-requires-clause-inside : goal.after-rest-requires-clause-inside
+after-rest-requires-clause-inside c = grind (arith, common_steps)

@@ -1,10 +1,11 @@
-use Rattle.std.proofs.Common.{arith, sym, ◌∙◌, ap, ◌<◌, ◌≤◌, subst, length, List, Some, map, refl}
-use Rattle.std.proofs.lemmas.Result.{MatchResult-weaker}
+use Rattle.std.proofs.Common.{arith, sym, ◌∙◌, ap, ◌<◌, ◌≤◌, subst, length, List, map, refl}
+use Rattle.std.proofs.lemmas.Result.{IfOk-weaker, MatchResult-weaker}
 use Rattle.ux_grf.specs.declared.box_line.BoxLine.{BoxLine}
 use Rattle.ux_grf.specs.BoxLine.{said_by}
 use Rattle.ux_digraph.specs.Paths.{IsInside}
-use Rattle.ux_grf.specs.Header.{behind_header}
-use Rattle.ux_grf.proofs.ReadLemmas.{boxes_len, boxes_inside, texts_refuse}
+use Rattle.ux_grf.specs.Header.{after_header}
+use Rattle.ux_grf.specs.File.{Draws, IsGraphOf}
+use Rattle.ux_grf.proofs.ReadLemmas.{boxes_len, boxes_inside, has_texts, texts_refuse}
 use Rattle.ux_grf.proofs.read.read_graph.Goals as goal
 
 pub make_graph-requires-clause-two : goal.make_graph-requires-clause-two
@@ -28,15 +29,28 @@ make_graph-requires-clause-inside c =
     (boxes_inside c.in_ok-count.count _ c.in_ok-boxes.boxes.items c.in_ok-boxes.ensures.texts
     c.in_ok-boxes.ensures.good)
 
+-- what the file tells of its boxes
+pub returns-clause-ok : goal.returns-clause-ok
+returns-clause-ok c =
+    let texts = map said_by c.deref.result.now in
+    IfOk-weaker c.make_graph.result (Draws texts) (IsGraphOf c.args.text.now)
+    (λ graph drawn. (
+      texts,
+      has_texts c.args.text.now c.in_ok-count.count _ c.next_count.new.lines c.deref.result.now
+          c.in_ok-boxes.boxes.items
+          (ap after_header (sym c.lines-lines.ensures) ∙ c.if-not-skip_header.ensures.yes refl)
+          c.in_ok-count.ensures.count c.in_ok-boxes.ensures.good c.in_ok-boxes.ensures.texts
+          c.deref.ensures.value,
+      drawn,
+    ))
+    c.make_graph.ensures.draws
+
 pub returns-clause-err : goal.returns-clause-err
 returns-clause-err c =
     MatchResult-weaker c.make_graph.result c.make_graph.ensures.refused (λ g h. h)
-    (λ e h. texts_refuse c.args.text.now c.in_ok-count.count c.next_count.new.lines _ e
-    (record {
-      first = c.in_ok-count.ensures.count.0;
-      header = ap behind_header (sym c.lines-lines.ensures)
-          ∙ (c.if-not-skip_header.ensures.yes refl ∙ ap Some c.in_ok-count.ensures.count.1);
-      told = c.in_ok-count.ensures.count.2;
-    })
-    c.in_ok-boxes.ensures.good (ap (map said_by) c.deref.ensures.value
-    ∙ c.in_ok-boxes.ensures.texts) h)
+    (λ e h. texts_refuse c.args.text.now (map said_by c.deref.result.now) e
+    (has_texts c.args.text.now c.in_ok-count.count _ c.next_count.new.lines c.deref.result.now
+    c.in_ok-boxes.boxes.items
+    (ap after_header (sym c.lines-lines.ensures) ∙ c.if-not-skip_header.ensures.yes refl)
+    c.in_ok-count.ensures.count c.in_ok-boxes.ensures.good c.in_ok-boxes.ensures.texts
+    c.deref.ensures.value) h)

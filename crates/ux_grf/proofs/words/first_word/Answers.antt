@@ -9,13 +9,13 @@ range-requires-clause-end_boundary c =
     IsCharBoundary-before_ascii c.args.text.now c.in-Some.end c.in-Some.ensures.inside
     (gap_is_ascii c.args.gap _ c.in-Some.ensures.here)
 
-pub behind-requires-clause-ascii : goal.behind-requires-clause-ascii
-behind-requires-clause-ascii c = gap_is_ascii c.args.gap _ c.in-Some.ensures.here
+pub after-requires-clause-ascii : goal.after-requires-clause-ascii
+after-requires-clause-ascii c = gap_is_ascii c.args.gap _ c.in-Some.ensures.here
 
 pub returns-in-Some-clause-words : goal.returns-in-Some-clause-words
 returns-in-Some-clause-words c =
-    words_of-gap c.args.gap c.args.text.now c.range.result.now c.behind.result.now c.in-Some.end
-    c.in-Some.ensures c.range.ensures.value c.behind.ensures
+    words_of-gap c.args.gap c.args.text.now c.range.result.now c.after.result.now c.in-Some.end
+    c.in-Some.ensures c.range.ensures.value c.after.ensures
 
 pub returns-in-None-clause-words : goal.returns-in-None-clause-words
 returns-in-None-clause-words c =

@@ -1,19 +1,9 @@
 use Rattle.std.proofs.Common.{◌<◌, List, length, sym, subst, arith}
 use Rattle.std.proofs.lemmas.Grind.{common_steps}
 use Rattle.ux_net.specs.declared.state.State.{State}
-use Rattle.ux_net.specs.Words.{HaveSameWords}
-use Rattle.ux_net.specs.Places.{place_graph}
-use Rattle.ux_net.specs.Nets.{net_graph}
 use Rattle.ux_net.specs.Construct.{AreTargetsInside}
-use Rattle.ux_net.proofs.ConstructLaw.{built, construction_keeps_words, states_few, targets_inside}
+use Rattle.ux_net.proofs.ConstructLaw.{built, states_few, targets_inside}
 use Rattle.ux_net.proofs.construct.states.Goals as goal
-
-pub returns-clause-words : goal.returns-clause-words
-returns-clause-words c =
-    subst (λ (made : List State). HaveSameWords (place_graph c.args.places.now) (net_graph made))
-    (sym (built c.args.places.now c.requires c.chain_states.new.states.items
-    c.in_ok-states.states.items c.in_ok-chain_states.ensures c.in_ok-states.ensures))
-    (construction_keeps_words c.args.places.now c.requires)
 
 pub returns-clause-few : goal.returns-clause-few
 returns-clause-few c =

@@ -1,6 +1,7 @@
 use Rattle.std.proofs.Common.{◌≡◌, ◌+◌, length}
 use Rattle.ux_net.specs.Places.{IsEndPlace}
 use Rattle.ux_net.proofs.GainsLemmas.{gains_next, gains_done}
+use Rattle.ux_net.proofs.WaysExact.{gains_places}
 use Rattle.ux_net.proofs.freeness.push_graph_ends.Goals as goal
 
 pub loop-n-preserved : goal.loop-n-preserved
@@ -11,6 +12,7 @@ loop-n-preserved c =
 
 pub returns : goal.returns
 returns c =
-    gains_done c.args.ends.now.items c.loop-n.ends.items c.loop-n.n (length c.args.places.now)
+    gains_places c.args.places.now c.args.base c.args.ends.now.items c.loop-n.ends.items
+    (gains_done c.args.ends.now.items c.loop-n.ends.items c.loop-n.n (length c.args.places.now)
     (λ n x. IsEndPlace c.args.places.now n × (c.args.base + n ≡ x))
-    c.loop-n.auto.n-end c.loop-n-test.false c.loop-n.invariant
+    c.loop-n.auto.n-end c.loop-n-test.false c.loop-n.invariant)

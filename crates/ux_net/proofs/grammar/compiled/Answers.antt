@@ -9,8 +9,8 @@ use Rattle.ux_net.specs.Construct.{AreFit}
 use Rattle.ux_net.specs.Fit.{IsFit}
 use Rattle.ux_net.specs.Refusing.{drawn, drawn_of}
 use Rattle.ux_net.specs.Splitting.{IsSplittableBox}
-use Rattle.ux_net.proofs.AllFitLemmas.{all_fit, all_few, all_are_fit, each_is_fit, place_ranks, calls_inside}
-use Rattle.ux_net.proofs.BuiltLemmas.{constructed, box_words}
+use Rattle.ux_net.proofs.AllFitLemmas.{all_fit, all_few, all_are_fit, each_is_fit, calls_inside}
+use Rattle.ux_net.proofs.BuiltLemmas.{constructed, boxes_same}
 use Rattle.ux_net.proofs.CompileLemmas.{all_splittable}
 use Rattle.ux_net.proofs.MeasuredLaw.{built_is_sound}
 use Rattle.ux_net.proofs.MissingLemmas.{stand_once}
@@ -31,19 +31,22 @@ net_of-requires-clause-fit c =
     subst (λ (places : List (List Place)). All (IsFit (length places)) places)
     (sym c.deref.ensures.value)
     (all_fit c.args.alphabet.now c.args.graphs.now c.in_ok-places.places.items
-    c.requires.well_formed c.requires.small c.in_ok-places.ensures)
+    c.requires.well_formed c.requires.small c.in_ok-refuse_beyond.ensures.ok
+    c.in_ok-places.ensures)
 
 pub net_of-requires-clause-few : goal.net_of-requires-clause-few
 net_of-requires-clause-few c =
     subst (All (λ (p : List Place). length p ≤ 65535)) (sym c.deref.ensures.value)
     (all_few c.args.alphabet.now c.args.graphs.now c.in_ok-places.places.items
-    c.requires.well_formed c.requires.small c.in_ok-places.ensures)
+    c.requires.well_formed c.requires.small c.in_ok-refuse_beyond.ensures.ok
+    c.in_ok-places.ensures)
 
 pub net_of-requires-clause-are_fit : goal.net_of-requires-clause-are_fit
 net_of-requires-clause-are_fit c =
     subst (All AreFit) (sym c.deref.ensures.value)
     (all_are_fit c.args.alphabet.now c.args.graphs.now c.in_ok-places.places.items
-    c.requires.well_formed c.requires.small c.in_ok-places.ensures)
+    c.requires.well_formed c.requires.small c.in_ok-refuse_beyond.ensures.ok
+    c.in_ok-places.ensures)
 
 pub returns-clause-compilable : goal.returns-clause-compilable
 returns-clause-compilable c = on_ok_weaker c.net_of.result (λ admissible. record {
@@ -53,7 +56,8 @@ returns-clause-compilable c = on_ok_weaker c.net_of.result (λ admissible. recor
       boxes_admissible c.args.alphabet.now (drawn c.args.graphs.now) c.deref.result.now
       (stand_once c.args.graphs.now c.requires.distinct)
       (subst (AreSplit c.args.alphabet.now (drawn c.args.graphs.now))
-      (sym c.deref.ensures.value) c.in_ok-places.ensures) admissible;
+      (sym c.deref.ensures.value) c.in_ok-places.ensures) c.in_ok-refuse_beyond.ensures.ok
+      admissible;
 }) c.net_of.ensures.admissible
 
 pub returns-clause-built : goal.returns-clause-built
@@ -71,11 +75,12 @@ returns-clause-words c =
     subst (AreSplit c.args.alphabet.now (drawn c.args.graphs.now))
     (sym c.deref.ensures.value) c.in_ok-places.ensures in
     IfOk-weaker c.net_of.result _ _ (λ net of.
-    box_words c.deref.result.now of.ranks of.free net.items
+    boxes_same c.deref.result.now of.ranks of.free net.items
     (each_is_fit c.args.alphabet.now c.args.graphs.now c.deref.result.now
-    c.requires.well_formed c.requires.small are)
+    c.requires.well_formed c.requires.small c.in_ok-refuse_beyond.ensures.ok are)
     of.built c.args.alphabet.now (drawn c.args.graphs.now)
-    (stand_once c.args.graphs.now c.requires.distinct) are) c.net_of.ensures.built
+    (stand_once c.args.graphs.now c.requires.distinct) are c.in_ok-refuse_beyond.ensures.ok)
+    c.net_of.ensures.built
 
 pub returns-clause-sound : goal.returns-clause-sound
 returns-clause-sound c =
@@ -84,7 +89,7 @@ returns-clause-sound c =
     subst (AreSplit c.args.alphabet.now (drawn c.args.graphs.now))
     (sym c.deref.ensures.value) c.in_ok-places.ensures in
     let fit = all_fit c.args.alphabet.now c.args.graphs.now places
-    c.requires.well_formed c.requires.small are in
+    c.requires.well_formed c.requires.small c.in_ok-refuse_beyond.ensures.ok are in
     let count = are.count in
     let same = length-map c.args.graphs.now drawn_of in
     let some = c.requires.some in
@@ -92,10 +97,8 @@ returns-clause-sound c =
     IfOk-weaker c.net_of.result _ _ (λ net of.
     built_is_sound places of.ranks of.free net.items
     (each_is_fit c.args.alphabet.now c.args.graphs.now places
-    c.requires.well_formed c.requires.small are)
-    (calls_inside places of.ranks of.free fit of.ranked)
-    (place_ranks places of.ranks of.free fit of.ranked)
-    of.built (omega (arith, count, same, some)) (omega (arith, count, same, few)))
+    c.requires.well_formed c.requires.small c.in_ok-refuse_beyond.ensures.ok are)
+    (calls_inside places fit) of.ranked of.built (omega (arith, count, same, some)) (omega (arith, count, same, few)))
     c.net_of.ensures.built
 
 pub returns-clause-err : goal.returns-clause-err
@@ -103,8 +106,8 @@ returns-clause-err c = IfErr-weaker c.net_of.result _ _ (λ error refuses.
     refused c.args.alphabet.now (drawn c.args.graphs.now) c.deref.result.now
     (stand_once c.args.graphs.now c.requires.distinct)
     (subst (AreSplit c.args.alphabet.now (drawn c.args.graphs.now))
-    (sym c.deref.ensures.value) c.in_ok-places.ensures) error
-    c.in_ok-refuse_missing.ensures.ok c.in_ok-refuse_beyond.ensures.ok refuses)
+    (sym c.deref.ensures.value) c.in_ok-places.ensures) c.in_ok-refuse_beyond.ensures.ok error
+    c.in_ok-refuse_missing.ensures.ok refuses)
     c.net_of.ensures.err
 
 pub split_graphs-requires-clause-few : goal.split_graphs-requires-clause-few

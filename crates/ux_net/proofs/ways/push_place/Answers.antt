@@ -1,32 +1,45 @@
-use Rattle.std.proofs.Common.{ℕ, ◌<◌, List, length, subst, sym}
-use Rattle.std.specs.Prelude.{All}
-use Rattle.ux_net.specs.Listed.{IsPlaceWay, IsSourceWay, step_from}
-use Rattle.ux_net.proofs.GainsLemmas.{gains_as}
-use Rattle.ux_net.proofs.StepsLemmas.{targets_inside}
+use Rattle.std.proofs.Common.{arith, ◌≡◌, ◌<◌, ◌∙◌, ℕ, List, ap, get_or, length, subst, sym}
+use Rattle.ux_net.specs.declared.place.Place.{Place}
+use Rattle.ux_net.specs.Places.{places_of, place_targets}
+use Rattle.ux_net.specs.Gains.{Gains}
+use Rattle.ux_net.proofs.GainsLemmas.{gains_next, gains_done}
+use Rattle.ux_net.proofs.WaysExact.{IsWayTo, gains_from, target_at}
 use Rattle.ux_net.proofs.ways.push_place.Goals as goal
 
-pub push_source-requires-clause-inside : goal.push_source-requires-clause-inside
-push_source-requires-clause-inside c =
-    subst (λ (targets : List ℕ). All (λ target. target < length c.args.places.now) targets)
-    (sym c.targets_of.ensures)
-    (targets_inside _ c.args.places.now c.requires.fit c.args.source)
+pub push_target-requires-clause-target : goal.push_target-requires-clause-target
+push_target-requires-clause-target c =
+    let places = places_of c.args.graphs.now c.args.graph in
+    let targets = place_targets places c.args.source in
+    let same : c.targets_of-target-items.result.now ≡ targets = c.targets_of-target-items.ensures
+    ∙ ap (λ (ps : List Place). place_targets ps c.args.source) c.places_of.ensures in
+    let len = ap (λ (ts : List ℕ). length ts) same in
+    let below = c.loop-target-test.true in
+    subst (λ (ts : List ℕ). get_or ts c.loop-target.target-index 0 < length places) (sym same)
+    (target_at c.args.graphs.now c.requires.fit c.args.graph c.args.source
+    c.loop-target.target-index c.requires.from c.requires.to (omega (arith, len, below)))
+
+pub loop-target-preserved : goal.loop-target-preserved
+loop-target-preserved c =
+    let targets = place_targets (places_of c.args.graphs.now c.args.graph) c.args.source in
+    let same : c.targets_of-target-items.result.now ≡ targets = c.targets_of-target-items.ensures
+    ∙ ap (λ (ps : List Place). place_targets ps c.args.source) c.places_of.ensures in
+    gains_next c.args.ways.now.items c.loop-target.ways.items c.push_target.new.ways.items
+    c.loop-target.target-index
+    (λ k. IsWayTo c.args.graphs.now c.args.graph c.args.source (get_or targets k 0))
+    c.loop-target.invariant
+    (subst (λ (ts : List ℕ). Gains c.loop-target.ways.items c.push_target.new.ways.items
+    (IsWayTo c.args.graphs.now c.args.graph c.args.source
+    (get_or ts c.loop-target.target-index 0))) same c.in_ok-push_target.ensures)
 
 pub returns : goal.returns
 returns c =
-    gains_as c.args.ways.now.items c.push_source.new.ways.items
-    (IsSourceWay c.args.offsets.now c.args.base c.args.places.now
-    (step_from c.args.graph c.args.base c.args.source) c.targets_of.result.now)
-    (IsPlaceWay c.args.offsets.now c.args.graph c.args.base c.args.places.now c.args.source)
-    (λ way. (
-      λ s. (
-        c.if-source-eq1.false,
-        subst (λ (targets : List ℕ). IsSourceWay c.args.offsets.now
-            c.args.base c.args.places.now (step_from c.args.graph c.args.base c.args.source)
-            targets way)
-            c.targets_of.ensures s,
-      ),
-      λ p. subst (λ (targets : List ℕ). IsSourceWay c.args.offsets.now c.args.base
-          c.args.places.now (step_from c.args.graph c.args.base c.args.source)
-          targets way)
-          (sym c.targets_of.ensures) p.1,
-    )) c.in_ok-push_source.ensures
+    let targets = place_targets (places_of c.args.graphs.now c.args.graph) c.args.source in
+    let same : c.targets_of-target-items.result.now ≡ targets = c.targets_of-target-items.ensures
+    ∙ ap (λ (ps : List Place). place_targets ps c.args.source) c.places_of.ensures in
+    let len = ap (λ (ts : List ℕ). length ts) same in
+    gains_from c.args.graphs.now c.args.ways.now.items c.loop-target.ways.items c.args.graph
+    c.args.source c.if-source-eq1.false
+    (gains_done c.args.ways.now.items c.loop-target.ways.items c.loop-target.target-index
+    (length targets)
+    (λ k. IsWayTo c.args.graphs.now c.args.graph c.args.source (get_or targets k 0))
+    (omega (arith, len)) (omega (arith, len)) c.loop-target.invariant)

@@ -1,19 +1,13 @@
-use Rattle.std.proofs.Common.{List, [], subst}
+use Rattle.std.proofs.Common.{List, subst}
 use Rattle.ux_net.specs.declared.way.Way.{Way}
 use Rattle.ux_net.specs.Gains.{Gains}
 use Rattle.ux_net.specs.Ways.{IsWay}
-use Rattle.ux_net.specs.Listed.{IsListedWay}
-use Rattle.ux_net.proofs.GainsLemmas.{gains_as, gains_all}
-use Rattle.ux_net.proofs.ListedExact.{listed_exactly}
+use Rattle.ux_net.proofs.GainsLemmas.{gains_all}
 use Rattle.ux_net.proofs.ways.ways_of.Goals as goal
 
 pub returns : goal.returns
 returns c = record {
   exact = gains_all c.push_graphs.new.ways.items (IsWay c.args.graphs.now)
-      (gains_as [] c.push_graphs.new.ways.items (IsListedWay c.args.offsets.now c.args.graphs.now)
-      (IsWay c.args.graphs.now) (listed_exactly c.args.graphs.now c.requires.fit
-      c.args.offsets.now c.requires.offsets)
       (subst (λ (ways : List Way). Gains ways c.push_graphs.new.ways.items
-      (IsListedWay c.args.offsets.now c.args.graphs.now)) c.new-ways.ensures.items
-      c.in_ok-push_graphs.ensures));
+      (IsWay c.args.graphs.now)) c.new-ways.ensures.items c.in_ok-push_graphs.ensures);
 }

@@ -41,7 +41,7 @@ returns c =
           (IsCompoundLine tokens tables) compound c.lines_ascend-2.ensures
           c.in_ok-compound.ensures
           (compound-exact tokens tables places words applied.0 applied.1 applied.2 c.len.result
-          c.len.ensures);
+          c.len.ensures.len);
       unknown_lines = lines-are (FromSome tables.unknown (IsText tokens places))
           (IsUnknownLine tokens tables) unknown c.lines_ascend-3.ensures
           (subst (λ (l : List (Option ℕ)). HasMore [] (FromSome tables.unknown (IsText tokens l))

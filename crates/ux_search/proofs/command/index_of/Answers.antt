@@ -1,6 +1,6 @@
 use Rattle.std.proofs.Common.{◌∙◌, ℕ, List, Vec, Global, ap, subst, sym}
 use Rattle.ux_net.specs.Nets.{net_grammar}
-use Rattle.ux_search.specs.declared.searching.Span.{Span}
+use Rattle.ux_outputs.specs.declared.span.Span.{Span}
 use Rattle.ux_search.specs.Searching.{ListsSpans}
 use Rattle.ux_search.specs.Spans.{IsSpan}
 use Rattle.ux_search.proofs.Indexing.{index_of_spans, spans_in_order, spans_within}

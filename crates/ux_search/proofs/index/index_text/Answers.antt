@@ -1,6 +1,6 @@
 use Rattle.std.proofs.Common.{sym, arith}
 use Rattle.std.proofs.lemmas.Grind.{common_steps}
-use Rattle.ux_search.specs.declared.searching.Span.{Span}
+use Rattle.ux_outputs.specs.declared.span.Span.{Span}
 use Rattle.ux_search.proofs.IndexLemmas.{index_more}
 use Rattle.ux_search.proofs.index.index_text.Goals as goal
 

@@ -1,7 +1,7 @@
 use Rattle.std.proofs.Common.{◌≡◌, sym, subst, ◌<◌}
 use Rattle.std.specs.Prelude.{OnOk, Result, Ok, Err}
 use Rattle.std.specs.declared.alloc.AllocError.{AllocError}
-use Rattle.ux_walk.specs.Ends.{Includes, IsEndOf}
+use Rattle.ux_walk.specs.Noting.{Includes, IsEndOf}
 use Rattle.ux_walk.proofs.Collecting.{includes_alike}
 use Rattle.ux_walk.proofs.ends.add_end.Goals as goal
 

@@ -1,6 +1,6 @@
 use Rattle.std.proofs.Common.{List, [], ℕ, subst, sym, inl, inr}
 use Rattle.std.specs.Prelude.{Contains}
-use Rattle.ux_walk.specs.Ends.{IsEndOf}
+use Rattle.ux_walk.specs.Noting.{IsEndOf}
 use Rattle.ux_walk.proofs.Collecting.{includes_more, includes_all, none_in}
 use Rattle.ux_walk.proofs.ends.end_positions.Goals as goal
 

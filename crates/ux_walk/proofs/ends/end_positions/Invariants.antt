@@ -1,5 +1,5 @@
 use Rattle.std.proofs.Common.{take, [], List, ℕ}
-use Rattle.ux_walk.specs.Ends.{Includes, IsEndOf}
+use Rattle.ux_walk.specs.Noting.{Includes, IsEndOf}
 use Rattle.ux_walk.proofs.Collecting.{Among}
 use Rattle.ux_walk.proofs.ends.end_positions.Given as goal
 

@@ -1,7 +1,7 @@
 use Rattle.std.proofs.Common.{take}
 use Rattle.std.specs.Prelude.{Contains}
 use Rattle.ux_net.specs.declared.state.Edge.{Edge}
-use Rattle.ux_walk.specs.Fronts.{IsLiteral}
+use Rattle.ux_walk.specs.Literals.{IsLiteral}
 use Rattle.ux_walk.proofs.literals.are_literals.Given as goal
 
 -- those so far are

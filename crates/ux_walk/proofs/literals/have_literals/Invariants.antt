@@ -3,7 +3,7 @@ use Rattle.std.specs.Prelude.{Contains, Some, slice_get}
 use Rattle.ux_net.specs.declared.state.Edge.{Edge}
 use Rattle.ux_net.specs.declared.state.State.{State}
 use Rattle.ux_net.specs.Nets.{states_of}
-use Rattle.ux_walk.specs.Fronts.{IsLiteral}
+use Rattle.ux_walk.specs.Literals.{IsLiteral}
 use Rattle.ux_walk.proofs.literals.have_literals.Given as goal
 
 -- those of the states so far are

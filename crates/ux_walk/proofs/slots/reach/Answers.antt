@@ -1,5 +1,5 @@
 use Rattle.std.proofs.Common.{subst, sym}
-use Rattle.ux_walk.specs.Turns.{HasValue}
+use Rattle.ux_walk.specs.Transitions.{HasValue}
 use Rattle.ux_walk.proofs.SlotsLemmas.{added_none}
 use Rattle.ux_walk.proofs.slots.reach.Goals as goal
 

@@ -1,5 +1,5 @@
 use Rattle.std.proofs.Common.{◌↔◌, ◌+◌, ◌-◌, ℕ, length}
-use Rattle.ux_walk.specs.Turns.{HasValue}
+use Rattle.ux_walk.specs.Transitions.{HasValue}
 use Rattle.ux_walk.proofs.slots.reach.Given as goal
 
 -- what was added has no value
@@ -7,6 +7,6 @@ abbrev pub invariant-loop-slots : goal.invariant-loop-slots
 invariant-loop-slots g l = (n : ℕ) (v : g.row.V.Denot) →
     HasValue l.slots.items n v ↔ HasValue l.fn.slots.items n v
 
--- each turn adds a place
+-- each round adds a place
 abbrev pub decreases-loop-slots : goal.decreases-loop-slots
 decreases-loop-slots g l = l.number + 1 - length l.slots.items

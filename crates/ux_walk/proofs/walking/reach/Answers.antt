@@ -1,4 +1,9 @@
 use Rattle.std.proofs.Common.{arith, ◌≡◌, ◌<◌, ◌≤◌, ℕ, zero, suc, Bool, true, false, length}
+use Rattle.ux_net.specs.Nets.{net_grammar}
+use Rattle.ux_meaning.specs.Meaning.{RefusesBy}
+use Rattle.ux_meaning.specs.Texts.{bare_text}
+use Rattle.ux_walk.specs.Configurations.{IsFoundAs}
+use Rattle.ux_walk.proofs.LevelsLemmas.{at_each_level}
 use Rattle.ux_walk.proofs.Rounds.{walking_begins, walking_round, walking_ends, greatest_falls}
 use Rattle.ux_walk.proofs.walking.reach.Goals as goal
 
@@ -9,30 +14,42 @@ none_left (suc n) b some off = let yes : b ≡ true = some (omega arith) in cc
 pub loop-alloc-init : goal.loop-alloc-init
 loop-alloc-init c = record {
   sound = c.step.ensures.sound;
-  walking = walking_begins c.args.alphabet.now c.args.text.now c.args.net.now
-      c.args.start c.requires.measured c.args.reached.now c.step.new.self
+  walking = λ n. walking_begins c.args.alphabet.now c.args.text.now c.args.net.now
+      (RefusesBy (bare_text c.args.alphabet.now c.args.text.now) (net_grammar c.args.net.now) n)
+      c.args.start c.requires.measured c.is_plain.ensures c.args.reached.now c.step.new.self
       c.requires.nothing.frames c.requires.nothing.events c.requires.nothing.pending
       c.requires.nothing.found c.requires.inside c.in_ok-step.ensures.adds;
 }
 
 pub loop-alloc-smaller : goal.loop-alloc-smaller
 loop-alloc-smaller c = greatest_falls c.args.alphabet.now c.args.text.now c.args.net.now
-    c.args.start c.requires.measured c.loop-alloc.reached c.round.new.self
-    c.loop-alloc.invariant.walking
-    (c.in_ok-round.ensures.round c.loop-alloc.invariant.walking.sound)
+    (RefusesBy (bare_text c.args.alphabet.now c.args.text.now) (net_grammar c.args.net.now) 0)
+    c.args.start c.requires.measured c.is_plain.ensures c.loop-alloc.reached c.round.new.self
+    (c.loop-alloc.invariant.walking 0)
+    (c.in_ok-round.ensures.round (c.loop-alloc.invariant.walking 0).sound)
     (c.is_pending.ensures.0 c.loop-alloc-test.true)
 
 pub loop-alloc-preserved : goal.loop-alloc-preserved
 loop-alloc-preserved c = record {
   sound = c.round.ensures.sound;
-  walking = walking_round c.args.alphabet.now c.args.text.now c.args.net.now
-      c.args.start c.requires.measured c.loop-alloc.reached c.round.new.self
-      c.loop-alloc.invariant.walking
-      (c.in_ok-round.ensures.round c.loop-alloc.invariant.walking.sound);
+  walking = λ n. walking_round c.args.alphabet.now c.args.text.now c.args.net.now
+      (RefusesBy (bare_text c.args.alphabet.now c.args.text.now) (net_grammar c.args.net.now) n)
+      c.args.start c.requires.measured c.is_plain.ensures c.loop-alloc.reached c.round.new.self
+      (c.loop-alloc.invariant.walking n)
+      (c.in_ok-round.ensures.round (c.loop-alloc.invariant.walking n).sound);
 }
 
+pub returns-clause-named : goal.returns-clause-named
+returns-clause-named c = (c.loop-alloc.invariant.walking 0).sound
+
 pub returns-clause-exactly : goal.returns-clause-exactly
-returns-clause-exactly c = walking_ends c.args.alphabet.now c.args.text.now c.args.net.now
-    c.args.start c.requires.measured c.loop-alloc.reached c.loop-alloc.invariant.walking
-    (none_left (length c.loop-alloc.reached.pending.keys) c.is_pending.result
-    c.is_pending.ensures.1 c.loop-alloc-test.false)
+returns-clause-exactly c = λ end events.
+    let input = bare_text c.args.alphabet.now c.args.text.now in
+    let grammar = net_grammar c.args.net.now in
+    let none = none_left (length c.loop-alloc.reached.pending.keys) c.is_pending.result
+    c.is_pending.ensures.1 c.loop-alloc-test.false in
+    at_each_level input grammar 1 c.args.start end events
+    (IsFoundAs c.loop-alloc.reached end events)
+    (λ n. walking_ends c.args.alphabet.now c.args.text.now c.args.net.now
+    (RefusesBy input grammar n) c.args.start c.requires.measured c.is_plain.ensures
+    c.loop-alloc.reached (c.loop-alloc.invariant.walking n) none end events)

@@ -1,16 +1,20 @@
-use Rattle.std.proofs.Common.{length}
+use Rattle.std.proofs.Common.{ℕ, length}
 use Rattle.ux_tokens.specs.Numbers.{different_texts}
+use Rattle.ux_net.specs.Nets.{net_grammar}
+use Rattle.ux_meaning.specs.Meaning.{RefusesBy}
+use Rattle.ux_meaning.specs.Texts.{bare_text}
 use Rattle.ux_walk.specs.Configurations.{frames_of}
 use Rattle.ux_walk.specs.LookUps.{AreSound}
 use Rattle.ux_walk.proofs.Rounds.{Walking}
 use Rattle.ux_walk.proofs.Weights.{greatest}
 use Rattle.ux_walk.proofs.walking.reach.Given as goal
 
--- what was found, and what the pending configurations give, is all that is derived
+-- what was found, and what the pending configurations give, is all that each level derives
 abbrev pub invariant-loop-alloc : goal.invariant-loop-alloc
 invariant-loop-alloc l = record {
   sound : AreSound l.alphabet l.net (different_texts l.text) l.look_ups;
-  walking : Walking l.alphabet l.text l.net l.start l.reached;
+  walking : (n : ℕ) → Walking l.alphabet l.text l.net
+      (RefusesBy (bare_text l.alphabet l.text) (net_grammar l.net) n) l.start l.reached;
 }
 
 -- the greatest weight of a pending configuration falls

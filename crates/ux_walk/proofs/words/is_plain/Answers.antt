@@ -4,7 +4,7 @@ use Rattle.std.specs.Str.Iter.{chars_rest}
 use Rattle.std.proofs.lemmas.List.{drop_all}
 use Rattle.std.proofs.lemmas.List.Elements.{All-nil}
 use Rattle.std.proofs.lemmas.Str.{IsUtf8-past_char, chars-nil}
-use Rattle.ux_walk.specs.Fronts.{IsPlainChar}
+use Rattle.ux_walk.specs.Literals.{IsPlainChar}
 use Rattle.ux_walk.proofs.FittedLemmas.{all_turn}
 use Rattle.ux_walk.proofs.words.is_plain.Goals as goal
 

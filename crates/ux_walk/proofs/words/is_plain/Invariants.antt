@@ -1,7 +1,7 @@
 use Rattle.std.proofs.Common.{All}
 use Rattle.std.specs.Str.{IsUtf8, chars}
 use Rattle.std.specs.Str.Iter.{chars_rest}
-use Rattle.ux_walk.specs.Fronts.{IsPlainChar}
+use Rattle.ux_walk.specs.Literals.{IsPlainChar}
 use Rattle.ux_walk.proofs.words.is_plain.Given as goal
 
 -- all characters are plain where those that are left are

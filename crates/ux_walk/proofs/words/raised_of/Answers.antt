@@ -1,6 +1,6 @@
 use Rattle.std.proofs.Common.{◌≡◌, ◌+◌, ◌++◌, ◌∷◌, [], Bor, List, ℕ, map, subst, sym, arith}
 use Rattle.std.proofs.lemmas.Grind.{common_steps}
-use Rattle.ux_walk.specs.Fronts.{AreRaised}
+use Rattle.ux_walk.specs.Literals.{AreRaised}
 use Rattle.ux_walk.proofs.RaisedLemmas.{AreRaisedBefore, raised_all, raised_listed, raised_plain}
 use Rattle.ux_walk.proofs.words.raised_of.Goals as goal
 use Rattle.ux_walk.proofs.words.raised_of.Goals.{then-not-is_plain+in_ok-push, else-not-is_plain}

@@ -1,6 +1,6 @@
 use Rattle.std.proofs.Common.{◌↔◌, ◌≡◌, ◌+◌, ◌++◌, ◌∷◌, [], ℕ, List, Some, Contains, get_or, subst, sym, true}
 use Rattle.ux_tokens.specs.Numbers.{texts_in}
-use Rattle.ux_walk.specs.Fronts.{AreCounted, IsFitted}
+use Rattle.ux_walk.specs.Literals.{AreCounted, IsFitted}
 use Rattle.ux_walk.proofs.RaisedLemmas.{AreListed, first_found, first_none, listed_all, listed_more, listed_none, listed_not}
 use Rattle.ux_walk.proofs.FittedLemmas.{all_fitted}
 use Rattle.ux_walk.proofs.words.Words.numbers.Goals as goal

@@ -1,6 +1,6 @@
 use Rattle.std.proofs.Common.{List, ℕ}
 use Rattle.ux_tokens.specs.Numbers.{texts_in}
-use Rattle.ux_walk.specs.Fronts.{AreReady, IsFitted}
+use Rattle.ux_walk.specs.Literals.{AreReady, IsFitted}
 use Rattle.ux_walk.proofs.RaisedLemmas.{AreListed}
 use Rattle.ux_walk.proofs.words.Words.numbers.Given as goal
 
