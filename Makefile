@@ -46,6 +46,7 @@ bench:
 	@bench/tokenize.py
 	@bench/check.py
 	@bench/dico.py
+	@bench/masks.py
 
 gate:
 	@rt ci

@@ -80,4 +80,5 @@ def main():
             print(f"  {name:12}  {seconds:.3f} s  {memory / 1e6:.1f} MB  {memory / both:.1f} of the two files")
 
 
-main()
+if __name__ == "__main__":
+    main()

@@ -5,6 +5,8 @@ mod encodings;
 mod fakes;
 mod grammars;
 mod letters;
+mod mask_refusals;
+mod masks;
 mod plain;
 mod refusals;
 mod reports;

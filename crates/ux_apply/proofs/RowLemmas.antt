@@ -1,6 +1,6 @@
 -- Rows of compound entries, of which only those with an entry are kept.
-use Rattle.std.proofs.Common.{arith, below_more, ◌≡◌, ◌≢◌, ℕ, zero, suc, ◌+◌, ◌<◌, ◌≤◌, List, [], ◌∷◌, ◌++◌, length, get_or, take, refl, sym, ◌∙◌, ap, subst}
-use Rattle.std.specs.Prelude.{Option, Some, IsSomeAnd, Vec, slice_get}
+use Rattle.std.proofs.Common.{arith, below_more, ◌≡◌, ◌≢◌, ℕ, zero, suc, ◌+◌, ◌<◌, ◌≤◌, List, [], ◌∷◌, ◌++◌, length, get_or, map, take, refl, sym, ◌∙◌, ap, subst}
+use Rattle.std.specs.Prelude.{All, Option, Some, IsSomeAnd, Vec, slice_get}
 use Rattle.std.specs.BTreeMap.{BTreeMap, is_at}
 use Rattle.std.specs.Map.{lookup}
 use Rattle.std.specs.Ordering.{nat_cmp}
@@ -8,11 +8,13 @@ use Rattle.std.specs.List.{AllZip}
 use Rattle.std.proofs.lemmas.List.{length_push, get_or_push, get_or_append_left}
 use Rattle.std.proofs.lemmas.Option.{same_Some, slice_get_within, slice_get-get_or, get_or_from_slice_get}
 use Rattle.ux_alphabet.specs.Letters.{Letters}
+use Rattle.std.proofs.lemmas.List.Elements.{All-append, All-map}
+use Rattle.ux_dela.specs.Sound.{IsSound}
 use Rattle.ux_dela.specs.declared.entry.Entry.{Entry}
 use Rattle.ux_tokens.specs.Tokens.{Token}
 use Rattle.ux_apply.specs.declared.priority.Priority.{Priority}
 use Rattle.ux_apply.specs.Tables.{IsCompoundRow, AreCompounds}
-use Rattle.ux_apply.specs.Kept.{AreRowsUpTo, items_in, row_of, table_of}
+use Rattle.ux_apply.specs.Kept.{AreRowsUpTo, AreSoundMembers, items_in, row_of, table_of}
 use Rattle.ux_apply.proofs.ZipLemmas.{zip-more}
 
 module _ {X : Type 0} (at : ℕ → X) where
@@ -94,8 +96,17 @@ rows-whole alphabet dics tokens rows end long all = record {
       (all.each first (omega (arith, at.0, long)));
 }
 
+-- sound entries behind sound ones
+pub sound-more : (last : ℕ) (row : List (ℕ × Entry)) (entries : List Entry) → AreSoundMembers row →
+    All IsSound entries → AreSoundMembers (row ++ map (λ entry. (last, entry)) entries)
+sound-more last row entries before sound =
+    let mark : Entry → ℕ × Entry = λ e. (last, e) in
+    let IsSoundMember : ℕ × Entry → Type 0 = λ m. IsSound m.1 in
+    All-append IsSoundMember row (map mark entries) before
+    (All-map IsSoundMember mark entries sound)
+
 -- what stands at a place
-some-at : {A : Type 0} (xs : List A) (i : ℕ) → i < length xs → (x : A) × (slice_get xs i ≡ Some x)
+pub some-at : {A : Type 0} (xs : List A) (i : ℕ) → i < length xs → (x : A) × (slice_get xs i ≡ Some x)
 some-at [] i lt = absurd (omega (arith, lt))
 some-at (x ∷ xs) zero lt = (x, refl)
 some-at (x ∷ xs) (suc i) lt = some-at xs i (omega (arith, lt))

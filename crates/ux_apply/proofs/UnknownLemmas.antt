@@ -1,15 +1,16 @@
 -- Words without a simple entry, as their numbers are collected, and as the tables tell them.
-use Rattle.std.proofs.Common.{arith, rules, ◌≡◌, ◌↔◌, ◌⊎◌, ℕ, ◌+◌, ◌<◌, Bool, true, false, cond, List, [], ◌∷◌, ◌++◌, length, get_or, take, refl, sym, ◌∙◌, ap, subst, inl, inr}
-use Rattle.std.specs.Prelude.{Option, Some, None, IsSomeAnd, Contains, Vec, slice_get}
+use Rattle.std.proofs.Common.{arith, rules, ◌≡◌, ◌↔◌, ◌⊎◌, ℕ, ◌+◌, ◌<◌, ◌≤◌, Bool, true, false, cond, List, [], ◌∷◌, ◌++◌, length, get_or, map, set, take, refl, sym, ◌∙◌, ap, subst, inl, inr}
+use Rattle.std.specs.Prelude.{Option, Some, None, IfSome, IsSomeAnd, Contains, Vec, slice_get}
 use Rattle.std.specs.List.{AllZip}
 use Rattle.std.specs.List.Sorted.{IsStrictlyIncreasing}
 use Rattle.std.specs.Ordering.{nat_cmp}
 use Rattle.std.specs.Cmp.{nat_cmp_total}
 use Rattle.std.specs.BTreeMap.{BTreeMap, is_at}
 use Rattle.std.specs.BTreeSet.{BTreeSet, contains, Updates}
+use Rattle.std.proofs.lemmas.Bool.Decides.{eqb_tells}
 use Rattle.std.proofs.lemmas.Map.Lookups.{exact_unsigned}
 use Rattle.std.proofs.lemmas.Map.Views.{btree_set_contains_iff}
-use Rattle.std.proofs.lemmas.List.{take_more, take_all}
+use Rattle.std.proofs.lemmas.List.{get_or-set_other, length-map, take_more, take_all}
 use Rattle.std.proofs.lemmas.List.Elements.{Contains-append_left, Contains-push, Contains-push_cases}
 use Rattle.std.proofs.lemmas.Option.{slice_get_within, slice_get-get_or, get_or_from_slice_get}
 use Rattle.ux_alphabet.specs.Letters.{Letters}
@@ -19,11 +20,12 @@ use Rattle.ux_tokens.specs.declared.kind.Kind.TheVariants.{Word}
 use Rattle.ux_tokens.specs.Tokens.{Token}
 use Rattle.ux_tokens.specs.Numbers.{different_texts}
 use Rattle.ux_tokens.proofs.DistinctLemmas.{different_texts-once}
+use Rattle.ux_base.proofs.DistinctLemmas.{length-each_once}
 use Rattle.ux_apply.specs.declared.priority.Priority.{Priority}
 use Rattle.ux_apply.specs.Applying.{AreApplying}
 use Rattle.ux_apply.specs.Tables.{AreOwnSimple, AreSimpleOf, AreSimple, AreUnknown, IsUnknown}
 use Rattle.ux_apply.specs.Kept.{AreRowsUpTo, IsOwnRow, IsWordNumber, items_in, row_at, row_by, row_of, simple_at, table_of}
-use Rattle.ux_apply.specs.Unknown.{HasNoRow, IsWithoutRow}
+use Rattle.ux_apply.specs.Unknown.{AreMarkedIn, HasNoRow, IsWithoutRow}
 use Rattle.ux_apply.proofs.OwnLemmas.{simple-own}
 use Rattle.ux_apply.proofs.RowLemmas.{table-at, table-row, zip-table}
 use Rattle.ux_apply.proofs.ZipLemmas.{zip-at, zip-back, zip-length, zip-more}
@@ -63,6 +65,15 @@ Contains-insert s n at number update = (
         ∙ (sym (update.0 number) ∙ has) in
         inl ((reads s number).0 old)
 
+-- the number that was put last may be marked too
+pub one_marked : (marks : List Bool) (s n : BTreeSet ℕ) (at : ℕ) → Updates nat_cmp s n at true →
+    AreMarkedIn marks s.keys → AreMarkedIn (set marks at true) n.keys
+one_marked marks s n at update marked number is = elim (eqb_tells number at) [
+  | inl same ↦ (Contains-insert s n at number update).1 (inr (sym same.1))
+  | inr differ ↦ (Contains-insert s n at number update).1
+      (inl (marked number (sym (get_or-set_other marks at number true false differ.1) ∙ is)))
+]
+
 module _ {Z : Type 0} (rows : List (Vec Entry Z)) (words : List (Option ℕ)) where
   -- the set has the numbers of one word more
   pub unknown-more : (old new : List ℕ) (i : ℕ) (d : Option ℕ) → i < length words →
@@ -95,6 +106,17 @@ pub word_has : (texts : List (List ℕ)) (number : ℕ) (o : Option Token) →
     IsSomeAnd o (λ t. (t.kind ≡ Word) × (slice_get texts number ≡ Some t.text))
 word_has texts number None kind at = absurd kind
 word_has texts number (Some token) kind at = (sym kind, at)
+
+-- the number of a word is below that of none
+pub few_words : (tokens : List Token) → length tokens ≤ 67108864 → (word : Option ℕ) →
+    IfSome word (λ number. number < length (different_texts tokens)) →
+    IfSome word (λ number. number < 4294967295)
+few_words tokens few None below = below
+few_words tokens few (Some number) below =
+    let texts = map (λ (t : Token). t.text) tokens in
+    let once = length-each_once texts in
+    let long = length-map tokens (λ (t : Token). t.text) in
+    omega (arith, below, once, long, few)
 
 -- the numbers of one token more
 pub words-more : (tokens : List Token) (i : ℕ) (numbers all_new : List (Option ℕ))

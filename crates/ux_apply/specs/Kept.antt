@@ -4,6 +4,7 @@ use Rattle.std.specs.Prelude.{◌≡◌, ◌≢◌, ◌⊎◌, ℕ, zero, suc, �
 use Rattle.std.specs.BTreeMap.{BTreeMap, get}
 use Rattle.std.specs.Ordering.{nat_cmp}
 use Rattle.ux_alphabet.specs.Letters.{Letters}
+use Rattle.ux_dela.specs.Sound.{IsSound}
 use Rattle.ux_dela.specs.declared.entry.Entry.{Entry}
 use Rattle.ux_dict.specs.Forms.{IsFitting, MayBegin}
 use Rattle.ux_tokens.specs.declared.kind.Kind.TheVariants.{Word, Space}
@@ -21,6 +22,10 @@ pub record AreAdded (alphabet : Letters) (text : List ℕ) (content old new : Li
   pub more : List Entry
   pub fit : IsFitting alphabet text content more
   pub added : new ≡ old ++ more
+
+-- each compound entry of a row is sound
+abbrev pub AreSoundMembers : List (ℕ × Entry) → Type 0
+AreSoundMembers row = All (λ member. IsSound member.1) row
 
 -- no form of any dictionary begins with characters that fit the text
 abbrev pub NoneBegins : Letters → List (Priority × List Entry) → (text : List ℕ) → Type 0

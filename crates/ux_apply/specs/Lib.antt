@@ -4,3 +4,7 @@ pub mod Applying
 pub mod Tables
 pub mod Kept
 pub mod Unknown
+pub mod Belonging
+pub mod Accepting
+pub mod Ends
+pub mod Words

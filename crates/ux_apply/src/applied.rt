@@ -3,28 +3,37 @@
 //! Simple entries are kept once for each different token, and compound ones only for the tokens at
 //! which some begin.
 
-ghost use Rattle.std.specs.Prelude.{◌≡◌, ◌<◌, IfOk, IsSomeAnd, length, slice_get};
+ghost use Rattle.std.specs.Prelude.{◌≡◌, ◌<◌, ◌+◌, ◌↔◌, ℕ, List, [], Some, Contains, IfOk, IsSomeAnd, IsTrue, length, slice_get};
+ghost use Rattle.ux_dela.specs.declared.entry.Entry.{Entry};
 ghost use Rattle.ux_apply.specs.Applying.{contents};
+ghost use Rattle.ux_apply.specs.Accepting.{Accepts};
+ghost use Rattle.ux_apply.specs.Belonging.{Belongs};
+ghost use Rattle.ux_apply.specs.Ends.{BeginsCompound};
 ghost use Rattle.ux_apply.specs.Tables.{AreApplied};
+ghost use Rattle.std.specs.List.Sorted.{IsStrictlyIncreasing};
 
 use crate::compounds::{Rows, compounds};
+use crate::ends::accepted;
 use crate::numbered::{entries_by_number, first_places, starts_by_number, word_numbers};
 use crate::priority::Priority;
 use crate::tagged::{Tagged, own_at, tagged};
 use crate::unknown::{row_of_number, unknown_numbers};
+use crate::words::Words;
 use std::alloc::Global;
 use std::marker::Model;
+use std::sync::ledger::Ledger;
 use ux_alphabet::Alphabet;
-use ux_base::Mem;
+use ux_base::{Mem, Steps};
 use ux_dela::Entry;
 use ux_dict::Lexicon;
+use ux_masks::Mask;
 use ux_tokens::Text;
 
 /// The entries that apply to a text. Contracts see it as the tables of them, with one row a token.
 #[derive(Drop)]
 pub struct Applied {
     /// The number of each token that is a word.
-    words: Vec<Option<u32>>,
+    words: Words,
     /// The entries of each different token, by its number.
     entries: Vec<Vec<Entry>>,
     /// The own entries of tags, by place.
@@ -41,8 +50,8 @@ impl Model for Applied {
     ghost Value = { Tables };
 
     ghost view = { λ a. record {
-      simple = table_of (simple_at a.words.items a.entries.items a.tags) (length a.words.items);
-      compounds = table_of (row_of a.compounds) (length a.words.items);
+      simple = table_of (simple_at a.words a.entries.items a.tags) (length a.words);
+      compounds = table_of (row_of a.compounds) (length a.words);
       unknown = a.unknown.items;
     } };
 }
@@ -55,7 +64,9 @@ impl Applied {
         alphabet: &Alphabet,
         dics: &[(Priority, L)],
     ) -> Mem<Applied>
-        ensures { IfOk result (AreApplied alphabet.now (contents L.content dics.now) text.now) }
+        ensures applied { IfOk result
+            (AreApplied alphabet.now (contents L.content dics.now) text.now) }
+        ensures belongs { IfOk result (Belongs alphabet.now text.now) }
     {
         let places = first_places(alloc, text)?;
         let entries = entries_by_number(alloc, text, &places, alphabet, dics)?;
@@ -78,7 +89,7 @@ impl Applied {
         requires { i < length self.now.simple }
         ensures { IsSomeAnd (slice_get self.now.simple i) (λ row. result.now ≡ row) }
     {
-        match self.words[i] {
+        match self.words.at(i) {
             Some(number) => row_of_number(&self.entries, number),
             None => own_at(&self.tags, i),
         }
@@ -101,5 +112,52 @@ impl Applied {
         ensures { result.now ≡ self.now.unknown }
     {
         self.unknown.as_slice()
+    }
+
+    /// The places of the tokens at which a compound entry begins, ascending. Takes a look-up a token.
+    pub fn compound_places(&self, alloc: Global) -> Mem<Vec<usize>>
+        ensures exactly { IfOk result (λ places. (i : ℕ) → Contains places.items i
+            ↔ ((row : List (ℕ × Entry)) × (slice_get self.now.compounds i ≡ Some row)
+            × (row ≡ [] → ⊥))) }
+        ensures ascending { IfOk result (λ places. IsStrictlyIncreasing places.items) }
+    {
+        let mut places = Vec::new(alloc);
+        for place in 0..self.words.len() {
+            if self.begins_compound(place) {
+                places.push(place)?;
+            }
+        }
+        Ok(places)
+    }
+
+    /// Whether a compound entry begins at a token.
+    fn begins_compound(&self, i: usize) -> bool
+        requires { i < length self.now.compounds }
+        ensures { IsTrue result ↔ BeginsCompound self.now i }
+    {
+        !self.compounds(i).is_empty()
+    }
+
+    /// The positions after the spans that the mask accepts from a token on, ascending. Takes one
+    /// step, also where memory runs out, and time in the entries that begin at the token; for `<NB>`
+    /// in the digits from there.
+    pub fn ends<L: Ledger>(
+        &self,
+        alloc: Global,
+        text: &Text,
+        alphabet: &Alphabet,
+        mask: &Mask,
+        i: usize,
+        steps: &mut Steps<L>,
+    ) -> Mem<Vec<usize>>
+        requires belongs { Belongs alphabet.now text.now self.now }
+        requires inside { i < length text.now }
+        ensures step { steps.new ≡ steps.old + 1 }
+        ensures exactly { IfOk result (λ ends. (k : ℕ) → Contains ends.items k
+            ↔ Accepts alphabet.now text.now self.now mask.now i k) }
+        ensures ascending { IfOk result (λ ends. IsStrictlyIncreasing ends.items) }
+    {
+        steps.tick();
+        accepted(alloc, self, text, alphabet, mask, i)
     }
 }

@@ -1,7 +1,8 @@
 //! The entries that apply to one text.
 
-ghost use Rattle.std.specs.Prelude.{◌≡◌, ◌↔◌, IfOk, IsFalse, IsTrue, OnOk, length};
+ghost use Rattle.std.specs.Prelude.{◌≡◌, ◌↔◌, All, IfOk, IsFalse, IsTrue, OnOk, length};
 ghost use Rattle.std.specs.Str.{chars};
+ghost use Rattle.ux_dela.specs.Sound.{IsSound};
 ghost use Rattle.ux_dict.specs.Content.{AreDifferent};
 ghost use Rattle.ux_dict.specs.Forms.{IsFitting, MayBegin};
 ghost use Rattle.ux_apply.specs.Applying.{AreApplying, AreFound, content_at, contents};
@@ -22,8 +23,9 @@ pub(crate) fn applying<L: Lexicon>(
     alphabet: &Alphabet,
     dics: &[(Priority, L)],
 ) -> Mem<Vec<Entry>>
-    ensures { IfOk result (λ entries.
+    ensures applies { IfOk result (λ entries.
         AreApplying alphabet.now (contents L.content dics.now) text.now entries.items) }
+    ensures sound { IfOk result (λ entries. All IsSound entries.items) }
 {
     let high = found(alloc, text, alphabet, dics, Priority::High)?;
     if !high.is_empty() {
@@ -44,8 +46,9 @@ fn found<L: Lexicon>(
     dics: &[(Priority, L)],
     priority: Priority,
 ) -> Mem<Vec<Entry>>
-    ensures { IfOk result (λ entries.
+    ensures found { IfOk result (λ entries.
         AreFound alphabet.now (contents L.content dics.now) text.now priority entries.items) }
+    ensures sound { IfOk result (λ entries. All IsSound entries.items) }
 {
     let fitting = fitting_entries(alloc, text, alphabet, dics, priority)?;
     each_once(alloc, fitting)
@@ -60,8 +63,9 @@ fn fitting_entries<L: Lexicon>(
     dics: &[(Priority, L)],
     priority: Priority,
 ) -> Mem<Vec<Entry>>
-    ensures { IfOk result (λ entries. IsFitting alphabet.now text.now
+    ensures fitting { IfOk result (λ entries. IsFitting alphabet.now text.now
         (content_at priority (contents L.content dics.now)) entries.items) }
+    ensures sound { IfOk result (λ entries. All IsSound entries.items) }
 {
     let mut entries = Vec::new(alloc);
     for (own, lexicon) in dics {
@@ -80,8 +84,9 @@ fn push_fitting<L: Lexicon>(
     alphabet: &Alphabet,
     lexicon: &L,
 ) -> Mem<()>
-    ensures { OnOk result (AreAdded alphabet.now text.now (L.content lexicon.now)
+    ensures added { OnOk result (AreAdded alphabet.now text.now (L.content lexicon.now)
         entries.old.items entries.new.items) }
+    ensures sound { OnOk result (All IsSound entries.old.items → All IsSound entries.new.items) }
 {
     let mut more = lexicon.fitting(alloc, text, alphabet)?;
     if entries.is_empty() {

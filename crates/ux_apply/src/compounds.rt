@@ -1,10 +1,11 @@
 //! The compound entries of a text: those of spans of two or more tokens.
 
-ghost use Rattle.std.specs.Prelude.{◌≡◌, ◌↔◌, ◌+◌, ◌<◌, ◌∷◌, ◌++◌, ◌≢◌, ℕ, [], IfOk, IsTrue, MatchOption, OnOk, IfSome, IsSomeAnd, length, map, slice_get};
+ghost use Rattle.std.specs.Prelude.{◌≡◌, ◌↔◌, ◌+◌, All, ◌<◌, ◌∷◌, ◌++◌, ◌≢◌, ℕ, [], IfOk, IsTrue, MatchOption, OnOk, IfSome, IsSomeAnd, length, map, slice_get};
 ghost use Rattle.std.specs.List.{AllZip};
+ghost use Rattle.ux_dela.specs.Sound.{IsSound};
 ghost use Rattle.ux_tokens.specs.Numbers.{different_texts};
 ghost use Rattle.ux_apply.specs.Applying.{contents};
-ghost use Rattle.ux_apply.specs.Kept.{AreRowsUpTo, HaveNone, IsNearestLast, IsFront, IsStart, row_of};
+ghost use Rattle.ux_apply.specs.Kept.{AreRowsUpTo, AreSoundMembers, HaveNone, IsNearestLast, IsFront, IsStart, row_of};
 ghost use Rattle.ux_apply.specs.Spans.{MayBound, MayStand};
 ghost use Rattle.ux_apply.specs.Tables.{AreOfSpan, IsCompoundRow, IsSimpleForm};
 
@@ -35,9 +36,10 @@ pub(crate) fn compounds<L: Lexicon>(
 ) -> Mem<Rows>
     requires { AllZip (IsStart alphabet.now (contents L.content dics.now))
         (different_texts text.now) starts.now }
-    ensures { IfOk result
+    ensures rows { IfOk result
         (AreRowsUpTo (IsCompoundRow alphabet.now (contents L.content dics.now) text.now)
         (length text.now)) }
+    ensures sound { IfOk result (AreRowsUpTo (λ _. AreSoundMembers) (length text.now)) }
 {
     let mut rows = BTreeMap::new(alloc);
     for first in 0..text.len() {
@@ -76,8 +78,9 @@ fn row_from<L: Lexicon>(
     requires started { AllZip (IsStart alphabet.now (contents L.content dics.now))
         (different_texts text.now) starts.now }
     requires within { first < length text.now }
-    ensures { IfOk result (λ row.
+    ensures row { IfOk result (λ row.
         IsCompoundRow alphabet.now (contents L.content dics.now) text.now first row.items) }
+    ensures sound { IfOk result (λ row. AreSoundMembers row.items) }
 {
     if let Some(entry) = text.tag(first) {
         return own_row(alloc, first, entry, alphabet);
@@ -102,6 +105,7 @@ fn own_row(
     ensures letters { IfOk result (λ row. IsSimpleForm alphabet.now entry.now → row.items ≡ []) }
     ensures others { IfOk result (λ row. (IsSimpleForm alphabet.now entry.now → ⊥) →
         row.items ≡ (place, entry.now) ∷ []) }
+    ensures sound { IfOk result (λ row. IsSound entry.now → AreSoundMembers row.items) }
 {
     let mut row = Vec::new(alloc);
     if is_simple(entry, alphabet) {
@@ -124,8 +128,9 @@ fn spans_from<L: Lexicon>(
     requires begins { IsSomeAnd (slice_get text.now first) (λ token. MayBound token.kind) }
     requires from { IsNearestLast text.now first nearest }
     requires within { first < length text.now }
-    ensures { IfOk result (λ row.
+    ensures row { IfOk result (λ row.
         IsCompoundRow alphabet.now (contents L.content dics.now) text.now first row.items) }
+    ensures sound { IfOk result (λ row. AreSoundMembers row.items) }
 {
     let end = text.len();
     let mut row = Vec::new(alloc);
@@ -170,6 +175,7 @@ fn entries_of_span<L: Lexicon>(
         (HaveNone alphabet.now (contents L.content dics.now) text.now first last)
         (λ entries. AreOfSpan alphabet.now (contents L.content dics.now) text.now first last
         entries.items)) }
+    ensures sound { IfOk result (λ found. IfSome found (λ entries. All IsSound entries.items)) }
     ensures goes_on { IfOk result (λ found. IfSome found
         (λ _. IsFront text.now first (last + 1))) }
 {
@@ -198,7 +204,7 @@ fn may_stand(kind: Kind) -> bool
 }
 
 /// Whether a token of this kind may be the first or the last one of a span.
-fn may_bound(kind: Kind) -> bool
+pub(crate) fn may_bound(kind: Kind) -> bool
     ensures { IsTrue result ↔ MayBound kind }
 {
     match kind {

@@ -16,11 +16,16 @@
 pub mod applied;
 mod applying;
 mod compounds;
+mod ends;
 mod numbered;
 pub mod priority;
+mod spelling;
 mod starts;
 mod tagged;
+#[cfg(test)]
+mod tests;
 mod unknown;
+mod words;
 
 pub use applied::Applied;
 pub use priority::Priority;

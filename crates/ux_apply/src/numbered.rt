@@ -1,7 +1,8 @@
 //! What is asked once for each different token of a text, in the order of their numbers.
 
-ghost use Rattle.std.specs.Prelude.{◌<◌, IfOk, IsSomeAnd, length, slice_get};
+ghost use Rattle.std.specs.Prelude.{◌<◌, All, IfOk, IfSome, IsSomeAnd, length, slice_get};
 ghost use Rattle.std.specs.List.{AllZip};
+ghost use Rattle.ux_dela.specs.Sound.{IsSound};
 ghost use Rattle.ux_tokens.specs.Numbers.{different_texts};
 ghost use Rattle.ux_apply.specs.Applying.{AreApplying, contents};
 ghost use Rattle.ux_apply.specs.Kept.{HasText, IsStart, IsWordNumber};
@@ -9,6 +10,7 @@ ghost use Rattle.ux_apply.specs.Kept.{HasText, IsStart, IsWordNumber};
 use crate::applying::applying;
 use crate::priority::Priority;
 use crate::starts::{Start, start_of};
+use crate::words::Words;
 use std::alloc::Global;
 use ux_alphabet::Alphabet;
 use ux_base::Mem;
@@ -41,9 +43,10 @@ pub(crate) fn entries_by_number<L: Lexicon>(
     dics: &[(Priority, L)],
 ) -> Mem<Vec<Vec<Entry>>>
     requires { AllZip (HasText text.now) (different_texts text.now) places.now }
-    ensures { IfOk result (λ rows. AllZip
+    ensures applying { IfOk result (λ rows. AllZip
         (λ text row. AreApplying alphabet.now (contents L.content dics.now) text row.items)
         (different_texts text.now) rows.items) }
+    ensures sound { IfOk result (λ rows. All (λ row. All IsSound row.items) rows.items) }
 {
     let mut rows = Vec::new(alloc);
     for place in places {
@@ -75,22 +78,22 @@ pub(crate) fn starts_by_number<L: Lexicon>(
 }
 
 /// The number of each token that is a word.
-pub(crate) fn word_numbers(alloc: Global, text: &Text) -> Mem<Vec<Option<u32>>>
-    ensures { IfOk result (λ numbers.
-        AllZip (IsWordNumber text.now) text.now numbers.items) }
+pub(crate) fn word_numbers(alloc: Global, text: &Text) -> Mem<Words>
+    ensures { IfOk result (λ words. AllZip (IsWordNumber text.now) text.now words) }
 {
-    let mut numbers = Vec::new(alloc);
+    let mut words = Words::new(alloc);
     for place in 0..text.len() {
-        numbers.push(word_number(text, place))?;
+        words.push(word_number(text, place))?;
     }
-    Ok(numbers)
+    Ok(words)
 }
 
 /// The number of the token at the place, if it is a word.
 fn word_number(text: &Text, place: usize) -> Option<u32>
     requires { place < length text.now }
-    ensures { IsSomeAnd (slice_get text.now place)
+    ensures number { IsSomeAnd (slice_get text.now place)
         (λ token. IsWordNumber text.now token result) }
+    ensures below { IfSome result (λ number. number < length (different_texts text.now)) }
 {
     match text.kind(place) {
         Kind::Word => Some(text.number(place)),

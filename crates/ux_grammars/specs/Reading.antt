@@ -12,7 +12,7 @@ use Rattle.ux_net.specs.Nets.{net_grammar}
 use Rattle.ux_net.specs.Refusing.{AreWhole, drawn}
 use Rattle.ux_net.specs.Words.{SayTheSame}
 use Rattle.ux_net.specs.declared.error.NetError.{NetError}
-use Rattle.ux_net.specs.declared.error.NetError.TheVariants.{MissingGraph, NotYet, EmptyLoop, LeftRecursion, NoMemory}
+use Rattle.ux_net.specs.declared.error.NetError.TheVariants.{MissingGraph, BadMask, NotYet, EmptyLoop, LeftRecursion, NoMemory}
 use Rattle.ux_net.specs.declared.net_graph.NetGraph.{NetGraph}
 use Rattle.ux_grammars.specs.Graphs.{MOST_GRAPHS}
 use Rattle.ux_alphabet.specs.Letters.{Letters}
@@ -48,6 +48,7 @@ pub record AreWholeGraphs (graphs : List (String Global × Graph)) : Type 0 wher
 
 -- the refusal isn't that a graph is missing
 abbrev pub IsPlaced : NetError → Type 0
+IsPlaced (BadMask graph node place) = ⊤
 IsPlaced (NotYet graph node) = ⊤
 IsPlaced (EmptyLoop graph node) = ⊤
 IsPlaced (LeftRecursion graph node) = ⊤

@@ -64,7 +64,8 @@ fn refused_net<R: OfGrammar>(alloc: Global, word: &str, error: NetError) -> Stop
         × (result ≡ Stop.Refused file (R.net_as error))) }
 {
     let file = match &error {
-        NetError::NotYet { graph, .. }
+        NetError::BadMask { graph, .. }
+        | NetError::NotYet { graph, .. }
         | NetError::EmptyLoop { graph, .. }
         | NetError::LeftRecursion { graph, .. } => named_file(alloc, word, graph.as_str()),
         NetError::NoMemory => return Stop::NoMemory,

@@ -73,7 +73,7 @@ pub fn read_lines<'a>(alloc: Global, text: &'a str) -> Result<Parts<'a>, Fault<'
     let mut rest = text;
     loop {
         let line = read_line(alloc, rest)?;
-        lines.push(Lst::new(line.items))?;
+        lines.push(fitted(line.items))?;
         match strip_sign(line.after, b'+') {
             Some(next) => rest = next,
             None => {
@@ -82,6 +82,15 @@ pub fn read_lines<'a>(alloc: Global, text: &'a str) -> Result<Parts<'a>, Fault<'
             },
         }
     }
+}
+
+/// The items, with no room to spare: most lines have one, and a graph may have many lines.
+fn fitted(items: Vec<Item>) -> Lst<Item>
+    ensures { result ≡ items.items }
+{
+    let mut items = items;
+    items.shrink_to_fit();
+    Lst::new(items)
 }
 
 /// What stands after the sign, where the text begins with it.

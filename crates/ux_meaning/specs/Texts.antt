@@ -7,6 +7,7 @@ use Rattle.ux_alphabet.specs.Letters.{Letters, Fits}
 use Rattle.ux_tokens.specs.declared.kind.Kind.{Kind}
 use Rattle.ux_tokens.specs.declared.kind.Kind.TheVariants as kind
 use Rattle.ux_tokens.specs.Tokens.{Token}
+use Rattle.ux_masks.specs.declared.mask.Mask as masks
 use Rattle.ux_net.specs.declared.label.Label.{Label}
 use Rattle.ux_net.specs.declared.label.Label.TheVariants.{Fold, Exact, Mask, Brace, Space}
 use Rattle.ux_outputs.specs.Rendering.{kind_of, skip}
@@ -46,20 +47,16 @@ TakesToken tokens IsSo = TakesOne tokens (λ token. MayStandFor token.kind × Is
 abbrev pub IsSpaceAt : List Token → ℕ → Type 0
 IsSpaceAt tokens p = kind_of (slice_get tokens p) ≡ Some kind.Space
 
--- which spans a mask accepts: the mask's text, the position before the span, the position after it
+-- which spans a mask accepts: the mask, the position before the span, the position after it
 abbrev pub Spans : Type 1
-Spans = (mask : List ℕ) (from to : ℕ) → Type 0
-
--- no dictionary is applied, and no mask accepts a span
-abbrev pub no_spans : Spans
-no_spans mask from to = ⊥
+Spans = masks.Mask → (from to : ℕ) → Type 0
 
 module _ (alphabet : Letters) (tokens : List Token) (Accepts : Spans) where
   -- the label takes the tokens from position p to position k
   abbrev pub Takes : Label → ℕ → ℕ → Type 0
   Takes (Fold text) p k = TakesToken tokens (FoldsTo alphabet text) p k
   Takes (Exact text) p k = TakesToken tokens (λ token. token.text ≡ text) p k
-  Takes (Mask text) p k = Accepts text (skip tokens p) k
+  Takes (Mask mask) p k = Accepts mask (skip tokens p) k
   Takes (Brace text) p k =
       TakesOne tokens (λ token. IsBraced token.kind × (token.text ≡ text)) p k
   Takes Space p k = IsSpaceAt tokens p × (k ≡ p + 1)
@@ -71,7 +68,3 @@ module _ (alphabet : Letters) (tokens : List Token) (Accepts : Spans) where
     Takes = Takes;
     IsSpaceAt = IsSpaceAt tokens;
   }
-
--- a text to which no dictionary is applied
-abbrev pub bare_text : Letters → List Token → Input
-bare_text alphabet tokens = text_input alphabet tokens no_spans

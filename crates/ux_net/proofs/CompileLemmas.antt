@@ -1,5 +1,5 @@
 -- The parts of compiling fit together: what each gives is what the next one asks for.
-use Rattle.std.proofs.Common.{arith, ◌≡◌, ℕ, zero, suc, ◌+◌, ◌-◌, ◌<◌, ◌≤◌, List, [], ◌∷◌, ◌++◌, refl, sym, ◌∙◌, ap, subst, Bool, true, false, ◌||◌, inl, inr, length, length-append, get_or, map, take, Some}
+use Rattle.std.proofs.Common.{arith, ◌≡◌, ℕ, zero, suc, ◌+◌, ◌-◌, ◌<◌, ◌≤◌, List, [], ◌∷◌, ◌++◌, refl, sym, ◌∙◌, ap, subst, Bool, true, false, ◌||◌, inl, inr, length, length-append, get_or, map, take, Some, String, Global}
 use Rattle.std.specs.Prelude.{All, Contains, slice_get, string_bytes, nat_lt}
 use Rattle.std.specs.List.{AllZip, list_any}
 use Rattle.std.specs.Option.{option_map}
@@ -21,22 +21,27 @@ use Rattle.ux_net.specs.Nets.{graph_at}
 use Rattle.ux_net.specs.Places.{ArePlaces, places_of}
 use Rattle.ux_net.specs.Admission.{row_at}
 use Rattle.ux_net.specs.Ranks.{IsBuilt, AreBuilt}
-use Rattle.ux_net.specs.Refusing.{drawn_of, drawn, is_named, is_beyond, has_beyond_line, has_beyond, HasNoBeyond, AreCompiled, AreWhole, calls_in, calls_of}
+use Rattle.ux_net.specs.Refusing.{drawn_of, drawn, is_name_at, is_beyond, has_beyond_line, has_beyond, HasNoBeyond, AreCompiled, AreMasked, AreWhole, calls_in, calls_of}
+use Rattle.ux_net.specs.MaskTexts.{mask_texts_of_item, mask_texts_of, AreMasks, HaveMasks}
 use Rattle.ux_net.specs.Splitting.{IsSplittable, IsSplittableBox}
+use Rattle.ux_net.proofs.MaskTextsLemmas.{item_masks}
 use Rattle.ux_net.proofs.NumbersLemmas.{places_at}
 use Rattle.ux_net.proofs.RefusingLemmas.{Given}
 use Rattle.ux_net.proofs.SplittingLemmas.{AllZip-grown, take-next}
 
--- the graph of a number, counted from 1, has the name of the one there
-pub named_number : (graphs : List Given) (g : ℕ) (graph : Given) → 1 ≤ g → g ≤ length graphs →
-    graph ≡ get_or graphs (g - 1) graph → is_named (drawn graphs) g (string_bytes graph.0)
-named_number graphs zero graph from to is = absurd (omega (arith, from))
-named_number graphs (suc n) graph from to is =
+abbrev pub bytes_of : List (String Global) → List (List ℕ)
+bytes_of names = map string_bytes names
+
+-- the name of a number, counted from 1, is the one there
+pub named_number : (names : List (String Global)) (g : ℕ) (name : String Global) → 1 ≤ g →
+    g ≤ length names → name ≡ get_or names (g - 1) name →
+    is_name_at (bytes_of names) g (string_bytes name)
+named_number names zero name from to is = absurd (omega (arith, from))
+named_number names (suc n) name from to is =
     let same : suc n - 1 ≡ n = omega arith in
-    slice_get-map (λ (d : Drawn). d.name) (drawn graphs) n
-    ∙ ap (option_map (λ (d : Drawn). d.name)) (slice_get-map drawn_of graphs n
-    ∙ ap (option_map drawn_of) (slice_get_read graphs (length graphs) n graph refl
-    (omega (arith, to)) (is ∙ ap (λ m. get_or graphs m graph) same)))
+    slice_get-map string_bytes names n
+    ∙ ap (option_map string_bytes) (slice_get_read names (length names) n name refl
+    (omega (arith, to)) (is ∙ ap (λ m. get_or names m name) same))
 
 -- the places of each graph are those of its boxes
 abbrev pub AreSplitTo : Letters → List (List ℕ) → List Given → List (List Place) → Type 0
@@ -89,23 +94,23 @@ split_all alphabet graphs names places i past is so_far =
     }
 
 -- so many graphs are built, and have their names
-pub record AreBuiltTo (graphs : List Given) (places : List (List Place)) (ranks : List (List ℕ))
+pub record AreBuiltTo (names : List (String Global)) (places : List (List Place)) (ranks : List (List ℕ))
     (free : List (List Bool)) (net : List NetGraph) (i : ℕ) : Type 0 where
   pub count : length net ≡ i
   pub each : (n : ℕ) (graph : NetGraph) → slice_get net n ≡ Some graph →
       IsBuilt (places_of places (suc n)) (get_or ranks n []) (get_or free n []) graph
-  pub names : map (λ (graph : NetGraph). graph.name) net ≡ names_of (drawn (take i graphs))
+  pub named : map (λ (graph : NetGraph). graph.name) net ≡ bytes_of (take i names)
 
-module _ (graphs : List Given) (places : List (List Place)) (ranks : List (List ℕ))
+module _ (names : List (String Global)) (places : List (List Place)) (ranks : List (List ℕ))
     (free : List (List Bool)) where
   -- one graph more
-  pub built_more : (net : List NetGraph) (i : ℕ) (graph : Given) (one : NetGraph) →
-      i < length graphs → graph ≡ get_or graphs i graph →
-      AreBuiltTo graphs places ranks free net i →
+  pub built_more : (net : List NetGraph) (i : ℕ) (name : String Global) (one : NetGraph) →
+      i < length names → name ≡ get_or names i name →
+      AreBuiltTo names places ranks free net i →
       IsBuilt (places_of places (suc i)) (get_or ranks i []) (get_or free i []) one →
-      one.name ≡ string_bytes graph.0 →
-      AreBuiltTo graphs places ranks free (net ++ one ∷ []) (i + 1)
-  built_more net i graph one within is so_far here name = record {
+      one.name ≡ string_bytes name →
+      AreBuiltTo names places ranks free (net ++ one ∷ []) (i + 1)
+  built_more net i name one within is so_far here same = record {
     count = let len = length-append net (one ∷ []) in let c = so_far.count in omega (arith, len, c);
     each = λ n other found. elim (slice_get-push_cases net one n other found) [
       | inl h ↦ so_far.each n other h.1
@@ -116,18 +121,17 @@ module _ (graphs : List Given) (places : List (List Place)) (ranks : List (List 
           (subst (IsBuilt (places_of places (suc i)) (get_or ranks i []) (get_or free i []))
           h.1 here)
     ];
-    names =
+    named =
         map-append (λ (g : NetGraph). g.name) net (one ∷ [])
-        ∙ (ap (λ (l : List (List ℕ)). l ++ one.name ∷ []) so_far.names
-        ∙ (ap (λ (n : List ℕ). names_of (drawn (take i graphs)) ++ n ∷ []) name
-        ∙ sym (ap (λ (l : List Given). names_of (drawn l)) (sym (take-next graphs i graph within is))
-        ∙ (ap (λ (l : List Drawn). names_of l) (map-append drawn_of (take i graphs) (graph ∷ []))
-        ∙ map-append (λ (d : Drawn). d.name) (drawn (take i graphs)) (drawn_of graph ∷ [])))));
+        ∙ (ap (λ (l : List (List ℕ)). l ++ one.name ∷ []) so_far.named
+        ∙ (ap (λ (n : List ℕ). bytes_of (take i names) ++ n ∷ []) same
+        ∙ (sym (map-append string_bytes (take i names) (name ∷ []))
+        ∙ ap bytes_of (take-next names i name within is))));
   }
 
-  pub built_all : (net : List NetGraph) (i : ℕ) → i ≡ length graphs →
-      length places ≡ length graphs →
-      AreBuiltTo graphs places ranks free net i → AreBuilt places ranks free net
+  pub built_all : (net : List NetGraph) (i : ℕ) → i ≡ length names →
+      length places ≡ length names →
+      AreBuiltTo names places ranks free net i → AreBuilt places ranks free net
   built_all net i is same so_far = record {
     count = so_far.count ∙ (is ∙ sym same);
     each = each;
@@ -155,22 +159,23 @@ built_at places ranks free i p r f one places_here ranks_here free_here in_p in_
     (subst (λ (l : List Bool). IsBuilt p r l one)
     (same_f ∙ (at_f ∙ get_or_default free i free_here [] in_f)) built))
 
--- an item that is compiled, and of which each call finds a graph, has labels
+-- an item that is compiled, of which each mask text is a mask's and each call finds a graph, has labels
 splittable : (names : List (List ℕ)) (x : Item) → is_beyond x ≡ false →
+    AreMasks (mask_texts_of_item x) →
     ((name : List ℕ) → x ≡ item.Call name → Contains names name) → IsSplittable names x
-splittable names (item.Literal text) b there = tt
-splittable names (item.Quoted text) b there = tt
-splittable names item.Glue b there = tt
-splittable names item.Empty b there = tt
-splittable names (item.Call name) b there = there name refl
-splittable names (item.Mask text) b there = cc
-splittable names (item.Brace text) b there = cc
-splittable names (item.Begin name) b there = cc
-splittable names (item.End name) b there = cc
-splittable names item.Positive b there = cc
-splittable names item.Negative b there = cc
-splittable names item.ContextEnd b there = cc
-splittable names item.Cut b there = cc
+splittable names (item.Literal text) b masks there = tt
+splittable names (item.Quoted text) b masks there = tt
+splittable names item.Glue b masks there = tt
+splittable names item.Empty b masks there = tt
+splittable names (item.Call name) b masks there = there name refl
+splittable names (item.Mask text) b masks there = masks 0 text (omega arith)
+splittable names (item.Brace text) b masks there = tt
+splittable names (item.Begin name) b masks there = cc
+splittable names (item.End name) b masks there = cc
+splittable names item.Positive b masks there = cc
+splittable names item.Negative b masks there = cc
+splittable names item.ContextEnd b masks there = cc
+splittable names item.Cut b masks there = cc
 
 -- where no element passes a test, each fails it
 pub none_passes : {A : Type 0} (p : A → Bool) (xs : List A) (x : A) → list_any p xs ≡ false →
@@ -193,7 +198,7 @@ all_in : {A : Type 0} (P : A → Type 0) (xs : List A) → ((x : A) → Contains
 all_in P xs each i d lt = each (get_or xs i d) (Contains-get_or xs i d lt)
 
 module _ (graphs : List Given) (whole : AreWhole (drawn graphs))
-    (compiled : AreCompiled (drawn graphs)) where
+    (masked : AreMasked (drawn graphs)) (compiled : AreCompiled (drawn graphs)) where
   abbrev names : List (List ℕ)
   names = names_of (drawn graphs)
 
@@ -216,6 +221,8 @@ module _ (graphs : List Given) (whole : AreWhole (drawn graphs))
           (first_fails (list_any has_beyond_line box.lines) (nat_lt 0 (length box.output))
           (All-contains (λ (b : GrfBox). has_beyond b ≡ false) graph.1.boxes box
           here of_graph)) of_box) of_line)
+          (item_masks box line x (All-contains (λ (b : GrfBox). AreMasks (mask_texts_of b))
+          graph.1.boxes box masks_here of_graph) of_box of_line)
           (λ name call. whole n name
           (subst (λ (l : List (List ℕ)). Contains l name) (sym calls_at)
           ((calls_of-Contains (record { boxes = graph.1.boxes }) name).1
@@ -234,3 +241,9 @@ module _ (graphs : List Given) (whole : AreWhole (drawn graphs))
               subst (λ (d : Drawn). HasNoBeyond d.boxes)
               (get_or_from_slice_get (drawn graphs) n (drawn_of graph) (drawn_of graph) at)
               (compiled n (drawn_of graph) (slice_get_within (drawn graphs) n (drawn_of graph) at))
+
+          masks_here : HaveMasks graph.1.boxes
+          masks_here =
+              subst (λ (d : Drawn). HaveMasks d.boxes)
+              (get_or_from_slice_get (drawn graphs) n (drawn_of graph) (drawn_of graph) at)
+              (masked n (drawn_of graph) (slice_get_within (drawn graphs) n (drawn_of graph) at))

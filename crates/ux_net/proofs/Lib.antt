@@ -17,6 +17,8 @@ pub mod FirstLemmas
 pub mod CutLemmas
 pub mod AdmissionLemmas
 pub mod PlacesLemmas
+pub mod MaskTextsLemmas
+pub mod MaskSetLemmas
 pub mod RefusingLemmas
 pub mod SameGraph
 pub mod PlainLemmas
@@ -34,4 +36,5 @@ pub mod SizesLemmas
 pub mod CompileLemmas
 pub mod AllFitLemmas
 pub mod BuiltLemmas
+pub mod TestedLaw
 pub mod WordsExamples

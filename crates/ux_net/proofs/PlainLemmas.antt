@@ -13,7 +13,7 @@ use Rattle.ux_grf.specs.declared.item.Item.{Item}
 use Rattle.ux_grf.specs.declared.item.Piece.{Piece}
 use Rattle.ux_grf.specs.declared.item.Item.TheVariants as item
 use Rattle.ux_net.specs.declared.label.Label.{Label}
-use Rattle.ux_net.specs.declared.label.Label.TheVariants.{Empty, Glue, Call}
+use Rattle.ux_net.specs.declared.label.Label.TheVariants.{Empty, Mask, Brace, Glue, Call}
 use Rattle.ux_net.specs.declared.place.Place.{Place}
 use Rattle.ux_net.specs.Boxes.{fold_label, exact_label, IsSplit, IsSplitLine, box_lines_in, lines_at, output_in, output_at}
 use Rattle.ux_net.specs.Nets.{IsPlain}
@@ -128,8 +128,9 @@ module _ (alphabet : Letters) (names : List (List ℕ)) where
   item_plain item.Empty labels b s = subst (All IsPlain) (sym s) (one_plain Empty tt)
   item_plain (item.Call name) labels b s =
       subst (All IsPlain) (sym s.2) (one_plain (Call (s.0 + 1)) tt)
-  item_plain (item.Mask text) labels b s = cc
-  item_plain (item.Brace text) labels b s = cc
+  item_plain (item.Mask text) labels b s =
+      subst (All IsPlain) (sym s.2) (one_plain (Mask s.0) tt)
+  item_plain (item.Brace text) labels b s = subst (All IsPlain) (sym s) (one_plain (Brace text) tt)
   item_plain (item.Begin name) labels b s = cc
   item_plain (item.End name) labels b s = cc
   item_plain item.Positive labels b s = cc

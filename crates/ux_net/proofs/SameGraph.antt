@@ -8,6 +8,8 @@ use Rattle.ux_tokens.proofs.UniqueLemmas.{plain_unique}
 use Rattle.ux_grf.specs.declared.graph.GrfBox.{GrfBox}
 use Rattle.ux_grf.specs.declared.item.Item.{Item}
 use Rattle.ux_grf.specs.declared.item.Item.TheVariants.{Literal, Quoted, Mask, Brace, Glue, Empty, Call, Begin, End, Positive, Negative, ContextEnd, Cut}
+use Rattle.ux_masks.specs.declared.mask.Mask as masks
+use Rattle.ux_masks.proofs.UniqueLaws.{one_mask}
 use Rattle.ux_net.specs.declared.place.Place.{Place}
 use Rattle.ux_net.specs.declared.label.Label.{Label}
 use Rattle.ux_net.specs.declared.label.Label.TheVariants as label
@@ -55,7 +57,8 @@ module _ (alphabet : Letters) (names : List (List ℕ)) (once : StandOnce names)
   split_same Empty v w a b = a ∙ sym b
   split_same (Call name) v w a b =
       a.2 ∙ (ap (λ (k : ℕ). label.Call (k + 1) ∷ []) (once a.0 b.0 name a.1 b.1) ∙ sym b.2)
-  split_same (Mask text) v w a b = a ∙ sym b
+  split_same (Mask text) v w a b =
+      a.2 ∙ (ap (λ (mask : masks.Mask). label.Mask mask ∷ []) (one_mask text a.0 b.0 a.1 b.1) ∙ sym b.2)
   split_same (Brace text) v w a b = a ∙ sym b
   split_same (Begin name) v w a b = a ∙ sym b
   split_same (End name) v w a b = a ∙ sym b

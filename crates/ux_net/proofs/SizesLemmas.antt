@@ -85,7 +85,7 @@ module _ (alphabet : Letters) (names : List (List ℕ)) where
   item_few item.Glue labels s = rw s (omega arith)
   item_few item.Empty labels s = rw s (omega arith)
   item_few (item.Call name) labels s = rw s.2 (omega arith)
-  item_few (item.Mask text) labels s = rw s (omega arith)
+  item_few (item.Mask text) labels s = rw s.2 (omega arith)
   item_few (item.Brace text) labels s = rw s (omega arith)
   item_few (item.Begin name) labels s = rw s (omega arith)
   item_few (item.End name) labels s = rw s (omega arith)

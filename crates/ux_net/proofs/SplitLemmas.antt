@@ -6,13 +6,13 @@ use Rattle.ux_alphabet.specs.Letters.{Letters}
 use Rattle.ux_grf.specs.declared.graph.GrfBox.{GrfBox}
 use Rattle.ux_base.specs.Distinct.{StandOnce}
 use Rattle.ux_net.specs.declared.error.NetError.{NetError}
-use Rattle.ux_net.specs.declared.error.NetError.TheVariants.{MissingGraph, NotYet, EmptyLoop, LeftRecursion, NoMemory}
+use Rattle.ux_net.specs.declared.error.NetError.TheVariants.{MissingGraph, BadMask, NotYet, EmptyLoop, LeftRecursion, NoMemory}
 use Rattle.ux_net.specs.declared.place.Place.{Place}
 use Rattle.ux_net.specs.Admissible.{IsOnEmptyLoop, IsLeftRecursive, IsAdmissible}
 use Rattle.ux_net.specs.Boxes.{Drawn, boxes_in, boxes_of, names_of, box_reached_in, box_targets_in, targets_at, box_graph, box_grammar}
 use Rattle.ux_net.specs.Places.{ArePlaces, places_in, places_of, is_reached, reached_in, place_graph, place_grammar}
 use Rattle.ux_net.specs.Compiling.{AreSplit, RefusesPlaces}
-use Rattle.ux_net.specs.Refusing.{AreWhole, AreCompiled, HasNoBeyond, Refuses}
+use Rattle.ux_net.specs.Refusing.{AreWhole, AreMasked, AreCompiled, HasNoBeyond, Refuses}
 use Rattle.ux_net.proofs.JoinedLemmas.{less_or, nothing_in}
 use Rattle.ux_net.proofs.StepsLemmas.{step_inside, target_from}
 use Rattle.ux_net.proofs.PlainLemmas.{no_output}
@@ -123,12 +123,14 @@ module _ (alphabet : Letters) (graphs : List Drawn) (places : List (List Place))
   loop_places = loop_within (box_grammar alphabet graphs) (place_grammar places) to_places
 
   -- what the places show, the boxes do
-  pub refused : (error : NetError) → AreWhole graphs → RefusesPlaces graphs places error →
-      Refuses alphabet graphs error
-  refused (MissingGraph name) whole r = absurd r
-  refused (NotYet name node) whole r = absurd r
-  refused (EmptyLoop name node) whole (g, named, first) = (
+  pub refused : (error : NetError) → AreWhole graphs → AreMasked graphs →
+      RefusesPlaces (names_of graphs) places error → Refuses alphabet graphs error
+  refused (MissingGraph name) whole masked r = absurd r
+  refused (BadMask name node place) whole masked r = absurd r
+  refused (NotYet name node) whole masked r = absurd r
+  refused (EmptyLoop name node) whole masked (g, named, first) = (
     whole,
+    masked,
     all_compiled,
     (
       g,
@@ -137,8 +139,9 @@ module _ (alphabet : Letters) (graphs : List Drawn) (places : List (List Place))
           loop_boxes loop_places g node first,
     ),
   )
-  refused (LeftRecursion name node) whole (no_loop, (g, named, first)) = (
+  refused (LeftRecursion name node) whole masked (no_loop, (g, named, first)) = (
     whole,
+    masked,
     all_compiled,
     λ h m so. no_loop h m (loop_places h m so),
     (
@@ -151,4 +154,4 @@ module _ (alphabet : Letters) (graphs : List Drawn) (places : List (List Place))
           g node first,
     ),
   )
-  refused NoMemory whole r = tt
+  refused NoMemory whole masked r = tt

@@ -133,7 +133,7 @@ module _ (alphabet : Letters) (names : List (List ℕ)) where
   item_some item.Glue labels h s = rw s (omega arith)
   item_some item.Empty labels h s = rw s (omega arith)
   item_some (item.Call name) labels h s = rw s.2 (omega arith)
-  item_some (item.Mask text) labels h s = rw s (omega arith)
+  item_some (item.Mask text) labels h s = rw s.2 (omega arith)
   item_some (item.Brace text) labels h s = rw s (omega arith)
   item_some (item.Begin name) labels h s = rw s (omega arith)
   item_some (item.End name) labels h s = rw s (omega arith)
@@ -152,7 +152,7 @@ module _ (alphabet : Letters) (names : List (List ℕ)) where
   item_calls_none item.Glue labels h s = subst NoCall (sym s) (one_none Glue refl)
   item_calls_none item.Empty labels h s = subst NoCall (sym s) (one_none Empty refl)
   item_calls_none (item.Call name) labels h s = absurd cc
-  item_calls_none (item.Mask text) labels h s = subst NoCall (sym s) (one_none (Mask text) refl)
+  item_calls_none (item.Mask text) labels h s = subst NoCall (sym s.2) (one_none (Mask s.0) refl)
   item_calls_none (item.Brace text) labels h s = subst NoCall (sym s) (one_none (Brace text) refl)
   item_calls_none (item.Begin name) labels h s = subst NoCall (sym s) (one_none (Begin name) refl)
   item_calls_none (item.End name) labels h s = subst NoCall (sym s) (one_none (End name) refl)
@@ -219,7 +219,7 @@ module _ (alphabet : Letters) (names : List (List ℕ)) where
       single item.Glue labels h s = plain item.Glue labels h refl s
       single item.Empty labels h s = plain item.Empty labels h refl s
       single (item.Call name) labels h s = called name labels s
-      single (item.Mask text) labels h s = lone (Mask text) labels s refl
+      single (item.Mask text) labels h s = lone (Mask s.0) labels s.2 refl
       single (item.Brace text) labels h s = lone (Brace text) labels s refl
       single (item.Begin name) labels h s = lone (Begin name) labels s refl
       single (item.End name) labels h s = lone (End name) labels s refl

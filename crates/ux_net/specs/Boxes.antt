@@ -10,6 +10,8 @@ use Rattle.ux_grf.specs.declared.graph.GrfBox.{GrfBox}
 use Rattle.ux_grf.specs.declared.item.Item.{Item}
 use Rattle.ux_grf.specs.declared.item.Piece.{Piece}
 use Rattle.ux_grf.specs.declared.item.Item.TheVariants as item
+use Rattle.ux_masks.specs.Texts.{IsMaskText}
+use Rattle.ux_masks.specs.declared.mask.Mask as masks
 use Rattle.ux_net.specs.declared.label.Label.{Label}
 use Rattle.ux_net.specs.declared.label.Label.TheVariants.{Empty, Fold, Exact, Mask, Brace, Space, Glue, Begin, End, Positive, Negative, ContextEnd, Cut, Call}
 use Rattle.ux_net.specs.Words.{Step, StepGraph, Grammar}
@@ -39,7 +41,8 @@ IsCut alphabet label_of text labels =
 abbrev pub IsSplit : Letters → List (List ℕ) → Item → List Label → Type 0
 IsSplit alphabet names (item.Literal text) labels = IsCut alphabet fold_label text labels
 IsSplit alphabet names (item.Quoted text) labels = IsCut alphabet exact_label text labels
-IsSplit alphabet names (item.Mask text) labels = labels ≡ Mask text ∷ []
+IsSplit alphabet names (item.Mask text) labels =
+    (mask : masks.Mask) × IsMaskText text mask × (labels ≡ Mask mask ∷ [])
 IsSplit alphabet names (item.Brace text) labels = labels ≡ Brace text ∷ []
 IsSplit alphabet names item.Glue labels = labels ≡ Glue ∷ []
 IsSplit alphabet names item.Empty labels = labels ≡ Empty ∷ []

@@ -3,6 +3,9 @@ pub mod Levels
 pub mod Boxes
 pub mod Places
 pub mod Nets
+pub mod Masks
+pub mod MaskTexts
+pub mod BadMasks
 pub mod Measured
 pub mod Sound
 pub mod Fit

@@ -2,7 +2,7 @@
 -- Public: the crate's public contracts speak of it.
 use Rattle.std.specs.Prelude.{◌≡◌, ℕ, zero, suc, ◌<◌, ◌≤◌, List, [], ◌∷◌, Option, Some, None, slice_get, Contains, length, IsTrue}
 use Rattle.ux_net.specs.declared.label.Label.{Label}
-use Rattle.ux_net.specs.declared.label.Label.TheVariants.{Empty, Fold, Exact, Space, Glue, Call}
+use Rattle.ux_net.specs.declared.label.Label.TheVariants.{Empty, Fold, Exact, Mask, Brace, Space, Glue, Call}
 use Rattle.ux_net.specs.declared.state.Edge.{Edge}
 use Rattle.ux_net.specs.declared.state.State.{State}
 use Rattle.ux_net.specs.declared.net_graph.NetGraph.{NetGraph}
@@ -60,11 +60,14 @@ abbrev pub IsCalled : ℕ → Label → Type 0
 IsCalled count (Call graph) = (1 ≤ graph) × (graph ≤ count)
 IsCalled count other = Unit {0}
 
--- a label that is compiled as yet: a text, a space, `#`, the empty word or a call
+-- a label that is compiled as yet: a text, a mask, a mark in braces, a space, `#`, the empty word or
+-- a call
 abbrev pub IsPlain : Label → Type 0
 IsPlain Empty = Unit {0}
 IsPlain (Fold text) = Unit {0}
 IsPlain (Exact text) = Unit {0}
+IsPlain (Mask mask) = Unit {0}
+IsPlain (Brace text) = Unit {0}
 IsPlain Space = Unit {0}
 IsPlain Glue = Unit {0}
 IsPlain (Call graph) = Unit {0}

@@ -8,9 +8,10 @@ use Rattle.ux_grf.specs.declared.graph.GrfBox.{GrfBox}
 use Rattle.ux_grf.specs.declared.item.Item.{Item}
 use Rattle.ux_grf.specs.declared.item.Item.TheVariants as item
 use Rattle.ux_net.specs.declared.error.NetError.{NetError}
-use Rattle.ux_net.specs.declared.error.NetError.TheVariants.{MissingGraph, NotYet, EmptyLoop, LeftRecursion, NoMemory}
+use Rattle.ux_net.specs.declared.error.NetError.TheVariants.{MissingGraph, BadMask, NotYet, EmptyLoop, LeftRecursion, NoMemory}
 use Rattle.ux_grf.specs.Needs.{calls_of_box}
 use Rattle.ux_net.specs.Boxes.{Drawn, boxes_of, names_of, box_grammar}
+use Rattle.ux_net.specs.MaskTexts.{mask_texts_in, IsMask, HaveMasks, IsFirstBad}
 use Rattle.ux_net.specs.Admissible.{IsOnEmptyLoop, IsLeftRecursive, IsFirst, IsAdmissible}
 
 -- a graph that is given with its name
@@ -27,8 +28,8 @@ is_beyond (item.Quoted text) = false
 is_beyond item.Glue = false
 is_beyond item.Empty = false
 is_beyond (item.Call name) = false
-is_beyond (item.Mask text) = true
-is_beyond (item.Brace text) = true
+is_beyond (item.Mask text) = false
+is_beyond (item.Brace text) = false
 is_beyond (item.Begin name) = true
 is_beyond (item.End name) = true
 is_beyond item.Positive = true
@@ -63,22 +64,51 @@ IsBeyondAt graphs g node = beyond_in (slice_get (boxes_of graphs g) node) ≡ tr
 abbrev pub AreCompiled : List Drawn → Type 0
 AreCompiled graphs = All (λ (graph : Drawn). HasNoBeyond graph.boxes) graphs
 
--- the name of the graph of this number, counted from 1
-abbrev pub is_named : List Drawn → ℕ → List ℕ → Type 0
-is_named graphs zero name = ⊥
-is_named graphs (suc n) name = slice_get (names_of graphs) n ≡ Some name
+-- the name of this number, counted from 1
+abbrev pub is_name_at : (names : List (List ℕ)) → ℕ → List ℕ → Type 0
+is_name_at names zero name = ⊥
+is_name_at names (suc n) name = slice_get names n ≡ Some name
 
--- the graph of this name, and a node of it, come first
+-- the name of the graph of this number
+abbrev pub is_named : List Drawn → ℕ → List ℕ → Type 0
+is_named graphs g name = is_name_at (names_of graphs) g name
+
+-- the graph of this name, and a node of it, come first, where graphs have these names
+abbrev pub IsFirstAmong : (names : List (List ℕ)) → (IsSo : (g node : ℕ) → Type 0) → List ℕ → ℕ →
+    Type 0
+IsFirstAmong names IsSo name node = (g : ℕ) × is_name_at names g name × IsFirst IsSo g node
+
 abbrev pub IsFirstNamed : List Drawn → (IsSo : (g node : ℕ) → Type 0) → List ℕ → ℕ → Type 0
-IsFirstNamed graphs IsSo name node = (g : ℕ) × is_named graphs g name × IsFirst IsSo g node
+IsFirstNamed graphs IsSo name node = IsFirstAmong (names_of graphs) IsSo name node
 
 -- the first box that isn't compiled yet is refused
 abbrev pub HasFirstBeyond : List Drawn → NetError → Type 0
 HasFirstBeyond graphs (NotYet name node) = IsFirstNamed graphs (IsBeyondAt graphs) name node
 HasFirstBeyond graphs (MissingGraph name) = ⊥
+HasFirstBeyond graphs (BadMask name node place) = ⊥
 HasFirstBeyond graphs (EmptyLoop name node) = ⊥
 HasFirstBeyond graphs (LeftRecursion name node) = ⊥
 HasFirstBeyond graphs NoMemory = ⊥
+
+-- the mask texts of a box of the graph of this number
+abbrev pub mask_texts_at : List Drawn → (g node : ℕ) → List (List ℕ)
+mask_texts_at graphs g node = mask_texts_in (slice_get (boxes_of graphs g) node)
+
+-- one of them is no mask's
+abbrev pub HasBadMask : List Drawn → (g node : ℕ) → Type 0
+HasBadMask graphs g node =
+    (text : List ℕ) × Contains (mask_texts_at graphs g node) text × (IsMask text → ⊥)
+
+-- each mask text of each graph is a mask's
+abbrev pub AreMasked : List Drawn → Type 0
+AreMasked graphs = All (λ (graph : Drawn). HaveMasks graph.boxes) graphs
+
+-- The first graph that has a mask text which is no mask's, the least node of it that has one, and
+-- the place at which the first such text there is bad.
+abbrev pub IsFirstBadMask : List Drawn → List ℕ → (node place : ℕ) → Type 0
+IsFirstBadMask graphs name node place =
+    (g : ℕ) × is_named graphs g name × IsFirst (HasBadMask graphs) g node
+    × IsFirstBad (mask_texts_at graphs g node) place
 
 -- the names by which a graph calls others, in order
 abbrev pub calls_of : Drawn → List (List ℕ)
@@ -111,19 +141,23 @@ pub record IsFirstMissing (graphs : List Drawn) (name : List ℕ) : Type 0 where
 -- why a list of graphs isn't compiled: the tests in their order, each with its place
 abbrev pub Refuses : Letters → List Drawn → NetError → Type 0
 Refuses alphabet graphs (MissingGraph name) = IsFirstMissing graphs name
+Refuses alphabet graphs (BadMask name node place) =
+    AreWhole graphs × IsFirstBadMask graphs name node place
 Refuses alphabet graphs (NotYet name node) =
-    AreWhole graphs × IsFirstNamed graphs (IsBeyondAt graphs) name node
+    AreWhole graphs × AreMasked graphs × IsFirstNamed graphs (IsBeyondAt graphs) name node
 Refuses alphabet graphs (EmptyLoop name node) =
-    AreWhole graphs × AreCompiled graphs
+    AreWhole graphs × AreMasked graphs × AreCompiled graphs
     × IsFirstNamed graphs (IsOnEmptyLoop (box_grammar alphabet graphs)) name node
 Refuses alphabet graphs (LeftRecursion name node) =
-    AreWhole graphs × AreCompiled graphs
+    AreWhole graphs × AreMasked graphs × AreCompiled graphs
     × ((g m : ℕ) → IsOnEmptyLoop (box_grammar alphabet graphs) g m → ⊥)
     × IsFirstNamed graphs (IsLeftRecursive (box_grammar alphabet graphs)) name node
 Refuses alphabet graphs NoMemory = Unit {0}
 
--- every call is of a graph that is there, every box is compiled, and the grammar is admissible
+-- every call is of a graph that is there, every mask text is a mask's, every box is compiled, and
+-- the grammar is admissible
 pub record IsCompilable (alphabet : Letters) (graphs : List Drawn) : Type 0 where
   pub whole : AreWhole graphs
+  pub masked : AreMasked graphs
   pub compiled : AreCompiled graphs
   pub admissible : IsAdmissible (box_grammar alphabet graphs)

@@ -7,11 +7,14 @@ use Rattle.ux_tokens.specs.declared.kind.Kind.{Kind}
 use Rattle.ux_grf.specs.declared.graph.GrfBox.{GrfBox}
 use Rattle.ux_grf.specs.declared.item.Item.{Item}
 use Rattle.ux_grf.specs.declared.item.Item.TheVariants as item
+use Rattle.ux_masks.specs.Texts.{IsMaskText}
+use Rattle.ux_masks.specs.declared.mask.Mask.{Mask}
 use Rattle.ux_net.specs.declared.label.Label.{Label}
 use Rattle.ux_net.specs.declared.label.Label.TheVariants as label
 use Rattle.ux_net.specs.declared.place.Place.{Place}
 use Rattle.ux_net.specs.declared.split.Comparison.{Comparison}
 use Rattle.ux_net.specs.declared.split.Comparison.TheVariants.{Folded, Exact}
+use Rattle.ux_net.specs.MaskTexts.{IsMask}
 use Rattle.ux_net.specs.Boxes.{fold_label, exact_label, IsCut, IsSplit, IsSplitLine}
 
 -- the label of a piece of a text, by how it is compared
@@ -23,15 +26,16 @@ abbrev pub text_label : Comparison → List ℕ → Label
 text_label Folded text = label.Fold text
 text_label Exact text = label.Exact text
 
--- the item has labels already: it is a text, a call of a graph that is there, `#` or empty
+-- the item has labels already: it is a text, a mask, a mark in braces, a call of a graph that is
+-- there, `#` or empty
 abbrev pub IsSplittable : List (List ℕ) → Item → Type 0
 IsSplittable names (item.Literal text) = Unit {0}
 IsSplittable names (item.Quoted text) = Unit {0}
 IsSplittable names item.Glue = Unit {0}
 IsSplittable names item.Empty = Unit {0}
 IsSplittable names (item.Call name) = Contains names name
-IsSplittable names (item.Mask text) = ⊥
-IsSplittable names (item.Brace text) = ⊥
+IsSplittable names (item.Mask text) = IsMask text
+IsSplittable names (item.Brace text) = Unit {0}
 IsSplittable names (item.Begin name) = ⊥
 IsSplittable names (item.End name) = ⊥
 IsSplittable names item.Positive = ⊥
@@ -50,6 +54,11 @@ IsNumberOf names name number = (k : ℕ) × (slice_get names k ≡ Some name) ×
 abbrev pub IsNumbered : List (List ℕ) → List ℕ → (before after : List Label) → Type 0
 IsNumbered names name before after =
     (number : ℕ) × IsNumberOf names name number × (after ≡ before ++ label.Call number ∷ [])
+
+-- the mask of this text stands behind what was there
+abbrev pub IsMaskBehind : List ℕ → (before after : List Label) → Type 0
+IsMaskBehind text before after =
+    (mask : Mask) × IsMaskText text mask × (after ≡ before ++ label.Mask mask ∷ [])
 
 -- the labels of one item stand behind what was there
 abbrev pub IsBehind : Letters → List (List ℕ) → Item → (before after : List Label) → Type 0

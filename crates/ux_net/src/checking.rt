@@ -66,10 +66,14 @@ fn is_beyond(item: &Item) -> bool
     ensures { result ≡ is_beyond_of item.now }
 {
     match item {
-        Item::Literal(_) | Item::Quoted(_) | Item::Glue | Item::Empty | Item::Call(_) => false,
-        Item::Mask(_)
+        Item::Literal(_)
+        | Item::Quoted(_)
+        | Item::Mask(_)
         | Item::Brace(_)
-        | Item::Begin(_)
+        | Item::Glue
+        | Item::Empty
+        | Item::Call(_) => false,
+        Item::Begin(_)
         | Item::End(_)
         | Item::Positive
         | Item::Negative

@@ -11,6 +11,7 @@ ghost use Rattle.ux_net.specs.Words.{SayTheSame};
 
 use crate::error::NetError;
 use crate::grammar::compiled;
+use crate::masks::count_masks;
 use crate::net::Net;
 use std::alloc::Global;
 use ux_alphabet::Alphabet;
@@ -35,6 +36,8 @@ impl Net {
             IsConstructed alphabet.now (drawn graphs.items) net) }
         ensures err { IfErr result (Refuses alphabet.now (drawn graphs.items)) }
     {
-        Ok(Net::of(compiled(alloc, &graphs, alphabet)?))
+        let net = compiled(alloc, graphs, alphabet)?;
+        let masks = count_masks(alloc, &net)?;
+        Ok(Net::of(net, masks))
     }
 }

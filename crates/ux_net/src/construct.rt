@@ -126,6 +126,7 @@ fn push_edges(
 {
     let number = numbers[place];
     let mut first = starts[place];
+    edges.reserve(line_count(places, place))?;
     for line in 0..line_count(places, place) {
         edges.push(edge(places, number, place, line, first, 0)?)?;
         first += chain_len(places, place, line) as u32;
@@ -217,7 +218,7 @@ fn chain_state(
     requires label { k < chain_len_of places.now place line }
     ensures { IfOk result (λ state. state ≡ chain_state_of places.now place line k) }
 {
-    let mut edges = Vec::new(alloc);
+    let mut edges = Vec::with_capacity(alloc, 1)?;
     edges.push(edge(places, number, place, line, first, k + 1)?)?;
     Ok(State {
         is_final: false,
@@ -236,7 +237,7 @@ fn edge(places: &[Place], number: u32, place: usize, line: usize, first: u32, k:
     let labels = labels(places, place, line);
     let target = target(first, k, labels.len(), number);
     Ok(Edge {
-        label: labels[k].clone()?,
+        label: labels[k].copy()?,
         target,
     })
 }

@@ -14,6 +14,10 @@ pub enum NetError {
     /// No graph of the list has this name, by which one is called.
     #[error("no graph {name:?}")]
     MissingGraph { name: Txt },
+    /// A line of the box has a mask text that is no mask's. The first such text of the box is
+    /// meant, and the place is that of `Mask::read`.
+    #[error("bad mask at place {place}: box {node} of graph {graph:?}")]
+    BadMask { graph: Txt, node: u32, place: usize },
     /// The box has an item or an output that isn't compiled yet.
     #[error("not yet: box {node} of graph {graph:?}")]
     NotYet { graph: Txt, node: u32 },

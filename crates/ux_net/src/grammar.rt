@@ -9,18 +9,19 @@ ghost use Rattle.ux_net.specs.declared.place.Place.{Place};
 ghost use Rattle.ux_net.specs.Admissible.{IsAdmissible};
 ghost use Rattle.ux_net.specs.Admission.{ArePlaceRanks, AreRows};
 ghost use Rattle.ux_net.specs.Boxes.{box_grammar, names_of as names_of_graphs};
-ghost use Rattle.ux_net.specs.Compiling.{AreSplit, IsBuiltOf, IsConstructed, RefusesPlaces};
+ghost use Rattle.ux_net.specs.Compiling.{AreSplit, AreTested, IsBuiltOf, IsConstructed, RefusesPlaces};
 ghost use Rattle.ux_net.specs.Construct.{AreFit};
 ghost use Rattle.ux_net.specs.Fit.{IsFit};
 ghost use Rattle.ux_net.specs.Nets.{net_grammar};
 ghost use Rattle.ux_net.specs.Places.{place_grammar};
 ghost use Rattle.ux_net.specs.Ranks.{AreBuilt, IsBuilt};
-ghost use Rattle.ux_net.specs.Refusing.{drawn, is_named, IsCompilable, Refuses};
+ghost use Rattle.ux_net.specs.Refusing.{drawn, is_name_at, IsCompilable, Refuses};
 ghost use Rattle.ux_net.specs.Sound.{IsSound};
 ghost use Rattle.ux_net.specs.Splitting.{IsSplittableBox};
 ghost use Rattle.ux_net.specs.Words.{SayTheSame};
 
 use crate::admissible::{Admission, AdmissionError, admit};
+use crate::bad_masks::refuse_bad_masks;
 use crate::checking::refuse_beyond;
 use crate::construct::states;
 use crate::error::NetError;
@@ -30,54 +31,84 @@ use crate::place::Place;
 use crate::ranks::ranks;
 use crate::split::split_graph;
 use indexmap::IndexSet;
-use std::alloc::Global;
+use std::alloc::{AllocError, Global};
 use ux_alphabet::Alphabet;
 use ux_base::{Lst, Mem, Txt};
 use ux_grf::Graph;
 
-/// The graphs as states. Each test comes when those before it have passed.
+/// The graphs as states. Each test comes when those before it have passed. Before states are made,
+/// the boxes are let go, of which a graph may have many lines.
 pub fn compiled(
+    alloc: Global,
+    graphs: Vec<(String, Graph)>,
+    alphabet: &Alphabet,
+) -> Result<Vec<NetGraph>, NetError>
+    requires some { 0 < length graphs.items }
+    requires few { length graphs.items ≤ 65535 }
+    requires well_formed { All (λ graph. IsWellFormed graph.1) graphs.items }
+    requires small { All (λ graph. size_of graph.1 < 4294967296) graphs.items }
+    requires distinct { AllPairs (λ a b. string_bytes a.0 ≢ string_bytes b.0) graphs.items }
+    ensures compilable { OnOk result (IsCompilable alphabet.now (drawn graphs.items)) }
+    ensures built { IfOk result (λ net. IsConstructed alphabet.now (drawn graphs.items) net.items) }
+    ensures words { IfOk result (λ net.
+        SayTheSame (box_grammar alphabet.now (drawn graphs.items)) (net_grammar net.items)) }
+    ensures sound { IfOk result (λ net. IsSound net.items) }
+    ensures err { IfErr result (Refuses alphabet.now (drawn graphs.items)) }
+{
+    let places = places_of(alloc, &graphs, alphabet)?;
+    let names = names_given(alloc, &graphs)?;
+    let_go(graphs);
+    net_of(alloc, &names, &places)
+}
+
+/// The places of graphs that pass the tests which come before that of loops.
+fn places_of(
     alloc: Global,
     graphs: &[(String, Graph)],
     alphabet: &Alphabet,
-) -> Result<Vec<NetGraph>, NetError>
-    requires some { 0 < length graphs.now }
+) -> Result<Vec<Lst<Place>>, NetError>
     requires few { length graphs.now ≤ 65535 }
     requires well_formed { All (λ graph. IsWellFormed graph.1) graphs.now }
-    requires small { All (λ graph. size_of graph.1 < 4294967296) graphs.now }
     requires distinct { AllPairs (λ a b. string_bytes a.0 ≢ string_bytes b.0) graphs.now }
-    ensures compilable { OnOk result (IsCompilable alphabet.now (drawn graphs.now)) }
-    ensures built { IfOk result (λ net. IsConstructed alphabet.now (drawn graphs.now) net.items) }
-    ensures words { IfOk result (λ net.
-        SayTheSame (box_grammar alphabet.now (drawn graphs.now)) (net_grammar net.items)) }
-    ensures sound { IfOk result (λ net. IsSound net.items) }
+    ensures ok { IfOk result (λ places. AreTested alphabet.now (drawn graphs.now) places.items) }
     ensures err { IfErr result (Refuses alphabet.now (drawn graphs.now)) }
 {
     let names = names_of(alloc, graphs)?;
     refuse_missing(alloc, graphs, &names)?;
+    refuse_bad_masks(alloc, graphs)?;
     refuse_beyond(alloc, graphs)?;
-    let places = split_graphs(alloc, alphabet, &names, graphs)?;
-    net_of(alloc, graphs, &places)
+    Ok(split_graphs(alloc, alphabet, &names, graphs)?)
 }
 
-/// The states of graphs of these places, if their grammar is admissible.
-fn net_of(
-    alloc: Global,
-    graphs: &[(String, Graph)],
-    places: &[Lst<Place>],
-) -> Result<Vec<NetGraph>, NetError>
-    requires count { length places.now ≡ length graphs.now }
-    requires few_graphs { length graphs.now ≤ 65535 }
+/// A copy of the names of the graphs.
+fn names_given(alloc: Global, graphs: &[(String, Graph)]) -> Result<Vec<String>, AllocError>
+    ensures { IfOk result (λ names.
+        map string_bytes names.items ≡ names_of_graphs (drawn graphs.now)) }
+{
+    let mut names = Vec::new(alloc);
+    for (name, _) in graphs {
+        names.push(String::from_str(alloc, name.as_str())?)?;
+    }
+    Ok(names)
+}
+
+/// Lets the graphs go.
+fn let_go(_graphs: Vec<(String, Graph)>) {}
+
+/// The states of graphs of these names and places, if their grammar is admissible.
+fn net_of(alloc: Global, names: &[String], places: &[Lst<Place>]) -> Result<Vec<NetGraph>, NetError>
+    requires count { length places.now ≡ length names.now }
+    requires few_graphs { length names.now ≤ 65535 }
     requires fit { All (IsFit (length places.now)) places.now }
     requires few { All (λ (graph : List Place). length graph ≤ 65535) places.now }
     requires are_fit { All AreFit places.now }
     ensures admissible { OnOk result (IsAdmissible (place_grammar places.now)) }
     ensures built { IfOk result (λ net.
-        IsBuiltOf (names_of_graphs (drawn graphs.now)) places.now net.items) }
-    ensures err { IfErr result (RefusesPlaces (drawn graphs.now) places.now) }
+        IsBuiltOf (map string_bytes names.now) places.now net.items) }
+    ensures err { IfErr result (RefusesPlaces (map string_bytes names.now) places.now) }
 {
-    let admission = admitted(alloc, graphs, places)?;
-    Ok(build(alloc, graphs, places, &admission.ranks, &admission.free)?)
+    let admission = admitted(alloc, names, places)?;
+    Ok(build(alloc, names, places, &admission.ranks, &admission.free)?)
 }
 
 /// The places of the graphs.
@@ -102,27 +133,23 @@ fn split_graphs(
 }
 
 /// The ranks of an admissible grammar. The refusal of another names its graph.
-fn admitted(
-    alloc: Global,
-    graphs: &[(String, Graph)],
-    places: &[Lst<Place>],
-) -> Result<Admission, NetError>
-    requires count { length places.now ≡ length graphs.now }
+fn admitted(alloc: Global, names: &[String], places: &[Lst<Place>]) -> Result<Admission, NetError>
+    requires count { length places.now ≡ length names.now }
     requires fit { All (IsFit (length places.now)) places.now }
     requires few { All (λ (graph : List Place). length graph ≤ 65535) places.now }
     ensures ranks { IfOk result (λ admission.
         ArePlaceRanks places.now admission.ranks.items admission.free.items) }
     ensures admissible { OnOk result (IsAdmissible (place_grammar places.now)) }
-    ensures err { IfErr result (RefusesPlaces (drawn graphs.now) places.now) }
+    ensures err { IfErr result (RefusesPlaces (map string_bytes names.now) places.now) }
 {
     match admit(alloc, places) {
         Ok(admission) => Ok(admission),
         Err(AdmissionError::EmptyLoop { graph, node }) => Err(NetError::EmptyLoop {
-            graph: name_of(alloc, graphs, graph)?,
+            graph: name_of(alloc, names, graph)?,
             node: node as u32,
         }),
         Err(AdmissionError::LeftRecursion { graph, node }) => Err(NetError::LeftRecursion {
-            graph: name_of(alloc, graphs, graph)?,
+            graph: name_of(alloc, names, graph)?,
             node: node as u32,
         }),
         Err(AdmissionError::NoMemory) => Err(NetError::NoMemory),
@@ -130,34 +157,34 @@ fn admitted(
 }
 
 /// The name of the graph of this number, counted from 1.
-fn name_of(alloc: Global, graphs: &[(String, Graph)], graph: usize) -> Mem<Txt>
+fn name_of(alloc: Global, names: &[String], graph: usize) -> Mem<Txt>
     requires from { 1 ≤ graph }
-    requires to { graph ≤ length graphs.now }
-    ensures { IfOk result (is_named (drawn graphs.now) graph) }
+    requires to { graph ≤ length names.now }
+    ensures { IfOk result (is_name_at (map string_bytes names.now) graph) }
 {
-    let (name, _) = &graphs[graph - 1];
+    let name = &names[graph - 1];
     Ok(Txt::from_str(alloc, name.as_str())?)
 }
 
 /// The states of the graphs, with their ranks.
 fn build(
     alloc: Global,
-    graphs: &[(String, Graph)],
+    names: &[String],
     places: &[Lst<Place>],
     ranks: &[Lst<usize>],
     free: &[Lst<bool>],
 ) -> Mem<Vec<NetGraph>>
-    requires count { length places.now ≡ length graphs.now }
+    requires count { length places.now ≡ length names.now }
     requires ranked { AreRows places.now ranks.now }
     requires marked { AreRows places.now free.now }
     requires fit { All AreFit places.now }
     requires small { All (All (λ rank. rank < 4294967296)) ranks.now }
     ensures built { IfOk result (λ net. AreBuilt places.now ranks.now free.now net.items) }
     ensures names { IfOk result (λ net. map (λ (graph : NetGraph). graph.name) net.items
-        ≡ names_of_graphs (drawn graphs.now)) }
+        ≡ map string_bytes names.now) }
 {
     let mut net = Vec::new(alloc);
-    for (number, (name, _)) in graphs.iter().enumerate() {
+    for (number, name) in names.iter().enumerate() {
         net.push(build_graph(
             alloc,
             name.as_str(),

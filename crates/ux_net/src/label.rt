@@ -1,6 +1,10 @@
 //! What stands on an edge.
 
+ghost use Rattle.std.specs.Prelude.{◌≡◌, IfOk};
+
+use std::alloc::AllocError;
 use ux_base::Txt;
+use ux_masks::Mask;
 
 /// What an edge finds in the text.
 #[derive(Clone, Drop)]
@@ -11,8 +15,8 @@ pub enum Label {
     Fold(Txt),
     /// A token of exactly this text, after an optional space.
     Exact(Txt),
-    /// A span that the lexical mask of this text accepts, after an optional space.
-    Mask(Txt),
+    /// A span that this mask accepts, after an optional space.
+    Mask(Mask),
     /// A sentence mark or a tag of exactly this text, after an optional space.
     Brace(Txt),
     /// One space, required.
@@ -33,4 +37,13 @@ pub enum Label {
     Cut,
     /// A word of the graph of this number, counted from 1.
     Call(u32),
+}
+
+impl Label {
+    /// A copy.
+    pub fn copy(&self) -> Result<Label, AllocError>
+        ensures { IfOk result (λ label. label ≡ self.now) }
+    {
+        self.clone()
+    }
 }

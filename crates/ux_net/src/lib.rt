@@ -8,13 +8,15 @@
 //! graphs --checking--> --split--> places --admissible--> ranks --construct, ranks--> Net
 //! ```
 //!
-//! `checking` tests the calls and the items, `split` cuts each line into labels, `admissible`
-//! refuses loops that take nothing and graphs that begin with themselves, and `construct` makes the
-//! states. Begin with `specs/Words.antt`: the words of a graph of boxes, of places and of states
-//! are one definition. `specs/Refusing.antt` says when each refusal comes.
+//! `missing` tests the calls, `bad_masks` the mask texts and `checking` the items, `split` cuts
+//! each line into labels, `admissible` refuses loops that take nothing and graphs that begin with
+//! themselves, and `construct` makes the states. `masks` counts the different masks. Begin with
+//! `specs/Words.antt`: the words of a graph of boxes, of places and of states are one definition.
+//! `specs/Refusing.antt` says when each refusal comes.
 #![tactic(auto)]
 
 pub mod admissible;
+pub mod bad_masks;
 pub mod checking;
 pub mod compile;
 pub mod construct;
@@ -25,6 +27,7 @@ pub mod freeness;
 pub mod grammar;
 pub mod label;
 pub mod line;
+pub mod masks;
 pub mod missing;
 pub mod net;
 pub mod net_graph;

@@ -1,6 +1,7 @@
 //! A grammar as states: the graphs of a compiled list, of which the first is the main graph.
 
 ghost use Rattle.std.specs.Prelude.{◌≡◌, ℕ, ◌≤◌, ◌<◌, Some, IsSomeAnd, length, slice_get, option_copied};
+ghost use Rattle.ux_net.specs.Masks.{IsMaskCount};
 ghost use Rattle.ux_net.specs.Measured.{IsMeasured};
 ghost use Rattle.ux_net.specs.Nets.{graph_at, states_of, ArePlain};
 ghost use Rattle.ux_net.specs.Sound.{IsSound};
@@ -13,27 +14,31 @@ use std::marker::Model;
 #[derive(Drop)]
 pub struct Net {
     graphs: Vec<NetGraph>,
+    masks: usize,
 }
 
 impl Model for Net {
     ghost use Rattle.std.specs.Prelude.{List};
     ghost use Rattle.ux_net.specs.declared.net_graph.NetGraph.{NetGraph};
+    ghost use Rattle.ux_net.specs.Masks.{IsMaskCount};
     ghost use Rattle.ux_net.specs.Sound.{IsSound};
 
     ghost Value = { List NetGraph };
 
     ghost view = { λ net. net.graphs.items };
 
-    ghost invariant = { λ net. IsSound net.graphs.items };
+    ghost invariant = { λ net.
+        IsSound net.graphs.items × IsMaskCount net.graphs.items net.masks };
 }
 
 impl Net {
-    /// The net of these graphs. Takes no memory.
-    pub(crate) fn of(graphs: Vec<NetGraph>) -> Net
+    /// The net of these graphs, on which so many different masks stand. Takes no memory.
+    pub(crate) fn of(graphs: Vec<NetGraph>, masks: usize) -> Net
         requires sound { IsSound graphs.items }
+        requires counted { IsMaskCount graphs.items masks }
         ensures { result ≡ graphs.items }
     {
-        Net { graphs }
+        Net { graphs, masks }
     }
 
     /// How many graphs there are. They are counted from 1, and the first is the main graph.
@@ -42,6 +47,13 @@ impl Net {
         ensures some { 1 ≤ result }
     {
         self.graphs.len() as u32
+    }
+
+    /// How many different masks stand on the edges. Takes no memory.
+    pub fn masks(&self) -> usize
+        ensures { IsMaskCount self.now result }
+    {
+        self.masks
     }
 
     /// Every walk through a net ends: its ranks fall along each edge that may take nothing.

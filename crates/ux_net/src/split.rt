@@ -1,22 +1,25 @@
 //! A graph's boxes with their lines split into labels.
 //!
 //! A literal, or a text between quotation marks, is cut as a corpus is cut into tokens, so that
-//! each label finds one token. A call becomes the number of its graph.
+//! each label finds one token. A mask text becomes its mask, and a call the number of its graph.
 
-ghost use Rattle.std.specs.Prelude.{◌≡◌, ◌<◌, ◌≤◌, [], ◌∷◌, IfOk, IfSome, OnOk, All, Contains, length};
+ghost use Rattle.std.specs.Prelude.{◌≡◌, ◌<◌, ◌≤◌, [], ◌∷◌, ◌++◌, IfOk, IfSome, OnOk, All, Contains, length};
 ghost use Rattle.ux_tokens.specs.Numbers.{texts_in};
-ghost use Rattle.ux_net.specs.declared.label.Label.TheVariants.{Empty};
+ghost use Rattle.ux_net.specs.declared.label.Label.TheVariants.{Brace, Empty};
+ghost use Rattle.ux_masks.specs.Texts.{IsMaskText};
 ghost use Rattle.ux_net.specs.Boxes.{IsSplitLine};
+ghost use Rattle.ux_net.specs.MaskTexts.{IsMask};
 ghost use Rattle.ux_net.specs.Places.{ArePlaces};
-ghost use Rattle.ux_net.specs.Splitting.{AreSplitLines, IsBehind, IsCutBehind, IsNumberOf, IsNumbered, IsPlaceOf, IsSplittable, IsSplittableBox, label_by as label_by_of, text_label as text_label_of};
+ghost use Rattle.ux_net.specs.Splitting.{AreSplitLines, IsBehind, IsCutBehind, IsMaskBehind, IsNumberOf, IsNumbered, IsPlaceOf, IsSplittable, IsSplittableBox, label_by as label_by_of, text_label as text_label_of};
 
 use crate::label::Label;
 use crate::place::Place;
 use indexmap::IndexSet;
 use std::alloc::{AllocError, Global};
 use ux_alphabet::Alphabet;
-use ux_base::{Lst, Mem, Txt};
+use ux_base::{Lst, Mem, NoMemory, Txt};
 use ux_grf::{Graph, GrfBox, Item};
+use ux_masks::{Mask, MaskError};
 use ux_tokens::{Kind, first_token, single_spaced};
 
 /// How a piece of a text is compared with a token.
@@ -42,7 +45,7 @@ pub fn split_graph(
         ArePlaces alphabet.now (texts_in names.now) graph.now.boxes places.items) }
 {
     let boxes = graph.boxes.as_slice();
-    let mut places = Vec::new(alloc);
+    let mut places = Vec::with_capacity(alloc, boxes.len())?;
     for (number, grf_box) in boxes.iter().enumerate() {
         places.push(split_box(alloc, alphabet, names, number, grf_box)?)?;
     }
@@ -96,7 +99,7 @@ fn split_lines(
     ensures { IfOk result (λ split.
         AreSplitLines alphabet.now (texts_in names.now) lines.now split.items) }
 {
-    let mut all = Vec::new(alloc);
+    let mut all = Vec::with_capacity(alloc, lines.len())?;
     for line in lines {
         all.push(split_line(alloc, alphabet, names, line.as_slice())?)?;
     }
@@ -118,7 +121,16 @@ fn split_line(
     for item in line {
         split_item(alloc, alphabet, names, item, &mut labels)?;
     }
-    Ok(Lst::new(labels))
+    Ok(fitted(labels))
+}
+
+/// The labels, with no room to spare: most lines have one, and a box may have many lines.
+fn fitted(labels: Vec<Label>) -> Lst<Label>
+    ensures { result ≡ labels.items }
+{
+    let mut labels = labels;
+    labels.shrink_to_fit();
+    Lst::new(labels)
 }
 
 /// Adds the labels of an item.
@@ -141,18 +153,47 @@ fn split_item(
         Item::Quoted(text) => {
             return split_text(alloc, alphabet, Comparison::Exact, text.as_str(), labels);
         },
+        Item::Mask(text) => return push_mask(alloc, text.as_str(), labels),
+        Item::Brace(text) => return push_brace(alloc, text.as_str(), labels),
         Item::Glue => return Ok(labels.push(Label::Glue)?),
         Item::Empty => return Ok(labels.push(Label::Empty)?),
         Item::Call(name) => return push_call(names, name.as_str(), labels),
-        Item::Mask(_)
-        | Item::Brace(_)
-        | Item::Begin(_)
+        Item::Begin(_)
         | Item::End(_)
         | Item::Positive
         | Item::Negative
         | Item::ContextEnd
         | Item::Cut => unreachable!(),
     }
+}
+
+/// Adds the mask of this text.
+fn push_mask(alloc: Global, text: &str, labels: &mut Vec<Label>) -> Mem<()>
+    requires mask { IsMask text.now }
+    ensures { OnOk result (IsMaskBehind text.now labels.old.items labels.new.items) }
+{
+    labels.push(Label::Mask(mask_of(alloc, text)?))?;
+    Ok(())
+}
+
+/// The mask of this text.
+fn mask_of(alloc: Global, text: &str) -> Mem<Mask>
+    requires mask { IsMask text.now }
+    ensures { IfOk result (IsMaskText text.now) }
+{
+    match Mask::read(alloc, text) {
+        Ok(mask) => Ok(mask),
+        Err(MaskError::BadMask { .. }) => unreachable!(),
+        Err(MaskError::NoMemory) => Err(NoMemory),
+    }
+}
+
+/// Adds the mark in braces.
+fn push_brace(alloc: Global, text: &str, labels: &mut Vec<Label>) -> Mem<()>
+    ensures { OnOk result (labels.new.items ≡ labels.old.items ++ Brace text.now ∷ []) }
+{
+    labels.push(Label::Brace(Txt::from_str(alloc, text)?))?;
+    Ok(())
 }
 
 /// Adds the call of the graph of this name.

@@ -27,6 +27,8 @@ mod grf;
 #[cfg(test)]
 mod net;
 #[cfg(test)]
+mod net_masks;
+#[cfg(test)]
 mod tokens;
 #[cfg(test)]
 mod walk;

@@ -70,6 +70,9 @@ fn show_net(alloc: Global, net: &Net) -> Result<String, AllocError> {
 fn told(alloc: Global, refusal: &NetError) -> Result<String, AllocError> {
     match refusal {
         NetError::MissingGraph { name } => format!(in alloc; "missing {}", name.as_str()),
+        NetError::BadMask { graph, node, place } => {
+            format!(in alloc; "bad mask {} {node} {place}", graph.as_str())
+        },
         NetError::NotYet { graph, node } => {
             format!(in alloc; "not yet {} {node}", graph.as_str())
         },
@@ -168,7 +171,7 @@ fn a_literal_is_cut_by_the_alphabet(rt: HostRuntime) -> Result<(), Fail> {
 fn names_what_is_missing_or_not_yet_read(rt: HostRuntime) -> Result<(), Fail> {
     const ROWS: &[Row] = &[
         ("a missing graph", &["E|2 | B|1"], "missing B"),
-        ("a mask", &["E|2 | <N>|1"], "not yet A 2"),
+        ("a context", &["E|2 | $[|1"], "not yet A 2"),
     ];
     compare_nets(&rt, rt.alloc(), ROWS)
 }

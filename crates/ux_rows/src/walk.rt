@@ -2,13 +2,20 @@
 //!
 //! The text is `The`, a space, `cat`, a comma, a space, `x`.
 
+ghost use Rattle.std.specs.Prelude.{◌≡◌, ◌≤◌, ◌<◌, IfOk, length};
+ghost use Rattle.ux_apply.specs.Belonging.{Belongs};
+
 use crate::comparing::compare;
 use crate::graphs::compiled;
 use std::alloc::{AllocError, Global};
+use std::marker::Brand;
 use std::process::Abort;
+use std::sync::ledger::{Blank, Ledger};
 use std::test::Fail;
 use ux_alphabet::Alphabet;
-use ux_base::{Lst, Mem};
+use ux_apply::{Applied, Priority};
+use ux_base::{Lst, Mem, Steps};
+use ux_dict::ListLexicon;
 use ux_net::Net;
 use ux_outputs::Event;
 use ux_tokens::Text;
@@ -24,13 +31,42 @@ fn ends(alloc: Global, found: &[(usize, Lst<Event>)]) -> Result<String, AllocErr
     Ok(all)
 }
 
+/// What applies to a text without dictionaries.
+pub fn without_dictionaries(alloc: Global, text: &Text, alphabet: &Alphabet) -> Mem<Applied>
+    ensures { IfOk result (Belongs alphabet.now text.now) }
+{
+    let dics: [(Priority, ListLexicon); 0] = [];
+    Applied::of(alloc, text, alphabet, &dics)
+}
+
 /// The ends of the walks from a position, or `outside`.
 fn walked(alloc: Global, net: &Net, text: &Text, alphabet: &Alphabet, start: usize) -> Mem<String> {
     if start > text.len() {
         return Ok(String::from_str(alloc, "outside")?);
     }
+    let applied = without_dictionaries(alloc, text, alphabet)?;
+    walked_by::<Brand>(alloc, net, text, alphabet, &applied, start, Blank::new(1))
+}
+
+/// The ends of the walks from a position, with no step taken before.
+fn walked_by<L: Ledger>(
+    alloc: Global,
+    net: &Net,
+    text: &Text,
+    alphabet: &Alphabet,
+    applied: &Applied,
+    start: usize,
+    blank: Blank,
+) -> Mem<String>
+    requires name { blank.name ≡ L.name }
+    requires parts { blank.parts ≡ L.parts }
+    requires some { 0 < blank.parts }
+    requires belongs { Belongs alphabet.now text.now applied.now }
+    requires inside { start ≤ length text.now }
+{
+    let mut steps = Steps::<L>::new(blank);
     net.is_measured();
-    let found = walk(alloc, net, text, alphabet, start)?;
+    let found = walk(alloc, net, text, alphabet, applied, start, &mut steps)?;
     Ok(ends(alloc, &found)?)
 }
 

@@ -1,54 +1,65 @@
-//! Rows of walkers: which way each goes from a position, over a graph of one box, or of two, of which
-//! the first leads to the second.
+//! Rows of walkers: where all walks from a position end, over a graph of one box, or of two, of which
+//! the first leads to the second, and whether the position is held back from then on.
 //!
 //! The text is that of `walk`: `The`, a space, `cat`, a comma, a space, `x`.
 
+ghost use Rattle.std.specs.Prelude.{◌≡◌, ◌<◌, length};
+ghost use Rattle.ux_apply.specs.Belonging.{Belongs};
+
 use crate::comparing::compare;
-use crate::walk::{letters, one_box, read};
+use crate::walk::{letters, one_box, read, without_dictionaries};
 use std::alloc::{AllocError, Global};
+use std::marker::Brand;
 use std::process::Abort;
+use std::sync::ledger::{Blank, Ledger};
 use std::test::Fail;
 use ux_alphabet::Alphabet;
-use ux_base::{Lst, Mem};
+use ux_apply::Applied;
+use ux_base::{Mem, Steps};
 use ux_net::Net;
-use ux_outputs::Event;
 use ux_tokens::Text;
-use ux_walk::Walker;
+use ux_walker::Walker;
 
-/// A name, the content of the box or the boxes, the position, and the way with its ends.
+/// A name, the content of the box or the boxes, the position, and the ends.
 type Row = (&'static str, &'static str, usize, &'static str);
 
-/// The way from a position, and its ends: held back, straight, or by rounds.
+/// The ends from a position, or `outside`.
 fn way(alloc: Global, net: &Net, text: &Text, alphabet: &Alphabet, start: usize) -> Mem<String> {
     if start >= text.len() {
         return Ok(String::from_str(alloc, "outside")?);
     }
-    let mut walker = Walker::of(alloc, net, text, alphabet)?;
-    if !walker.may_begin(start) {
-        return Ok(String::from_str(alloc, "held back")?);
-    }
+    let applied = without_dictionaries(alloc, text, alphabet)?;
+    way_by::<Brand>(alloc, net, text, alphabet, &applied, start, Blank::new(1))
+}
+
+/// The ends from a position, with no step taken before.
+fn way_by<L: Ledger>(
+    alloc: Global,
+    net: &Net,
+    text: &Text,
+    alphabet: &Alphabet,
+    applied: &Applied,
+    start: usize,
+    blank: Blank,
+) -> Mem<String>
+    requires name { blank.name ≡ L.name }
+    requires parts { blank.parts ≡ L.parts }
+    requires some { 0 < blank.parts }
+    requires belongs { Belongs alphabet.now text.now applied.now }
+    requires inside { start < length text.now }
+{
+    let mut steps = Steps::<L>::new(blank);
+    let mut walker = Walker::of(alloc, net, text, alphabet, applied)?;
     let mut ends = Vec::new(alloc);
-    if walker.straight_ends(alloc, start, &mut ends)? {
-        return Ok(straight(alloc, ends.as_slice())?);
-    }
-    let found = walker.derivations(alloc, start)?;
-    Ok(by_rounds(alloc, found.as_slice())?)
+    walker.ends_from(alloc, start, &mut ends, &mut steps)?;
+    Ok(told(alloc, ends.as_slice(), walker.may_begin(start))?)
 }
 
-/// The ends of a straight walk, each after a space.
-fn straight(alloc: Global, ends: &[usize]) -> Result<String, AllocError> {
-    let mut all = String::from_str(alloc, "straight")?;
+/// The ends, each after a space, behind a word that tells whether a walk may begin.
+fn told(alloc: Global, ends: &[usize], may_begin: bool) -> Result<String, AllocError> {
+    let word = if may_begin { "walked" } else { "held back" };
+    let mut all = String::from_str(alloc, word)?;
     for end in ends {
-        let text = format!(in alloc; " {end}")?;
-        all.push_str(text.as_str())?;
-    }
-    Ok(all)
-}
-
-/// The ends of a walk by rounds, each after a space.
-fn by_rounds(alloc: Global, found: &[(usize, Lst<Event>)]) -> Result<String, AllocError> {
-    let mut all = String::from_str(alloc, "by rounds")?;
-    for (end, _) in found {
         let text = format!(in alloc; " {end}")?;
         all.push_str(text.as_str())?;
     }
@@ -68,16 +79,16 @@ fn compare_ways(rt: &impl Abort, alloc: Global, rows: &[Row]) -> Result<(), Fail
 }
 
 #[test]
-fn walkers_go_straight_through_literals_alone(rt: HostRuntime) -> Result<(), Fail> {
+fn walkers_find_all_ends(rt: HostRuntime) -> Result<(), Fail> {
     const ROWS: &[Row] = &[
-        ("a literal", "the", 0, "straight 1"),
-        ("two that begin alike", "the|13 cat", 0, "straight 1 3"),
-        ("the last token", "x", 5, "straight 6"),
+        ("a literal", "the", 0, "walked 1"),
+        ("two that begin alike", "the|13 cat", 0, "walked 1 3"),
+        ("the last token", "x", 5, "walked 6"),
         ("no first token", "dog|3 cat", 0, "held back"),
         ("no second token", "the|3 dog", 0, "held back"),
-        ("glue after a literal", "cat#", 2, "by rounds 3"),
-        ("a space after a literal", "the_", 0, "by rounds 2"),
-        ("glue alone", "#", 0, "by rounds 0"),
+        ("glue after a literal", "cat#", 2, "walked 3"),
+        ("a space after a literal", "the_", 0, "walked 2"),
+        ("glue alone", "#", 0, "held back"),
     ];
     compare_ways(&rt, rt.alloc(), ROWS)
 }

@@ -7,10 +7,15 @@ compiled_graph :
     IsAsked (asked_by (codes "locate" ∷ codes "g.fst2" ∷ codes "t.txt" ∷ codes "a.txt" ∷ [])) → ⊥
 compiled_graph is = is
 
--- nor is a dictionary read
+-- a dictionary that is a text is
 a_dictionary : IsAsked (asked_by (codes "locate" ∷ codes "g.grf" ∷ codes "t.txt" ∷ codes "a.txt"
-    ∷ codes "d.dic" ∷ [])) → ⊥
-a_dictionary is = is
+    ∷ codes "d.dic" ∷ []))
+a_dictionary = tt
+
+-- but an image isn't
+a_searched_image : IsAsked (asked_by (codes "locate" ∷ codes "g.grf" ∷ codes "t.txt" ∷ codes "a.txt"
+    ∷ codes "d.dic" ∷ codes "e.udi" ∷ [])) → ⊥
+a_searched_image is = is
 
 some_tokens : IsAsked (asked_by (codes "tokenize" ∷ codes "t.txt" ∷ codes "a.txt" ∷ []))
 some_tokens = tt

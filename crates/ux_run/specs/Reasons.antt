@@ -15,6 +15,7 @@ search_told (search_reason.Decode error) = reason.Decode error
 search_told (search_reason.Alphabet error) = reason.Alphabet error
 search_told (search_reason.Grf error) = reason.Grf error
 search_told (search_reason.Net error) = reason.Net error
+search_told (search_reason.Dela error) = reason.Dela error
 search_told search_reason.TooManyGraphs = reason.TooManyGraphs
 
 abbrev pub tokenize_told : tokenize.Reason → Reason

@@ -1,6 +1,6 @@
 -- Which requests are built: the options that commands take today, and the kinds of files. Public,
 -- through `Running`.
-use Rattle.std.specs.Prelude.{ℕ, ◌&&◌, ◌==◌, nat_eq, Bool, true, false, not, List, length, codes}
+use Rattle.std.specs.Prelude.{ℕ, ◌&&◌, nat_eq, Bool, true, false, not, List, codes}
 use Rattle.std.specs.List.{ends_with, list_all}
 use Rattle.ux_base.specs.declared.settings.Mode.{Mode}
 use Rattle.ux_base.specs.declared.settings.Mode.TheVariants.{Ignore}
@@ -29,12 +29,6 @@ is_nothing novar = false
 abbrev pub is_drawn : List ℕ → Bool
 is_drawn graph = not (ends_with nat_eq graph (codes ".fst2"))
 
--- a search in the default mode and policy, by a graph that is drawn and no dictionary
-abbrev pub is_built_search : Search → Bool
-is_built_search search =
-    is_ignore search.mode && (is_all search.policy && (is_nothing search.novar
-    && (length search.dics == 0 && is_drawn search.graph)))
-
 -- the dictionary is a text, and no image
 abbrev pub is_text : List ℕ → Bool
 is_text dic = not (ends_with nat_eq dic (codes ".udi"))
@@ -42,3 +36,9 @@ is_text dic = not (ends_with nat_eq dic (codes ".udi"))
 -- each of the dictionaries is
 abbrev pub are_texts : List (List ℕ) → Bool
 are_texts dics = list_all is_text dics
+
+-- a search in the default mode and policy, by a graph that is drawn, with dictionaries that are texts
+abbrev pub is_built_search : Search → Bool
+is_built_search search =
+    is_ignore search.mode && (is_all search.policy && (is_nothing search.novar
+    && (are_texts search.dics && is_drawn search.graph)))

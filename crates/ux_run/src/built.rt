@@ -6,14 +6,15 @@ ghost use Rattle.ux_run.specs.Requests.{are_texts, is_all, is_built_search, is_d
 use ux_base::{Mode, NoVar, Policy, Txt};
 use ux_words::Search;
 
-/// Whether the search is in the default mode and policy, by a graph that is drawn and no dictionary.
+/// Whether the search is in the default mode and policy, by a graph that is drawn, with dictionaries
+/// that are texts.
 pub fn is_built_search(search: &Search) -> bool
     ensures { result ≡ is_built_search search.now }
 {
     is_ignore(search.mode)
         && is_all(search.policy)
         && is_nothing(search.novar)
-        && search.dics.as_slice().is_empty()
+        && are_texts(search.dics.as_slice())
         && is_drawn(search.graph.as_str())
 }
 

@@ -77,6 +77,7 @@ fn search_by<F: Folder>(alloc: Global, search: &Search, folder: &mut F) -> Resul
         graph,
         text,
         search.alphabet.as_str(),
+        search.dics.as_slice(),
         search.chars,
         folder,
     ))

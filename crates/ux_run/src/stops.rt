@@ -60,6 +60,7 @@ impl CommandReason for SearchReason {
             SearchReason::Alphabet(error) => Reason::Alphabet(error),
             SearchReason::Grf(error) => Reason::Grf(error),
             SearchReason::Net(error) => Reason::Net(error),
+            SearchReason::Dela(error) => Reason::Dela(error),
             SearchReason::TooManyGraphs => Reason::TooManyGraphs,
         }
     }

@@ -9,19 +9,23 @@ use Rattle.ux_net.specs.declared.net_graph.NetGraph.{NetGraph}
 use Rattle.ux_outputs.specs.declared.event.Event.{Event}
 use Rattle.ux_outputs.specs.declared.hit.Hit.{Hit}
 use Rattle.ux_meaning.specs.Meaning.{Der}
-use Rattle.ux_meaning.specs.Texts.{bare_text}
+use Rattle.ux_walk.specs.Settings.{applied_text}
 use Rattle.ux_meaning.proofs.Renaming.{same_meaning}
 use Rattle.ux_plan.specs.Plans.{Answers}
 use Rattle.ux_alphabet.specs.Letters.{Letters}
 use Rattle.ux_search.specs.Hits.{IsHit}
 use Rattle.ux_search.specs.Index.{IsIndex}
 use Rattle.ux_search.specs.Locate.{AreFiles, locate, search_plan}
+use Rattle.ux_search.specs.Spans.{IsAppliedIndex}
+use Rattle.ux_apply.specs.Tables.{Tables}
+use Rattle.ux_apply.specs.declared.priority.Priority.{Priority}
+use Rattle.ux_dela.specs.declared.entry.Entry.{Entry}
 
-module _ (alphabet : Letters) (tokens : List Token) where
+module _ (alphabet : Letters) (tokens : List Token) (tables : Tables) where
   -- grammars that derive the same give the same hits
   hit_alike : (old new : Grammar) → ((i j : ℕ) (events : List Event) →
-      Der (bare_text alphabet tokens) old 1 i j events → Der (bare_text alphabet tokens) new 1 i j events) →
-      (hit : Hit) → IsHit alphabet tokens old hit → IsHit alphabet tokens new hit
+      Der (applied_text alphabet tokens tables) old 1 i j events → Der (applied_text alphabet tokens tables) new 1 i j events) →
+      (hit : Hit) → IsHit alphabet tokens tables old hit → IsHit alphabet tokens tables new hit
   hit_alike old new same hit h = record {
     start = h.start;
     starts = h.starts;
@@ -33,9 +37,9 @@ module _ (alphabet : Letters) (tokens : List Token) where
 
   -- and so the same index
   index_alike : (old new : Grammar) → ((i j : ℕ) (events : List Event) →
-      Der (bare_text alphabet tokens) old 1 i j events ↔ Der (bare_text alphabet tokens) new 1 i j events) →
-      (text : List ℕ) → IsIndex (IsHit alphabet tokens old) text →
-      IsIndex (IsHit alphabet tokens new) text
+      Der (applied_text alphabet tokens tables) old 1 i j events ↔ Der (applied_text alphabet tokens tables) new 1 i j events) →
+      (text : List ℕ) → IsIndex (IsHit alphabet tokens tables old) text →
+      IsIndex (IsHit alphabet tokens tables new) text
   index_alike old new same text index = record {
     hits = index.hits;
     listing = record {
@@ -51,16 +55,22 @@ module _ (alphabet : Letters) (tokens : List Token) where
   }
 
 -- the index of the net's hits answers the search
-pub answered : (graph text alphabet : List ℕ) (chars : Bool) (told : Option Files)
-    (letters : Letters) (net : List NetGraph) (tokens : List Token) (answer : List ℕ) →
-    AreFiles (search_plan graph text alphabet chars) told letters net tokens →
-    IsIndex (IsHit letters tokens (net_grammar net)) answer →
-    Answers (locate graph text alphabet chars) told answer
-answered graph text alphabet chars told letters net tokens answer files index = record {
-  read = record { letters = letters; graphs = files.graphs; tokens = tokens };
+pub answered : (graph text alphabet : List ℕ) (names : List (List ℕ)) (chars : Bool)
+    (told : Option Files) (letters : Letters) (net : List NetGraph) (tokens : List Token)
+    (dics : List (Priority × List Entry)) (answer : List ℕ) →
+    AreFiles (search_plan graph text alphabet names chars) told letters net tokens dics →
+    IsAppliedIndex letters tokens dics (net_grammar net) answer →
+    Answers (locate graph text alphabet names chars) told answer
+answered graph text alphabet names chars told letters net tokens dics answer files index = record {
+  read = record { letters = letters; graphs = files.graphs; tokens = tokens; dics = dics };
   comes = files.comes;
-  answers = index_alike letters tokens (net_grammar net) (box_grammar letters files.graphs)
-      (λ i j events. let same = same_meaning (bare_text letters tokens)
-      (box_grammar letters files.graphs) (net_grammar net) files.compiles 1 i j events in
-      (same.1, same.0)) answer index;
+  answers = record {
+    tables = index.tables;
+    applied = index.applied;
+    is = index_alike letters tokens index.tables (net_grammar net)
+        (box_grammar letters files.graphs)
+        (λ i j events. let same = same_meaning (applied_text letters tokens index.tables)
+        (box_grammar letters files.graphs) (net_grammar net) files.compiles 1 i j events in
+        (same.1, same.0)) answer index.is;
+  };
 }

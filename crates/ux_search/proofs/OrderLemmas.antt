@@ -1,6 +1,5 @@
 -- A list of spans that is sorted by what their fields say, field by field, is in order.
-use Rattle.std.proofs.Common.{arith, ◌≡◌, ℕ, suc, zero, ◌+◌, ◌<◌, List, [], ◌∷◌, ◌⊎◌, inl, inr, get_or, sym, ◌∙◌, ap, subst, refl, length, Ordering, Less, Equal, Greater}
-use Rattle.std.specs.Prelude.{Some, slice_get}
+use Rattle.std.proofs.Common.{arith, ◌≡◌, ◌+◌, ◌<◌, List, inl, inr, get_or, subst, refl, Ordering, Less, Equal, Greater}
 use Rattle.std.specs.Ordering.{MatchOrdering, nat_cmp, ordering_then}
 use Rattle.std.proofs.lemmas.Cmp.{ranked}
 use Rattle.std.specs.List.Sorted.{IsStrictlySortedBy}

@@ -1,9 +1,9 @@
 -- Hits and their spans, start by start.
 use Rattle.std.proofs.Common.{arith, ◌≡◌, ℕ, zero, suc, ◌+◌, ◌-◌, ◌<◌, ◌≤◌, List, [], ◌∷◌, ◌++◌, refl, sym, ◌∙◌, ap, subst, ◌⊎◌, ◌↔◌, inl, inr, map, length, get_or}
-use Rattle.std.specs.Prelude.{Contains, Some, None, slice_get}
+use Rattle.std.specs.Prelude.{Contains, Some}
 use Rattle.std.proofs.lemmas.Bool.Decides.{leb_tells}
 use Rattle.std.proofs.lemmas.Option.{same_Some, none-some, slice_get_within}
-use Rattle.std.proofs.lemmas.List.Elements.{Contains-append_left, Contains-append_right, Contains-append_cases, Contains-push, Contains-push_cases}
+use Rattle.std.proofs.lemmas.List.Elements.{Contains-append_left, Contains-append_right, Contains-append_cases}
 use Rattle.ux_base.specs.declared.settings.Mode.TheVariants.{Ignore}
 use Rattle.ux_base.specs.declared.settings.NoVar.TheVariants.{Nothing}
 use Rattle.ux_alphabet.specs.Letters.{Letters}
@@ -14,18 +14,19 @@ use Rattle.ux_net.specs.Words.{Grammar}
 use Rattle.ux_outputs.specs.declared.event.Event.{Event}
 use Rattle.ux_outputs.specs.declared.hit.Hit.{Hit}
 use Rattle.ux_outputs.specs.declared.span.Span.{Span}
-use Rattle.ux_outputs.specs.Following.{AreTakes, FollowWithin, Follows}
+use Rattle.ux_outputs.specs.Following.{AreTakes, Follows}
 use Rattle.ux_outputs.specs.Rendering.{kind_of, render, text_between}
 use Rattle.ux_meaning.specs.Meaning.{Der}
-use Rattle.ux_meaning.specs.Texts.{IsSpaceAt, bare_text}
-use Rattle.ux_outputs.proofs.IgnoredLemmas.{ignored_text}
+use Rattle.ux_meaning.specs.Texts.{IsSpaceAt}
+use Rattle.ux_apply.specs.Belonging.{Belongs}
+use Rattle.ux_apply.specs.Tables.{Tables}
+use Rattle.ux_apply.proofs.OneTokenLaws.{accepts_forward}
 use Rattle.ux_outputs.proofs.TakesLemmas.{renders_takes}
 use Rattle.ux_walk.proofs.FollowingLemmas.{derivation_follows}
 use Rattle.ux_walk.specs.Ends.{AreStraightEnds}
-use Rattle.ux_walk.specs.Noting.{Includes}
-use Rattle.ux_walk.specs.Settings.{Setting, Derives, DerivesNothing}
-use Rattle.ux_search.specs.Hits.{IsStart, IsHit}
-use Rattle.ux_search.specs.Searching.{span_to}
+use Rattle.ux_walk.specs.Settings.{Setting, applied_text}
+use Rattle.ux_search.specs.Hits.{IsStart}
+use Rattle.ux_search.specs.Searching.{Includes, span_to}
 use Rattle.ux_search.specs.Spans.{IsRendered, IsSpan, IsSpanFrom, hit_at}
 
 -- the first and the last token of a hit
@@ -37,13 +38,14 @@ pub start_within : (tokens : List Token) (start : ℕ) → IsStart tokens start 
 start_within tokens start s = slice_get_within tokens start s.token s.at_place
 
 -- the events of a derivation from a start follow each other in the text
-pub followed : (alphabet : Letters) (tokens : List Token) (grammar : Grammar)
-    (start end : ℕ) (events : List Event) →
-    Der (bare_text alphabet tokens) grammar 1 start end events → IsStart tokens start →
+pub followed : (alphabet : Letters) (tokens : List Token) (tables : Tables) →
+    Belongs alphabet tokens tables → (grammar : Grammar) (start end : ℕ) (events : List Event) →
+    Der (applied_text alphabet tokens tables) grammar 1 start end events → IsStart tokens start →
     Follows start end events × (end ≤ length tokens)
-followed alphabet tokens grammar start end events d s =
+followed alphabet tokens tables belongs grammar start end events d s =
     let low = start_within tokens start s in
-    derivation_follows alphabet tokens grammar 1 start end events d (omega (arith, low))
+    derivation_follows alphabet tokens tables (accepts_forward alphabet tokens tables belongs)
+    grammar 1 start end events d (omega (arith, low))
 
 pub Contains-at : (ends : List ℕ) (k : ℕ) → k < length ends → Contains ends (get_or ends k 0)
 Contains-at [] k lt = absurd (omega (arith, lt))
@@ -142,60 +144,12 @@ module _ (setting : Setting) (start : ℕ) (ends : List ℕ) (starts : IsStart s
         (Contains-mapped start ends h.0 h.1));
   })
 
-module _ (tokens : List Token) (start : ℕ) (derivation : ℕ × List Event)
-    (follow : FollowWithin tokens start derivation.1) where
-  -- a hit that is rendered is that of its span
-  rendered_is : (hit : Hit) → render tokens Ignore Nothing start derivation.1 ≡ Some hit →
-      hit ≡ hit_at tokens (span_of hit)
-  rendered_is hit r =
-      ap (λ (text : List ℕ). record { first = hit.first; last = hit.last; text = text })
-      (ignored_text tokens Nothing start follow.end derivation.1 hit follow.follows follow.within
-      r).text
-
-  -- where the span of the hit is added, the hit that the derivation renders is
-  pub hit_pushed : (hit : Hit) → render tokens Ignore Nothing start derivation.1 ≡ Some hit →
-      (old new : List Span) → new ≡ old ++ span_of hit ∷ [] →
-      Includes (IsRendered tokens start derivation) old new
-  hit_pushed hit r old new is = subst (Includes (IsRendered tokens start derivation) old) (sym is)
-      (record {
-        kept = λ span c. Contains-append_left old (span_of hit ∷ []) span c;
-        only = λ span c. elim (Contains-push_cases old (span_of hit) span c) [
-          | inl o ↦ inl o
-          | inr e ↦ inr (subst (λ (x : Span). IsRendered tokens start derivation x) e
-              (r ∙ ap Some (rendered_is hit r)))
-        ];
-        has = λ span f.
-            let same : hit ≡ hit_at tokens span =
-            same_Some hit (hit_at tokens span) (sym r ∙ f) in
-            subst (Contains (old ++ span_of hit ∷ [])) (ap span_of same)
-            (Contains-push old (span_of hit));
-      })
-
-  -- where nothing is rendered, nothing is added
-  pub none_pushed : render tokens Ignore Nothing start derivation.1 ≡ None → (old : List Span) →
-      Includes (IsRendered tokens start derivation) old old
-  none_pushed r old = record {
-    kept = λ span c. c;
-    only = λ span c. inl c;
-    has = λ span f. absurd (none-some (hit_at tokens span) (sym r ∙ f));
-  }
-
--- where the hits of all derivations from a start are added, the hits from the start are
-pub rendered_hits : (setting : Setting) (start : ℕ) (found : List (ℕ × List Event)) →
-    ((end : ℕ) (events : List Event) → Contains found (end, events)
-    ↔ Derives setting start end events) → (old new : List Span) →
-    Includes (λ span. (derivation : ℕ × List Event) × Contains found derivation
-    × IsRendered setting.tokens start derivation span) old new →
-    Includes (IsSpanFrom setting start) old new
-rendered_hits setting start found exactly old new g = record {
-  kept = g.kept;
-  only = λ span c. elim (g.only span c) [
-    | inl o ↦ inl o
-    | inr ((end, events), inside, r) ↦
-        inr (end, events, (exactly end events).0 inside, r)
-  ];
-  has = λ span f. g.has span ((f.0, f.1), (exactly f.0 f.1).1 f.2, f.3);
-}
+-- where there are no ends no hit comes from the start
+pub none_from : (setting : Setting) (start : ℕ) → IsStart setting.tokens start →
+    AreStraightEnds setting start [] → (span : Span) → IsSpanFrom setting start span → ⊥
+none_from setting start starts are span from =
+    let (e, (k, lt, is), same) = end_whole setting start [] starts are span from in
+    absurd (omega (arith, lt))
 
 -- the hits from the starts before this one
 abbrev pub IsSpanBefore : Setting → ℕ → Span → Type 0
@@ -252,11 +206,6 @@ module _ (setting : Setting) where
     ];
   }
 
-  -- nothing is derived from a start, and so no hit comes from it
-  pub none_from : (start : ℕ) → DerivesNothing setting start → (span : Span) →
-      IsSpanFrom setting start span → ⊥
-  none_from start none span f = none f.0 f.1 f.2
-
   -- a search begins at no space
   pub no_space_at : (start : ℕ) → IsStart setting.tokens start →
       IsSpaceAt setting.tokens start → ⊥
@@ -267,7 +216,7 @@ module _ (setting : Setting) where
   pub hits_all : (count : ℕ) (spans : List Span) → length setting.tokens ≤ count →
       Includes (IsSpanBefore setting count) [] spans → (span : Span) →
       Contains spans span
-      ↔ IsSpan setting.alphabet setting.tokens (net_grammar setting.net) span
+      ↔ IsSpan setting.alphabet setting.tokens setting.tables (net_grammar setting.net) span
   hits_all count spans past g span = (
     λ c. elim (g.only span c) [
       | inl o ↦ absurd (omega (arith, o.1))

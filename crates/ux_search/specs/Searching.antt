@@ -19,3 +19,9 @@ AreInOrder spans = (k : ℕ) (a b : Span) → slice_get spans k ≡ Some a →
 pub record ListsSpans (Is : Span → Type 0) (spans : List Span) : Type 0 where
   pub exactly : (span : Span) → Contains spans span ↔ Is span
   pub ordered : AreInOrder spans
+
+-- what is wanted was added to what was there, and nothing else
+pub record Includes {X : Type 0} (Wanted : X → Type 0) (old new : List X) : Type 0 where
+  pub kept : (x : X) → Contains old x → Contains new x
+  pub only : (x : X) → Contains new x → Contains old x ⊎ Wanted x
+  pub has : (x : X) → Wanted x → Contains new x

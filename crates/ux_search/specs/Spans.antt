@@ -5,6 +5,9 @@ use Rattle.ux_base.specs.declared.settings.Mode.TheVariants.{Ignore}
 use Rattle.ux_base.specs.declared.settings.NoVar.TheVariants.{Nothing}
 use Rattle.ux_alphabet.specs.Letters.{Letters}
 use Rattle.ux_tokens.specs.Tokens.{Token}
+use Rattle.ux_apply.specs.Tables.{AreApplied, Tables}
+use Rattle.ux_apply.specs.declared.priority.Priority.{Priority}
+use Rattle.ux_dela.specs.declared.entry.Entry.{Entry}
 use Rattle.ux_net.specs.Words.{Grammar}
 use Rattle.ux_outputs.specs.declared.event.Event.{Event}
 use Rattle.ux_outputs.specs.declared.hit.Hit.{Hit}
@@ -12,6 +15,7 @@ use Rattle.ux_outputs.specs.declared.span.Span.{Span}
 use Rattle.ux_outputs.specs.Rendering.{render, text_between}
 use Rattle.ux_walk.specs.Settings.{Derives, Setting}
 use Rattle.ux_search.specs.Hits.{IsHit}
+use Rattle.ux_search.specs.Index.{IsIndex}
 
 -- the hit of a span
 abbrev pub hit_at : List Token → Span → Hit
@@ -22,8 +26,9 @@ hit_at tokens span = record {
 }
 
 -- a hit of the grammar begins and ends so
-abbrev pub IsSpan : Letters → List Token → Grammar → Span → Type 0
-IsSpan alphabet tokens grammar span = IsHit alphabet tokens grammar (hit_at tokens span)
+abbrev pub IsSpan : Letters → List Token → Tables → Grammar → Span → Type 0
+IsSpan alphabet tokens tables grammar span =
+    IsHit alphabet tokens tables grammar (hit_at tokens span)
 
 -- a derivation from the start, an end and its events, renders the hit of the span
 abbrev pub IsRendered : List Token → (start : ℕ) → ℕ × List Event → Span → Type 0
@@ -35,3 +40,10 @@ abbrev pub IsSpanFrom : Setting → (start : ℕ) → Span → Type 0
 IsSpanFrom setting start span =
     (end : ℕ) × (events : List Event) × Derives setting start end events
     × IsRendered setting.tokens start (end, events) span
+
+-- the index of the grammar's hits in the text, to which the dictionaries' entries are applied
+pub record IsAppliedIndex (alphabet : Letters) (tokens : List Token)
+    (dics : List (Priority × List Entry)) (grammar : Grammar) (index : List ℕ) : Type 0 where
+  pub tables : Tables
+  pub applied : AreApplied alphabet dics tokens tables
+  pub is : IsIndex (IsHit alphabet tokens tables grammar) index

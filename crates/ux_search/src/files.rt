@@ -1,4 +1,5 @@
-//! The files of a search, read in their order: the alphabet, the graphs, the text.
+//! The files of a search, read in their order: the alphabet, the graphs, the text, the
+//! dictionaries.
 //!
 //! Each is read, decoded and given to its format's reader before the next is looked at, so the first
 //! that isn't accepted stops the search.
@@ -11,7 +12,10 @@ ghost use Rattle.ux_search.specs.Locate.{AreFiles, search_plan};
 use crate::reason::Reason;
 use std::alloc::Global;
 use ux_alphabet::Alphabet;
-use ux_base::Folder;
+use ux_apply::Priority;
+use ux_base::{Folder, Txt};
+use ux_dict::ListLexicon;
+use ux_dictionaries::read_dictionaries;
 use ux_grammars::read_net;
 use ux_net::Net;
 use ux_plan::Stop;
@@ -27,6 +31,8 @@ pub struct Files {
     pub net: Net,
     /// The tokens.
     pub text: Text,
+    /// The dictionaries, each with its priority.
+    pub dics: Vec<(Priority, ListLexicon)>,
 }
 
 /// Reads the files of a search.
@@ -36,21 +42,26 @@ pub fn read_files<F: Folder>(
     graph: &str,
     text: &str,
     alphabet: &str,
+    dics: &[Txt],
     chars: bool,
     folder: &mut F,
 ) -> Result<Files, Stop<Reason>>
     ensures later { IsLater (F.seen folder.old) (F.seen folder.new) }
-    ensures ok { IfOk result (λ files. AreFiles (search_plan graph.now text.now alphabet.now chars)
-        (F.seen folder.old).files files.alphabet files.net files.text) }
-    ensures err { IfErr result (Halts (search_plan graph.now text.now alphabet.now chars)
-        (F.seen folder.old) (F.seen folder.new)) }
+    ensures ok { IfOk result (λ files. AreFiles
+        (search_plan graph.now text.now alphabet.now dics.now chars) (F.seen folder.old).files
+        files.alphabet files.net files.text files.dics.items) }
+    ensures err { IfErr result
+        (Halts (search_plan graph.now text.now alphabet.now dics.now chars) (F.seen folder.old)
+        (F.seen folder.new)) }
 {
     let alphabet = read_alphabet(alloc, alphabet, chars, folder)?;
     let net = read_net(alloc, graph, &alphabet, folder)?;
     let text = read_text(alloc, text, &alphabet, folder)?;
+    let dics = read_dictionaries(alloc, dics, folder)?;
     Ok(Files {
         alphabet,
         net,
         text,
+        dics,
     })
 }

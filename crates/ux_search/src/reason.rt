@@ -2,6 +2,8 @@
 
 use ux_alphabet::AlphabetError;
 use ux_decode::DecodeError;
+use ux_dela::DelaError;
+use ux_dictionaries::OfDela;
 use ux_grammars::OfGrammar;
 use ux_grf::GrfError;
 use ux_net::NetError;
@@ -21,6 +23,8 @@ pub enum Reason {
     Net(NetError),
     /// The grammar has 65,535 graphs before this one.
     TooManyGraphs,
+    /// The dictionary's own reason.
+    Dela(DelaError),
 }
 
 impl OfDecode for Reason {
@@ -62,5 +66,15 @@ impl OfGrammar for Reason {
 
     fn too_many_graphs() -> Reason {
         Reason::TooManyGraphs
+    }
+}
+
+impl OfDela for Reason {
+    ghost use Rattle.ux_search.specs.declared.reason.Reason.TheVariants as reason;
+
+    ghost dela_as = { reason.Dela };
+
+    fn of_dela(error: DelaError) -> Reason {
+        Reason::Dela(error)
     }
 }

@@ -1,46 +1,59 @@
 //! Every hit of a grammar in a text, as long as outputs are ignored.
 //!
-//! The main graph is walked from each token that is no space, where the first two tokens may begin a
-//! walk. Through literals alone every derivation takes exactly the tokens up to its end: there each
-//! end is a hit. Elsewhere the events of each derivation are rendered, since a hit may begin after
-//! its start. The hits are put in order at the end, each once.
+//! The main graph is walked from each token that is no space, where a walk may begin. A net has
+//! labels alone that take tokens or nothing, so every derivation takes exactly the tokens up to its
+//! end, and each end is a hit. The hits are put in order at the end, each once.
 
-ghost use Rattle.std.specs.Prelude.{◌≡◌, ◌<◌, ◌↔◌, ◌++◌, ℕ, Contains, IsTrue, IfOk, OnOk, List, length, map};
+ghost use Rattle.std.specs.Prelude.{◌≡◌, ◌<◌, ◌↔◌, ◌++◌, ℕ, Contains, IsTrue, IfOk, OnOk, length, map};
+ghost use Rattle.ux_apply.specs.Belonging.{Belongs};
 ghost use Rattle.ux_net.specs.Nets.{net_grammar};
-ghost use Rattle.ux_outputs.specs.declared.event.Event.{Event};
 ghost use Rattle.ux_outputs.specs.declared.span.Span.{Span};
-ghost use Rattle.ux_outputs.specs.Following.{FollowWithin};
-ghost use Rattle.ux_walk.specs.Noting.{Includes};
 ghost use Rattle.ux_search.specs.Hits.{IsStart};
-ghost use Rattle.ux_search.specs.Searching.{ListsSpans, span_to};
-ghost use Rattle.ux_search.specs.Spans.{IsSpan, IsSpanFrom, IsRendered};
+ghost use Rattle.ux_search.specs.Searching.{Includes, ListsSpans, span_to};
+ghost use Rattle.ux_search.specs.Spans.{IsSpan, IsSpanFrom};
 
 use crate::sorting::sort_spans;
 use std::alloc::Global;
+use std::sync::ledger::Ledger;
 use ux_alphabet::Alphabet;
-use ux_base::{Lst, Mem, Mode, NoVar};
+use ux_apply::Applied;
+use ux_base::{Mem, Steps};
 use ux_net::Net;
-use ux_outputs::{Event, Span, render};
+use ux_outputs::Span;
 use ux_tokens::{Kind, Text};
-use ux_walk::Walker;
+use ux_walker::Walker;
 
 /// The hits by their first and last token, in order. In the mode in which outputs are ignored a
 /// hit's text is that of these tokens and those between.
-pub fn hits(alloc: Global, net: &Net, alphabet: &Alphabet, text: &Text) -> Mem<Vec<Span>>
-    ensures { IfOk result (λ hits.
-        ListsSpans (IsSpan alphabet.now text.now (net_grammar net.now)) hits.items) }
+pub fn hits<L: Ledger>(
+    alloc: Global,
+    net: &Net,
+    alphabet: &Alphabet,
+    text: &Text,
+    applied: &Applied,
+    steps: &mut Steps<L>,
+) -> Mem<Vec<Span>>
+    requires belongs { Belongs alphabet.now text.now applied.now }
+    ensures { IfOk result (λ hits. ListsSpans
+        (IsSpan alphabet.now text.now applied.now (net_grammar net.now)) hits.items) }
 {
-    let mut walker = Walker::of(alloc, net, text, alphabet)?;
-    let mut hits = all_hits(alloc, text, &mut walker)?;
+    let mut walker = Walker::of(alloc, net, text, alphabet, applied)?;
+    let mut hits = all_hits(alloc, text, &mut walker, steps)?;
     sort_spans(&mut hits);
     Ok(hits)
 }
 
 /// The hits of all starts, in the order in which they are found.
-fn all_hits(alloc: Global, text: &Text, walker: &mut Walker) -> Mem<Vec<Span>>
+fn all_hits<L: Ledger>(
+    alloc: Global,
+    text: &Text,
+    walker: &mut Walker,
+    steps: &mut Steps<L>,
+) -> Mem<Vec<Span>>
     requires { walker.now.tokens ≡ text.now }
     ensures { IfOk result (λ hits. (span : Span) → Contains hits.items span
-        ↔ IsSpan walker.old.alphabet walker.old.tokens (net_grammar walker.old.net) span) }
+        ↔ IsSpan walker.old.alphabet walker.old.tokens walker.old.tables
+        (net_grammar walker.old.net) span) }
 {
     let mut ends = Vec::new(alloc);
     let mut hits = Vec::new(alloc);
@@ -51,7 +64,7 @@ fn all_hits(alloc: Global, text: &Text, walker: &mut Walker) -> Mem<Vec<Span>>
         if !walker.may_begin(start) {
             continue;
         }
-        push_hits(alloc, text, walker, start, &mut ends, &mut hits)?;
+        push_hits(alloc, walker, start, &mut ends, &mut hits, steps)?;
     }
     Ok(hits)
 }
@@ -65,27 +78,21 @@ fn is_start(text: &Text, position: usize) -> bool
 }
 
 /// Adds the hits from a start.
-fn push_hits(
+fn push_hits<L: Ledger>(
     alloc: Global,
-    text: &Text,
     walker: &mut Walker,
     start: usize,
     ends: &mut Vec<usize>,
     hits: &mut Vec<Span>,
+    steps: &mut Steps<L>,
 ) -> Mem<()>
-    requires made { walker.now.tokens ≡ text.now }
-    requires starts { IsStart text.now start }
+    requires starts { IsStart walker.now.tokens start }
     ensures same { walker.new ≡ walker.old }
     ensures hits { OnOk result
         (Includes (IsSpanFrom walker.old start) hits.old.items hits.new.items) }
 {
-    if walker.straight_ends(alloc, start, ends)? {
-        push_ends(start, ends.as_slice(), hits)?;
-    } else {
-        let found = walker.derivations(alloc, start)?;
-        push_rendered(alloc, text, start, found.as_slice(), hits)?;
-    }
-    Ok(())
+    walker.ends_from(alloc, start, ends, steps)?;
+    push_ends(start, ends.as_slice(), hits)
 }
 
 /// Adds the hits that take exactly the tokens from a start to these later positions.
@@ -97,49 +104,6 @@ fn push_ends(start: usize, ends: &[usize], hits: &mut Vec<Span>) -> Mem<()>
         hits.push(Span {
             first: start,
             last: *end - 1,
-        })?;
-    }
-    Ok(())
-}
-
-/// Adds the hits that these derivations from a start render.
-fn push_rendered(
-    alloc: Global,
-    text: &Text,
-    start: usize,
-    found: &[(usize, Lst<Event>)],
-    hits: &mut Vec<Span>,
-) -> Mem<()>
-    requires { (end : ℕ) (events : List Event) → Contains found.now (end, events) →
-        FollowWithin text.now start events }
-    ensures { OnOk result (Includes (λ span. (derivation : ℕ × List Event)
-        × Contains found.now derivation × IsRendered text.now start derivation span)
-        hits.old.items hits.new.items) }
-{
-    for derivation in found {
-        push_hit(alloc, text, start, derivation, hits)?;
-    }
-    Ok(())
-}
-
-/// Adds the hit that a derivation from a start renders, where it renders one.
-fn push_hit(
-    alloc: Global,
-    text: &Text,
-    start: usize,
-    derivation: &(usize, Lst<Event>),
-    hits: &mut Vec<Span>,
-) -> Mem<()>
-    requires { FollowWithin text.now start derivation.now.1 }
-    ensures { OnOk result
-        (Includes (IsRendered text.now start derivation.now) hits.old.items hits.new.items) }
-{
-    let events = derivation.1.as_slice();
-    let hit = render(alloc, start, events, Mode::Ignore, NoVar::Nothing, text)?;
-    if let Some(hit) = hit {
-        hits.push(Span {
-            first: hit.first as usize,
-            last: hit.last as usize,
         })?;
     }
     Ok(())

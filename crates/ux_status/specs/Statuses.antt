@@ -73,9 +73,15 @@ dela_reason dela_error.NoMemory = codes "NoMemory" ∷ []
 abbrev pub at_node : (what graph : List ℕ) (node : ℕ) → List (List ℕ)
 at_node what graph node = what ∷ graph ∷ codes " node=" ∷ decimal node ∷ []
 
+-- a mask text that is bad at a place, in a node of a graph
+abbrev pub bad_mask : (graph : List ℕ) (node place : ℕ) → List (List ℕ)
+bad_mask graph node place = codes "BadMask graph=" ∷ graph ∷ codes " node=" ∷ decimal node
+    ∷ codes " place=" ∷ decimal place ∷ []
+
 -- the same of a grammar
 abbrev pub net_reason : NetError → List (List ℕ)
 net_reason (net_error.MissingGraph name) = codes "MissingGraph name=" ∷ name ∷ []
+net_reason (net_error.BadMask graph node place) = bad_mask graph node place
 net_reason (net_error.NotYet graph node) = at_node (codes "NotYet graph=") graph node
 net_reason (net_error.EmptyLoop graph node) = at_node (codes "EmptyLoop graph=") graph node
 net_reason (net_error.LeftRecursion graph node) = at_node (codes "LeftRecursion graph=") graph node

@@ -4,7 +4,7 @@ ghost use Rattle.std.specs.Prelude.{◌≢◌, ◌≤◌, ◌∷◌, [], OnOk, O
 ghost use Rattle.std.specs.Fmt.{decimal};
 ghost use Rattle.ux_base.specs.Outside.{Rose, Appended, AppendedFront};
 ghost use Rattle.ux_status.specs.declared.status.Status.TheVariants.{Done};
-ghost use Rattle.ux_status.specs.Statuses.{joined, line_of, refusal, reason_of, at_node, decode_reason, alphabet_reason, grf_reason, net_reason, at_place, dela_reason};
+ghost use Rattle.ux_status.specs.Statuses.{joined, line_of, refusal, reason_of, at_node, bad_mask, decode_reason, alphabet_reason, grf_reason, net_reason, at_place, dela_reason};
 
 use crate::status::{Reason, Status};
 use itoa::Buffer;
@@ -194,6 +194,62 @@ fn say_at<E: Sink>(
     )
 }
 
+/// Writes the line of a grammar with a bad mask text, as in `BadMask graph=np node=2 place=2`.
+fn say_bad_mask<E: Sink>(
+    err: &mut E,
+    file: &str,
+    graph: &Txt,
+    node: u32,
+    place: usize,
+) -> Result<(), SinkError>
+    ensures later { E.faults err.old ≤ E.faults err.new }
+    ensures cause { OnErr result (Rose (E.faults err.old) (E.faults err.new)) }
+    ensures line { OnOk result (Appended (E.written err.old) (E.written err.new)
+        (refusal file.now (bad_mask graph.now node place))) }
+    ensures front { OnErr result (AppendedFront (E.written err.old) (E.written err.new)
+        (refusal file.now (bad_mask graph.now node place))) }
+{
+    let mut first = Buffer::new();
+    let mut second = Buffer::new();
+    let node = first.format(node);
+    let place = second.format(place);
+    say_bad_mask_at(err, file, graph.as_str(), node, place)
+}
+
+/// Writes the same by the digits of the node and the place.
+fn say_bad_mask_at<E: Sink>(
+    err: &mut E,
+    file: &str,
+    graph: &str,
+    node: &str,
+    place: &str,
+) -> Result<(), SinkError>
+    ensures later { E.faults err.old ≤ E.faults err.new }
+    ensures cause { OnErr result (Rose (E.faults err.old) (E.faults err.new)) }
+    ensures line { OnOk result (Appended (E.written err.old) (E.written err.new)
+        (refusal file.now (codes "BadMask graph=" ∷ graph.now ∷ codes " node=" ∷ node.now
+        ∷ codes " place=" ∷ place.now ∷ []))) }
+    ensures front { OnErr result (AppendedFront (E.written err.old) (E.written err.new)
+        (refusal file.now (codes "BadMask graph=" ∷ graph.now ∷ codes " node=" ∷ node.now
+        ∷ codes " place=" ∷ place.now ∷ []))) }
+{
+    say(
+        err,
+        &[
+            "refused: ",
+            file,
+            ": ",
+            "BadMask graph=",
+            graph,
+            " node=",
+            node,
+            " place=",
+            place,
+            "\n",
+        ],
+    )
+}
+
 /// Writes the line of a file that has no text.
 fn say_decode_error<E: Sink>(err: &mut E, file: &str, error: &DecodeError) -> Result<(), SinkError>
     ensures later { E.faults err.old ≤ E.faults err.new }
@@ -267,6 +323,9 @@ fn say_net_error<E: Sink>(err: &mut E, file: &str, error: &NetError) -> Result<(
 {
     match error {
         NetError::MissingGraph { name } => say_missing(err, file, name),
+        NetError::BadMask { graph, node, place } => {
+            say_bad_mask(err, file, graph, *node, *place)
+        },
         NetError::NotYet { graph, node } => { say_node(err, file, "NotYet graph=", graph, *node) },
         NetError::EmptyLoop { graph, node } => {
             say_node(err, file, "EmptyLoop graph=", graph, *node)

@@ -8,7 +8,8 @@ use Rattle.ux_walk.specs.declared.config.Found.{Found}
 use Rattle.ux_walk.specs.declared.config.Taken.{Taken}
 use Rattle.ux_walk.specs.declared.reached.Reached.{Reached}
 use Rattle.ux_walk.specs.Links.{Names, AreBelow, Extends, IsConsed}
-use Rattle.ux_walk.specs.Configurations.{Course, Spells, IsNamed, IsFound, IsSound, Adds, frames_of, events_of}
+use Rattle.ux_walk.specs.Courses.{Course}
+use Rattle.ux_walk.specs.Configurations.{Spells, IsNamed, IsFound, IsSound, Adds, frames_of, events_of}
 use Rattle.ux_walk.proofs.LinksLemmas.{names_kept, one_list, consed_extends, consed_names, consed_below}
 
 -- the same links

@@ -10,7 +10,8 @@ use Rattle.ux_walk.specs.declared.config.Found.{Found}
 use Rattle.ux_walk.specs.declared.config.Taken.{Taken}
 use Rattle.ux_walk.specs.declared.reached.Reached.{Reached}
 use Rattle.ux_walk.specs.Links.{Names, AreOnce}
-use Rattle.ux_walk.specs.Configurations.{IsFoundAs, IsSound, event_of, events_of, told}
+use Rattle.ux_walk.specs.Courses.{event_of, told}
+use Rattle.ux_walk.specs.Configurations.{IsFoundAs, IsSound, events_of}
 use Rattle.ux_walk.proofs.LinksLemmas.{one_number}
 
 at_of : {A : Type 0} (xs : List A) (x : A) → Contains xs x → (k : ℕ) × (slice_get xs k ≡ Some x)

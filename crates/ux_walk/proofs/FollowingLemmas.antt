@@ -3,15 +3,16 @@ use Rattle.std.proofs.Common.{ℕ, ◌≤◌, List, [], ◌∷◌, ◌++◌, ref
 use Rattle.ux_grf.specs.declared.item.Piece.TheVariants.{Chars, Value}
 use Rattle.ux_alphabet.specs.Letters.{Letters}
 use Rattle.ux_tokens.specs.Tokens.{Token}
+use Rattle.ux_apply.specs.Tables.{Tables}
 use Rattle.ux_net.specs.declared.label.Label.TheVariants.{Glue, Begin, End, Cut}
 use Rattle.ux_net.specs.Words.{Grammar, Letter, plain, piece}
 use Rattle.ux_outputs.specs.declared.event.Event.{Event}
 use Rattle.ux_outputs.specs.declared.event.Event.TheVariants.{Take}
 use Rattle.ux_outputs.specs.Following.{Follows}
 use Rattle.ux_meaning.specs.Meaning.{Seq, done, takes, stays, calls, holds, refused, Stays, Der, RefusesBy}
-use Rattle.ux_meaning.specs.Texts.{bare_text}
+use Rattle.ux_walk.specs.Settings.{applied_text}
 use Rattle.ux_walk.proofs.LevelsLemmas.{at_level}
-use Rattle.ux_walk.proofs.Lighter.{takes_forward}
+use Rattle.ux_walk.proofs.Onward.{AreForward, takes_forward}
 
 follows_append : (xs ys : List Event) (i k j : ℕ) → Follows i k xs → Follows k j ys →
     Follows i j (xs ++ ys)
@@ -20,11 +21,12 @@ follows_append (Take from to ∷ xs) ys i k j first second =
     (first.0, first.1, follows_append xs ys to k j first.2 second)
 follows_append (other ∷ xs) ys i k j first second = follows_append xs ys i k j first second
 
-module _ (alphabet : Letters) (tokens : List Token) (grammar : Grammar)
+module _ (alphabet : Letters) (tokens : List Token) (tables : Tables)
+    (forward : AreForward alphabet tokens tables) (grammar : Grammar)
     (Refuses : (g opening closing p : ℕ) → Type 0) where
   -- what a letter that takes nothing gives comes in front
   stays_follows : (x : Letter) (p j : ℕ) (here later : List Event) →
-      Stays (bare_text alphabet tokens) x p here → Follows p j later →
+      Stays (applied_text alphabet tokens tables) x p here → Follows p j later →
       Follows p j (here ++ later)
   stays_follows (plain Glue) p j here later t follows =
       subst (λ (l : List Event). Follows p j (l ++ later)) (sym t.1) follows
@@ -41,11 +43,12 @@ module _ (alphabet : Letters) (tokens : List Token) (grammar : Grammar)
   stays_follows other p j here later t follows = absurd t
 
   pub word_follows : {word : List Letter} {i j : ℕ} {events : List Event} →
-      Seq (bare_text alphabet tokens) grammar Refuses word i j events → i ≤ length tokens →
+      Seq (applied_text alphabet tokens tables) grammar Refuses word i j events →
+      i ≤ length tokens →
       Follows i j events × (j ≤ length tokens)
   word_follows done inside = (refl, inside)
   word_follows (takes {x = x} {p = p} {k = k} t s) inside =
-      let ahead = takes_forward alphabet tokens x p k t in
+      let ahead = takes_forward alphabet tokens tables forward x p k t in
       let rest = word_follows s ahead.1 in
       ((refl, ahead.0, rest.0), rest.1)
   word_follows (stays {x = x} {p = p} {j = j} {later = later} here t s) inside =
@@ -58,10 +61,12 @@ module _ (alphabet : Letters) (tokens : List Token) (grammar : Grammar)
   word_follows (holds of i s) inside = word_follows s inside
   word_follows (refused r s) inside = word_follows s inside
 
-module _ (alphabet : Letters) (tokens : List Token) (grammar : Grammar) where
+module _ (alphabet : Letters) (tokens : List Token) (tables : Tables)
+    (forward : AreForward alphabet tokens tables) (grammar : Grammar) where
   pub derivation_follows : (g start end : ℕ) (events : List Event) →
-      Der (bare_text alphabet tokens) grammar g start end events → start ≤ length tokens →
+      Der (applied_text alphabet tokens tables) grammar g start end events → start ≤ length tokens →
       Follows start end events × (end ≤ length tokens)
-  derivation_follows g start end events d inside = word_follows alphabet tokens grammar
-      (RefusesBy (bare_text alphabet tokens) grammar d.0)
-      (at_level (bare_text alphabet tokens) grammar g start end events d).seq inside
+  derivation_follows g start end events d inside = word_follows alphabet tokens tables
+      forward grammar
+      (RefusesBy (applied_text alphabet tokens tables) grammar d.0)
+      (at_level (applied_text alphabet tokens tables) grammar g start end events d).seq inside

@@ -1,24 +1,16 @@
--- A course one step on weighs less.
-use Rattle.std.proofs.Common.{arith, ◌≡◌, ℕ, zero, suc, ◌+◌, ◌-◌, ◌*◌, ◌^◌, ◌<◌, ◌≤◌, List, [], ◌∷◌, refl, sym, subst, ◌⊎◌, inl, inr, length, Bool, true, false, cond, get_or}
+-- Frames after a step weigh less: after one that takes a token, one that takes nothing, a call, and
+-- an end.
+use Rattle.std.proofs.Common.{arith, ◌≡◌, ℕ, zero, suc, ◌+◌, ◌-◌, ◌*◌, ◌^◌, ◌<◌, ◌≤◌, List, [], ◌∷◌, refl, sym, subst, ◌⊎◌, inl, inr, Bool, true, false, cond, get_or}
 use Rattle.std.specs.Prelude.{Option, Some, None, slice_get, sum_by}
 use Rattle.std.proofs.Math.Nat.{pow-le-pow_right}
 use Rattle.std.proofs.lemmas.Grind.{pow_more}
 use Rattle.std.proofs.lemmas.List.Sums.{get_or-le-sum_by, sum_by-cons}
 use Rattle.std.proofs.lemmas.Option.{slice_get_within, get_or_from_slice_get}
-use Rattle.ux_alphabet.specs.Letters.{Letters}
-use Rattle.ux_tokens.specs.Tokens.{Token}
-use Rattle.ux_tokens.specs.declared.kind.Kind.{Kind}
-use Rattle.ux_tokens.specs.declared.kind.Kind.TheVariants as kind
-use Rattle.ux_net.specs.declared.label.Label.{Label}
-use Rattle.ux_net.specs.declared.label.Label.TheVariants.{Empty, Fold, Exact, Brace, Space, Glue, Call}
+use Rattle.ux_net.specs.declared.label.Label.TheVariants.{Call}
 use Rattle.ux_net.specs.declared.net_graph.NetGraph.{NetGraph}
 use Rattle.ux_net.specs.declared.net_graph.Rank.{Rank}
-use Rattle.ux_net.specs.Measured.{rank_of, rank_in, bound_of, width_of, weigh, is_free, must, IsLower, Falls, IsMeasured}
-use Rattle.ux_outputs.specs.Rendering.{kind_of, skip, skip_past}
-use Rattle.ux_meaning.specs.Texts.{IsSpaceAt, Takes, no_spans}
+use Rattle.ux_net.specs.Measured.{rank_of, rank_in, bound_of, width_of, weigh, is_free, must, IsLower, Falls}
 use Rattle.ux_walk.specs.declared.config.Frame.{Frame}
-use Rattle.ux_walk.specs.declared.config.Taken.{Taken}
-use Rattle.ux_walk.specs.Configurations.{Course, GoesOn, Passes}
 use Rattle.ux_walk.proofs.Weights.{weight_of}
 
 -- powers
@@ -40,45 +32,6 @@ two_powers a b (suc c) h i =
 
 one_less : (a c : ℕ) → a < c → 3 ^ a < 3 ^ c
 one_less a c h = let t = two_powers a a c h h in let o = one_power a in omega arith
-
--- positions move on within the text
-pub skip_forward : (tokens : List Token) (p : ℕ) → p ≤ skip tokens p
-skip_forward tokens p = go (kind_of (slice_get tokens p))
-  where
-    go : (o : Option Kind) → p ≤ skip_past o p
-    go None = omega arith
-    go (Some kind.Space) = omega arith
-    go (Some kind.Word) = omega arith
-    go (Some kind.Other) = omega arith
-    go (Some kind.Sentence) = omega arith
-    go (Some kind.Stop) = omega arith
-    go (Some kind.Tag) = omega arith
-
-space_within : (tokens : List Token) (p : ℕ) → IsSpaceAt tokens p → p < length tokens
-space_within tokens p is = go (slice_get tokens p) refl is
-  where
-    go : (o : Option Token) → slice_get tokens p ≡ o → kind_of o ≡ Some kind.Space →
-        p < length tokens
-    go None at h = cc
-    go (Some token) at h = slice_get_within tokens p token at
-
-pub takes_forward : (alphabet : Letters) (tokens : List Token) (x : Label) (p k : ℕ) →
-    Takes alphabet tokens no_spans x p k → (p < k) × (k ≤ length tokens)
-takes_forward alphabet tokens (Fold text) p k t =
-    let within = slice_get_within tokens (skip tokens p) t.0 t.1 in
-    let forward = skip_forward tokens p in
-    (omega (arith, forward, t.3), omega (arith, within, t.3))
-takes_forward alphabet tokens (Exact text) p k t =
-    let within = slice_get_within tokens (skip tokens p) t.0 t.1 in
-    let forward = skip_forward tokens p in
-    (omega (arith, forward, t.3), omega (arith, within, t.3))
-takes_forward alphabet tokens Space p k t =
-    let within = space_within tokens p t.0 in (omega (arith, t.1), omega (arith, within, t.1))
-takes_forward alphabet tokens (Brace text) p k t =
-    let within = slice_get_within tokens (skip tokens p) t.0 t.1 in
-    let forward = skip_forward tokens p in
-    (omega (arith, forward, t.3), omega (arith, within, t.3))
-takes_forward alphabet tokens other p k t = absurd t
 
 module _ (graphs : List NetGraph) where
   -- no rank is above the sum of all
@@ -144,7 +97,7 @@ module _ (graphs : List NetGraph) where
   lighter_digits m n r s b (inr h) = rw h.0 (omega (arith, h.1))
 
   -- at an end the frame goes
-  ended_lighter : (f : Frame) (fs : List Frame) (m : ℕ) → must graphs f.graph f.state ≡ 0 →
+  pub ended_lighter : (f : Frame) (fs : List Frame) (m : ℕ) → must graphs f.graph f.state ≡ 0 →
       weight_of graphs m fs < weight_of graphs m (f ∷ fs)
   ended_lighter f fs m free =
       let o = one_power (digits m f) in
@@ -155,7 +108,7 @@ module _ (graphs : List NetGraph) where
   to_state f to = record { graph = f.graph; state = to }
 
   -- the frame goes on lower
-  stays_lighter : (f : Frame) (to m : ℕ) (fs : List Frame) → IsLower graphs f.graph f.state to →
+  pub stays_lighter : (f : Frame) (to m : ℕ) (fs : List Frame) → IsLower graphs f.graph f.state to →
       weight_of graphs m (to_state f to ∷ fs) < weight_of graphs m (f ∷ fs)
   stays_lighter f to m fs lower =
       let falls = lower.0 in
@@ -166,7 +119,7 @@ module _ (graphs : List NetGraph) where
       omega arith
 
   -- it takes a token
-  takes_lighter : (f : Frame) (to m n : ℕ) (fs : List Frame) → m < n →
+  pub takes_lighter : (f : Frame) (to m n : ℕ) (fs : List Frame) → m < n →
       weight_of graphs m (to_state f to ∷ fs) < weight_of graphs n (f ∷ fs)
   takes_lighter f to m n fs less =
       let a = one_less (digits m (to_state f to)) (digits n f)
@@ -178,7 +131,7 @@ module _ (graphs : List NetGraph) where
       omega arith
 
   -- it calls a graph, and goes on after it
-  calls_lighter : (f : Frame) (to h m : ℕ) (fs : List Frame) → 0 < m →
+  pub calls_lighter : (f : Frame) (to h m : ℕ) (fs : List Frame) → 0 < m →
       Falls graphs f.graph f.state to (Call h) →
       weight_of graphs m (record { graph = h; state = 0 } ∷ to_state f to ∷ fs)
       < weight_of graphs m (f ∷ fs)
@@ -217,50 +170,3 @@ module _ (graphs : List NetGraph) where
           rw same (whole (m - 1) (lighter_digits (m - 1) m (rank_of graphs f.graph to)
           (rank_of graphs f.graph f.state) (rank_bounded f.graph to) (inl (omega arith)))
           (omega arith))
-
-  abbrev weight_at : ℕ → Course → ℕ
-  weight_at len w = weight_of graphs ((len - w.at) + 1) w.frames
-
-  module _ (alphabet : Letters) (tokens : List Token) (measured : IsMeasured graphs) (f : Frame)
-      (fs : List Frame) (i : ℕ) (before : List Taken) (inside : i ≤ length tokens) where
-    -- inside the text, and lighter than the frames at the position
-    abbrev IsLighter : Course → Type 0
-    IsLighter w = (w.at ≤ length tokens)
-        × (weight_at (length tokens) w < weight_of graphs ((length tokens - i) + 1) (f ∷ fs))
-
-    lower_of : (x : Label) (to : ℕ) → Falls graphs f.graph f.state to x → Passes tokens x i →
-        IsLower graphs f.graph f.state to
-    lower_of Empty to falls s = falls
-    lower_of Glue to falls s = falls
-    lower_of other to falls s = absurd s
-
-    -- a course one step on is so
-    pub next_lighter : (w : Course) → GoesOn alphabet tokens graphs f fs i before w → IsLighter w
-    next_lighter w (state, found, inr (final, is)) =
-        subst (λ (v : Course). IsLighter v) (sym is) (
-          inside,
-          ended_lighter f fs ((length tokens - i) + 1)
-              (measured.ends f.graph f.state state found final),
-        )
-    next_lighter w (state, found, inl (edge, of_state, inl (k, t, is))) =
-        let ahead = takes_forward alphabet tokens edge.label i k t.1 in
-        let forward = ahead.0 in
-        let within = ahead.1 in
-        subst (λ (v : Course). IsLighter v) (sym is) (
-          within,
-          takes_lighter f edge.target ((length tokens - k) + 1) ((length tokens - i) + 1) fs
-              (omega (arith, forward, within)),
-        )
-    next_lighter w (state, found, inl (edge, of_state, inr (inl (s, is)))) =
-        subst (λ (v : Course). IsLighter v) (sym is) (
-          inside,
-          stays_lighter f edge.target ((length tokens - i) + 1) fs (lower_of edge.label edge.target
-              (measured.falls f.graph f.state state edge found of_state) s),
-        )
-    next_lighter w (state, found, inl (edge, of_state, inr (inr (h, label, is)))) =
-        subst (λ (v : Course). IsLighter v) (sym is) (
-          inside,
-          calls_lighter f edge.target h ((length tokens - i) + 1) fs (omega arith)
-              (subst (λ (x : Label). Falls graphs f.graph f.state edge.target x) label
-              (measured.falls f.graph f.state state edge found of_state)),
-        )

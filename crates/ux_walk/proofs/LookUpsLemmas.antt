@@ -1,29 +1,32 @@
--- A list that is enough leaves out no course, and lists stay so where one is added.
-use Rattle.std.proofs.Common.{arith, ◌≡◌, ℕ, ◌+◌, ◌<◌, ◌≤◌, List, [], ◌∷◌, ◌++◌, ◌⊎◌, ◌↔◌, inl, inr, refl, sym, ◌∙◌, ap, subst, Bool, true, false, cond, length, Bor}
+-- Places that are enough leave out no course, and what is kept stays right where an index is added.
+use Rattle.std.proofs.Common.{◌≡◌, ℕ, List, [], ◌∷◌, ◌⊎◌, ◌↔◌, inl, inr, refl, sym, ◌∙◌, ap, subst, Bool, true, false, cond, Bor}
 use Rattle.std.specs.Prelude.{Option, Some, None, Result, Ok, Err, slice_get, Contains, IfSome, IsSomeAnd, OnOk, OnErr, option_copied}
 use Rattle.std.specs.Map.{lookup}
 use Rattle.std.proofs.lemmas.Option.{same_Some, slice_get_within, slice_get-get_or, get_or_from_slice_get}
-use Rattle.std.proofs.lemmas.List.Elements.{Contains-get_or, Contains-append_left, Contains-push}
+use Rattle.std.proofs.lemmas.List.Elements.{Contains-get_or}
 use Rattle.indexmap.specs.IndexMap.{insert_entry}
 use Rattle.ux_alphabet.specs.Letters.{Letters}
 use Rattle.ux_tokens.specs.Tokens.{Token}
+use Rattle.ux_apply.specs.Tables.{Tables}
 use Rattle.ux_net.specs.declared.label.Label.{Label}
 use Rattle.ux_net.specs.declared.label.Label.TheVariants.{Fold, Exact, Call}
 use Rattle.ux_net.specs.declared.state.Edge.{Edge}
 use Rattle.ux_net.specs.declared.state.State.{State}
 use Rattle.ux_net.specs.declared.net_graph.NetGraph.{NetGraph}
 use Rattle.ux_net.specs.Nets.{states_of}
-use Rattle.ux_net.proofs.JoinedLemmas.{less_or, first_or_later, contains_first, contains_later}
+use Rattle.ux_net.proofs.JoinedLemmas.{first_or_later, contains_first, contains_later}
 use Rattle.ux_outputs.specs.Rendering.{skip}
 use Rattle.ux_meaning.specs.Texts.{FoldsTo}
 use Rattle.ux_walk.specs.declared.config.Frame.{Frame}
 use Rattle.ux_walk.specs.declared.config.Config.{Config}
 use Rattle.ux_walk.specs.declared.config.Taken.{Taken}
 use Rattle.ux_walk.specs.declared.reached.Reached.{Reached}
-use Rattle.ux_walk.specs.declared.look_ups.LookUp.{LookUp}
+use Rattle.ux_walk.specs.declared.edge_index.EdgeIndex.{EdgeIndex}
 use Rattle.ux_walk.specs.declared.look_ups.LookUps.{LookUps}
-use Rattle.ux_walk.specs.Configurations.{Course, IsBehind, IsOverSome, IsOverSomeAt, AddsFrom}
-use Rattle.ux_walk.specs.LookUps.{Refuses, AreEnough, IsListed, AreSound}
+use Rattle.ux_walk.specs.Courses.{Course, IsBehind, IsOverSome, IsOverSomeAt}
+use Rattle.ux_walk.specs.Configurations.{AddsFrom}
+use Rattle.ux_walk.specs.EdgeIndexes.{IsIndexOf}
+use Rattle.ux_walk.specs.LookUps.{Refuses, AreEnough, AreSound, IsKept}
 use Rattle.ux_walk.proofs.Adding.{adds_alike}
 
 module _ {K V : Type 0} (eq : K → K → Bool) (key : K) where
@@ -95,51 +98,12 @@ module _ {K V : Type 0} (eq : K → K → Bool) (key : K)
   one_more value old new (Err e) ok is k v h =
       inl (subst (λ (l : List (K × V)). Contains l (k, v)) is h)
 
--- each edge before the place stands at one of the places, or its label refuses the text
-abbrev pub AreEnoughBefore : Letters → List ℕ → List Edge → ℕ → List ℕ → Type 0
-AreEnoughBefore alphabet text edges m places = (n : ℕ) (edge : Edge) → n < m →
-    slice_get edges n ≡ Some edge → Contains places n ⊎ Refuses alphabet edge.label text
-
-module _ (alphabet : Letters) (text : List ℕ) (edges : List Edge) where
-  abbrev Enough : ℕ → List ℕ → Type 0
-  Enough m places = AreEnoughBefore alphabet text edges m places
-
-  this_or_before : (m n : ℕ) → n < m + 1 → (n ≡ m) ⊎ (n < m)
-  this_or_before m n lt = elim (less_or n m) [
-    | inl h ↦ inr h
-    | inr h ↦ inl (omega (arith, h, lt))
-  ]
-
-  pub enough_listed : (m : ℕ) (places : List ℕ) → Enough m places →
-      Enough (m + 1) (places ++ m ∷ [])
-  enough_listed m places before n edge lt at = elim (this_or_before m n lt) [
-    | inl e ↦ inl (subst (Contains (places ++ m ∷ [])) (sym e) (Contains-push places m))
-    | inr l ↦ elim (before n edge l at) [
-      | inl c ↦ inl (Contains-append_left places (m ∷ []) n c)
-      | inr r ↦ inr r
-    ]
-  ]
-
-  pub enough_refused : (m : ℕ) (edge : Edge) (places : List ℕ) → slice_get edges m ≡ Some edge →
-      Refuses alphabet edge.label text → Enough m places → Enough (m + 1) places
-  enough_refused m edge places here refuses before n other lt at = elim (this_or_before m n lt) [
-    | inl e ↦ inr (subst (λ (x : Edge). Refuses alphabet x.label text)
-        (same_Some edge other (sym here ∙ (ap (slice_get edges) (sym e) ∙ at))) refuses)
-    | inr l ↦ before n other l at
-  ]
-
-  pub enough_all : (m : ℕ) (places : List ℕ) → length edges ≤ m → Enough m places →
-      AreEnough alphabet text edges places
-  enough_all m places past before n edge at =
-      let within = slice_get_within edges n edge at in
-      before n edge (omega (arith, within, past)) at
-
-module _ (alphabet : Letters) (tokens : List Token) (fs : List Frame) (i : ℕ)
+module _ (alphabet : Letters) (tokens : List Token) (tables : Tables) (fs : List Frame) (i : ℕ)
     (before : List Taken) where
   -- a label that refuses the token's text leads nowhere
   refused : (label : Label) (token : Token) → slice_get tokens (skip tokens i) ≡ Some token →
       Refuses alphabet label token.text → (f : Frame) (w : Course) →
-      IsBehind alphabet tokens label f fs i before w → ⊥
+      IsBehind alphabet tokens tables label f fs i before w → ⊥
   refused (Fold entry) token at refuses f w b = elim b [
     | inl t ↦ refuses.1 (subst (λ (x : Token). FoldsTo alphabet entry x)
         (same_Some t.1.1.0 token (sym t.1.1.1 ∙ at)) t.1.1.2.1)
@@ -162,8 +126,8 @@ module _ (alphabet : Letters) (tokens : List Token) (fs : List Frame) (i : ℕ)
   same_courses : (f : Frame) (edges : List Edge) (places : List ℕ) (token : Token) →
       slice_get tokens (skip tokens i) ≡ Some token →
       AreEnough alphabet token.text edges places → (w : Course) →
-      IsOverSomeAt alphabet tokens f fs i before edges places w
-      ↔ IsOverSome alphabet tokens f fs i before edges w
+      IsOverSomeAt alphabet tokens tables f fs i before edges places w
+      ↔ IsOverSome alphabet tokens tables f fs i before edges w
   same_courses f edges places token there enough w = (
     λ (n, inside, (edge, at, over)). (
       edge,
@@ -186,64 +150,53 @@ module _ (alphabet : Letters) (edges : List Edge) (places : List ℕ) where
   abbrev pub AreEnoughFor : Option Token → Type 0
   AreEnoughFor o = IsSomeAnd o (λ token. AreEnough alphabet token.text edges places)
 
-  pub adds_listed : (tokens : List Token) (position : ℕ) (old new : Reached) (c : Config) →
+  pub adds_listed : (tokens : List Token) (tables : Tables) (position : ℕ) (old new : Reached)
+      (c : Config) →
       position ≡ skip tokens c.at → AreEnoughFor (slice_get tokens position) →
       AddsFrom old new c (λ back before.
-      IsOverSomeAt alphabet tokens c.here back c.at before edges places) →
+      IsOverSomeAt alphabet tokens tables c.here back c.at before edges places) →
       AddsFrom old new c (λ back before.
-      IsOverSome alphabet tokens c.here back c.at before edges)
-  adds_listed tokens position old new c is enough adds =
+      IsOverSome alphabet tokens tables c.here back c.at before edges)
+  adds_listed tokens tables position old new c is enough adds =
       go (slice_get tokens position) refl enough
     where
       go : (o : Option Token) → slice_get tokens position ≡ o → AreEnoughFor o →
           AddsFrom old new c (λ back before.
-          IsOverSome alphabet tokens c.here back c.at before edges)
+          IsOverSome alphabet tokens tables c.here back c.at before edges)
       go None there enough = absurd enough
       go (Some token) there enough = λ back before sound spells.
-          adds_alike (IsOverSomeAt alphabet tokens c.here back c.at before edges places)
-          (IsOverSome alphabet tokens c.here back c.at before edges) old new
+          adds_alike (IsOverSomeAt alphabet tokens tables c.here back c.at before edges places)
+          (IsOverSome alphabet tokens tables c.here back c.at before edges) old new
           (adds back before sound spells)
-          (same_courses alphabet tokens back c.at before c.here edges places token
+          (same_courses alphabet tokens tables back c.at before c.here edges places token
           (ap (slice_get tokens) (sym is) ∙ there) enough)
 
-  -- enough for the text that the token has
-  pub enough_for : (text : List ℕ) (o : Option Token) → AreEnough alphabet text edges places →
-      IsSomeAnd o (λ token. text ≡ token.text) → AreEnoughFor o
-  enough_for text None enough is = absurd is
-  enough_for text (Some token) enough is =
-      subst (λ (t : List ℕ). AreEnough alphabet t edges places) is enough
+  -- places by an index that is kept are enough for the token
+  pub kept_enough : (texts : List (List ℕ)) (index : EdgeIndex) →
+      IsIndexOf alphabet texts edges index →
+      (number : ℕ) (o : Option Token) →
+      IsSomeAnd o (λ token. slice_get texts number ≡ Some token.text) →
+      ((text : List ℕ) → slice_get texts number ≡ Some text → IsIndexOf alphabet texts edges index →
+      AreEnough alphabet text edges places) → AreEnoughFor o
+  kept_enough texts index is number None numbered enough = absurd numbered
+  kept_enough texts index is number (Some token) numbered enough = enough token.text numbered is
 
-module _ (alphabet : Letters) (net : List NetGraph) (texts : List (List ℕ)) (key : LookUp)
-    (state : State) (found : slice_get (states_of net key.graph) key.state ≡ Some state)
-    (places : List ℕ) where
-  -- the token's number is that of the key
-  abbrev HasNumber : Option Token → Type 0
-  HasNumber o = IsSomeAnd o (λ token. slice_get texts key.number ≡ Some token.text)
-
-  -- a list that is kept is enough
-  pub listed_enough : (look_ups : LookUps) (o : Option Token) →
-      AreSound alphabet net texts look_ups → IsListed look_ups key places → HasNumber o →
-      AreEnoughFor alphabet state.edges places o
-  listed_enough look_ups None sound listed number = absurd number
-  listed_enough look_ups (Some token) sound listed number =
-      sound.enough key places listed state token.text found number
-
-  -- another list that is enough may be kept
-  pub sound_more : (old new : LookUps) (o : Option Token) → AreSound alphabet net texts old →
-      ((other : LookUp) (list : List ℕ) → IsListed new other list →
-      IsListed old other list ⊎ ((other ≡ key) × (list ≡ places))) →
-      HasNumber o → AreEnoughFor alphabet state.edges places o → AreSound alphabet net texts new
-  sound_more old new None sound more number enough = absurd number
-  sound_more old new (Some token) sound more number enough = record {
-    enough = λ other list listed there text at there_text. elim (more other list listed) [
-      | inl was ↦ sound.enough other list was there text at there_text
-      | inr is ↦
-          let same_state : state ≡ there = same_Some state there (sym found
-          ∙ (ap (λ (k : LookUp). slice_get (states_of net k.graph) k.state) (sym is.0) ∙ at)) in
-          let same_text : token.text ≡ text = same_Some token.text text (sym number
-          ∙ (ap (λ (k : LookUp). slice_get texts k.number) (sym is.0) ∙ there_text)) in
-          subst (λ (l : List ℕ). AreEnough alphabet text there.edges l) (sym is.1)
-          (subst (λ (s : State). AreEnough alphabet text s.edges places) same_state
-          (subst (λ (t : List ℕ). AreEnough alphabet t state.edges places) same_text enough))
-    ];
-  }
+-- the index of a state's edges may be kept
+pub sound_more : (alphabet : Letters) (net : List NetGraph) (texts : List (List ℕ)) (frame : Frame)
+    (state : State) → slice_get (states_of net frame.graph) frame.state ≡ Some state →
+    (index : EdgeIndex) → IsIndexOf alphabet texts state.edges index → (old new : LookUps) →
+    new.words ≡ old.words →
+    ((other : Frame) (kept : EdgeIndex) → IsKept new other kept →
+    IsKept old other kept ⊎ ((other ≡ frame) × (kept ≡ index))) →
+    AreSound alphabet net texts old → AreSound alphabet net texts new
+sound_more alphabet net texts frame state found index is old new same more sound = record {
+  ready = λ words there. sound.ready words (sym same ∙ there);
+  indexes = λ other kept inside there at. elim (more other kept inside) [
+    | inl before ↦ sound.indexes other kept before there at
+    | inr this ↦
+        let same_state : state ≡ there = same_Some state there (sym found
+        ∙ (ap (λ (f : Frame). slice_get (states_of net f.graph) f.state) (sym this.0) ∙ at)) in
+        subst (λ (i : EdgeIndex). IsIndexOf alphabet texts there.edges i) (sym this.1)
+        (subst (λ (s : State). IsIndexOf alphabet texts s.edges index) same_state is)
+  ];
+}

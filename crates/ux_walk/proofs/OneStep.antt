@@ -4,9 +4,10 @@ use Rattle.std.specs.Prelude.{Some, slice_get, Contains, map}
 use Rattle.std.proofs.lemmas.List.{map-append, reverse-append}
 use Rattle.ux_alphabet.specs.Letters.{Letters}
 use Rattle.ux_tokens.specs.Tokens.{Token}
+use Rattle.ux_apply.specs.Tables.{Tables}
 use Rattle.ux_grf.specs.declared.item.Piece.{Piece}
 use Rattle.ux_net.specs.declared.label.Label.{Label}
-use Rattle.ux_net.specs.declared.label.Label.TheVariants.{Empty, Fold, Exact, Space, Glue, Call}
+use Rattle.ux_net.specs.declared.label.Label.TheVariants.{Empty, Fold, Exact, Mask, Brace, Space, Glue, Call}
 use Rattle.ux_net.specs.declared.state.Edge.{Edge}
 use Rattle.ux_net.specs.declared.state.State.{State}
 use Rattle.ux_net.specs.declared.net_graph.NetGraph.{NetGraph}
@@ -15,10 +16,12 @@ use Rattle.ux_net.specs.Nets.{IsNetEnd, IsPlain, net_graph, net_grammar, states_
 use Rattle.ux_outputs.specs.declared.event.Event.{Event}
 use Rattle.ux_outputs.specs.declared.event.Event.TheVariants.{Take}
 use Rattle.ux_meaning.specs.Meaning.{Seq, done, takes, stays, calls, Stays, DerWith}
-use Rattle.ux_meaning.specs.Texts.{Takes, bare_text, no_spans}
+use Rattle.ux_meaning.specs.Texts.{Takes}
+use Rattle.ux_walk.specs.Settings.{applied_text}
+use Rattle.ux_apply.specs.Accepting.{Accepts}
 use Rattle.ux_walk.specs.declared.config.Frame.{Frame}
 use Rattle.ux_walk.specs.declared.config.Taken.{Taken}
-use Rattle.ux_walk.specs.Configurations.{Course, GoesOn, Passes, TakesPlainly, event_of, from_to, told}
+use Rattle.ux_walk.specs.Courses.{Course, GoesOn, Passes, TakesPlainly, event_of, from_to, told}
 
 -- what was taken before, which is listed latest first, and the later events
 abbrev pub onto : List Taken → List Event → List Event
@@ -47,17 +50,19 @@ plain_mark : (x : Label) → IsPlain x → mark_of (x ∷ []) ≡ ordinary
 plain_mark Empty is = refl
 plain_mark (Fold text) is = refl
 plain_mark (Exact text) is = refl
+plain_mark (Mask mask) is = refl
+plain_mark (Brace text) is = refl
 plain_mark Space is = refl
 plain_mark Glue is = refl
 plain_mark (Call h) is = refl
 plain_mark other is = absurd is
 
-module _ (alphabet : Letters) (tokens : List Token) (graphs : List NetGraph)
+module _ (alphabet : Letters) (tokens : List Token) (tables : Tables) (graphs : List NetGraph)
     (Refuses : (g opening closing p : ℕ) → Type 0) where
   -- the letters of the word apply one after another
   abbrev Applies : List Letter → ℕ → ℕ → List Event → Type 0
   Applies word i j events =
-      Seq (bare_text alphabet tokens) (net_grammar graphs) Refuses word i j events
+      Seq (applied_text alphabet tokens tables) (net_grammar graphs) Refuses word i j events
 
   -- a run of the graph leads from a state to a state
   abbrev Runs : (g a b : ℕ) → List Letter → Type 0
@@ -96,7 +101,7 @@ module _ (alphabet : Letters) (tokens : List Token) (graphs : List NetGraph)
   -- the first label of a word, and what the others derive after it
   abbrev First : Label → List Letter → ℕ → ℕ → List Event → Type 0
   First x word p j events =
-      ((k : ℕ) × (later : List Event) × TakesPlainly alphabet tokens x p k
+      ((k : ℕ) × (later : List Event) × TakesPlainly alphabet tokens tables x p k
       × Applies word k j later × (events ≡ Take p k ∷ later))
       ⊎ ((Passes tokens x p × Applies word p j events)
       ⊎ ((h k : ℕ) × (inside later : List Event) × (x ≡ Call h) × Goes h 0 p k inside
@@ -104,13 +109,15 @@ module _ (alphabet : Letters) (tokens : List Token) (graphs : List NetGraph)
 
   -- of the labels of nets `#` alone stays, and gives no event
   stays_first : (x : Label) → IsPlain x → (word : List Letter) (p j : ℕ)
-      (here later : List Event) → Stays (bare_text alphabet tokens) (plain x) p here →
+      (here later : List Event) → Stays (applied_text alphabet tokens tables) (plain x) p here →
       Applies word p j later → First x word p j (here ++ later)
   stays_first Glue is word p j here later t s =
       inr (inl (t.0, subst (λ (l : List Event). Applies word p j (l ++ later)) (sym t.1) s))
   stays_first Empty is word p j here later t s = absurd t
   stays_first (Fold text) is word p j here later t s = absurd t
   stays_first (Exact text) is word p j here later t s = absurd t
+  stays_first (Mask mask) is word p j here later t s = absurd t
+  stays_first (Brace text) is word p j here later t s = absurd t
   stays_first Space is word p j here later t s = absurd t
   stays_first (Call h) is word p j here later t s = absurd t
   stays_first other is word p j here later t s = absurd is
@@ -140,7 +147,7 @@ module _ (alphabet : Letters) (tokens : List Token) (graphs : List NetGraph)
   first_letter other is word p j events s = first_of is s
 
   back_takes : (x : Label) (word : List Letter) (p j k : ℕ) (events later : List Event) →
-      Takes alphabet tokens no_spans x p k → Applies word k j later →
+      Takes alphabet tokens (Accepts alphabet tokens tables) x p k → Applies word k j later →
       events ≡ Take p k ∷ later → Applies (plain x ∷ word) p j events
   back_takes x word p j k events later t s is =
       subst (λ (e : List Event). Applies (plain x ∷ word) p j e) (sym is) (takes t s)
@@ -181,7 +188,8 @@ module _ (alphabet : Letters) (tokens : List Token) (graphs : List NetGraph)
   -- over a label to a state, and on from there
   abbrev Onward : Label → (g n i j : ℕ) → List Event → Type 0
   Onward x g n i j events =
-      ((k : ℕ) × (later : List Event) × TakesPlainly alphabet tokens x i k × Goes g n k j later
+      ((k : ℕ) × (later : List Event) × TakesPlainly alphabet tokens tables x i k
+      × Goes g n k j later
       × (events ≡ Take i k ∷ later))
       ⊎ ((Passes tokens x i × Goes g n i j events)
       ⊎ ((h k : ℕ) × (inside later : List Event) × (x ≡ Call h) × Goes h 0 i k inside
@@ -298,7 +306,7 @@ module _ (alphabet : Letters) (tokens : List Token) (graphs : List NetGraph)
       (events : List Event) where
     -- what completes a course completes one a step on
     pub step_forth : ArePlainAt f.graph f.state → Completes (f ∷ fs) i before j events →
-        (w : Course) × GoesOn alphabet tokens graphs f fs i before w × Ends w j events
+        (w : Course) × GoesOn alphabet tokens tables graphs f fs i before w × Ends w j events
     step_forth are (all, (k, here, rest, goes, through, split), is) =
         elim (goes_only f.graph f.state i k here are goes) [
           | inl s ↦ (
@@ -317,7 +325,7 @@ module _ (alphabet : Letters) (tokens : List Token) (graphs : List NetGraph)
         over : (state : State) → slice_get (states_of graphs f.graph) f.state ≡ Some state →
             (edge : Edge) → Contains state.edges edge →
             Onward edge.label f.graph edge.target i k here →
-            (w : Course) × GoesOn alphabet tokens graphs f fs i before w × Ends w j events
+            (w : Course) × GoesOn alphabet tokens tables graphs f fs i before w × Ends w j events
         over state found edge inside (inl (m, later, t, on, e)) =
             let next : Frame = record { graph = f.graph; state = edge.target } in (
               record { frames = next ∷ fs; at = m; before = from_to i m ∷ before },
@@ -350,7 +358,7 @@ module _ (alphabet : Letters) (tokens : List Token) (graphs : List NetGraph)
             )
 
     -- and the other way round
-    pub step_back : (w : Course) → GoesOn alphabet tokens graphs f fs i before w →
+    pub step_back : (w : Course) → GoesOn alphabet tokens tables graphs f fs i before w →
         Ends w j events → Completes (f ∷ fs) i before j events
     step_back w (state, found, inr (final, is)) ends =
         let c : Completes fs i before j events =
@@ -430,7 +438,7 @@ module _ (alphabet : Letters) (tokens : List Token) (graphs : List NetGraph)
 
   -- a graph derives as the course from its start completes
   pub starts_forth : (g i j : ℕ) (events : List Event) →
-      DerWith (bare_text alphabet tokens) (net_grammar graphs) Refuses g i j events →
+      DerWith (applied_text alphabet tokens tables) (net_grammar graphs) Refuses g i j events →
       Completes (record { graph = g; state = 0 } ∷ []) i [] j events
   starts_forth g i j events d = (
     events,
@@ -453,7 +461,7 @@ module _ (alphabet : Letters) (tokens : List Token) (graphs : List NetGraph)
 
   pub starts_back : (g i j : ℕ) (events : List Event) →
       Completes (record { graph = g; state = 0 } ∷ []) i [] j events →
-      DerWith (bare_text alphabet tokens) (net_grammar graphs) Refuses g i j events
+      DerWith (applied_text alphabet tokens tables) (net_grammar graphs) Refuses g i j events
   starts_back g i j events (all, (k, here, rest, goes, through, split), is) =
       let same : here ≡ events = sym (is ∙ (split
       ∙ (ap (λ (l : List Event). here ++ l) through.1 ∙ append-nil here))) in

@@ -1,11 +1,12 @@
 -- What one step of a walk adds.
-use Rattle.std.proofs.Common.{arith, ◌≡◌, ℕ, zero, suc, ◌+◌, ◌<◌, ◌≤◌, List, [], ◌∷◌, ◌++◌, ◌↔◌, inl, inr, refl, sym, ◌∙◌, ap, subst, length, take, get_or}
-use Rattle.std.specs.Prelude.{Some, None, slice_get, Contains, IsTrue}
+use Rattle.std.proofs.Common.{arith, ◌≡◌, ℕ, zero, suc, ◌+◌, ◌<◌, ◌≤◌, List, [], ◌∷◌, ◌++◌, ◌↔◌, inl, inr, refl, sym, ◌∙◌, ap, subst, length, take, get_or, Global}
+use Rattle.std.specs.Prelude.{Some, None, slice_get, Contains, IsTrue, Vec}
 use Rattle.std.proofs.lemmas.Option.{same_Some, none-some}
 use Rattle.std.proofs.lemmas.List.{take_more, take_all}
 use Rattle.std.proofs.lemmas.List.Elements.{Contains-append_left, Contains-get_or, Contains-push_cases, Contains-push}
 use Rattle.ux_alphabet.specs.Letters.{Letters}
 use Rattle.ux_tokens.specs.Tokens.{Token}
+use Rattle.ux_apply.specs.Tables.{Tables}
 use Rattle.ux_net.specs.declared.label.Label.{Label}
 use Rattle.ux_net.specs.declared.label.Label.TheVariants.{Call}
 use Rattle.ux_net.specs.declared.state.Edge.{Edge}
@@ -20,8 +21,10 @@ use Rattle.ux_walk.specs.declared.config.Taken.{Taken}
 use Rattle.ux_walk.specs.declared.matching.Passage.{Passage}
 use Rattle.ux_walk.specs.declared.matching.Passage.TheVariants as passage
 use Rattle.ux_walk.specs.declared.reached.Reached.{Reached}
+use Rattle.ux_walk.specs.Passages.{TakesUpTo}
 use Rattle.ux_walk.specs.Links.{link_at, Names, AreBelow}
-use Rattle.ux_walk.specs.Configurations.{Course, IsAfter, IsAfterSome, IsRound, IsNamed, IsBehind, IsOverSome, GoesOn, IsSound, Adds, AddsFrom, Passes, TakesPlainly, frames_of, events_of, from_to}
+use Rattle.ux_walk.specs.Courses.{Course, IsBehind, IsOverSome, GoesOn, Passes, TakesPlainly, from_to}
+use Rattle.ux_walk.specs.Configurations.{IsAfter, IsAfterSome, IsRound, IsNamed, IsPast, IsSound, Adds, AddsFrom, frames_of, events_of}
 use Rattle.ux_walk.proofs.LinksLemmas.{one_list}
 use Rattle.ux_walk.proofs.Adding.{Keeps, SameLists, adds_nothing, adds_then, adds_alike, keeps, keeps_same, same_back, spells_kept, named_kept, found_kept}
 
@@ -64,30 +67,37 @@ module _ (r new : Reached) (c : Config) where
       absurd (none-some _ (sym none ∙ spells.frames.1))
 
 -- the label applies at the position in just this way
-pub record IsPassage (alphabet : Letters) (tokens : List Token) (label : Label) (i : ℕ)
-    (r : Passage) : Type 0 where
-  pub takes : (k : ℕ) → (r ≡ passage.Takes k) ↔ TakesPlainly alphabet tokens label i k
+pub record IsPassage (alphabet : Letters) (tokens : List Token) (tables : Tables) (label : Label)
+    (i : ℕ) (r : Passage) : Type 0 where
+  pub takes : (k : ℕ) → TakesUpTo r k ↔ TakesPlainly alphabet tokens tables label i k
   pub stays : (r ≡ passage.Stays) ↔ Passes tokens label i
   pub calls : (graph : ℕ) → (r ≡ passage.Calls graph) ↔ (label ≡ Call graph)
-
-takes_once : (k m : ℕ) → passage.Takes k ≡ passage.Takes m → k ≡ m
-takes_once k m h = cc
 
 calls_once : (k m : ℕ) → passage.Calls k ≡ passage.Calls m → k ≡ m
 calls_once k m h = cc
 
-module _ (alphabet : Letters) (tokens : List Token) (label : Label) (f : Frame)
+module _ (alphabet : Letters) (tokens : List Token) (tables : Tables) (label : Label) (f : Frame)
     (fs : List Frame) (i : ℕ) (before : List Taken) (r : Passage)
-    (is : IsPassage alphabet tokens label i r) (w : Course) where
-  pub behind_takes : (k : ℕ) → r ≡ passage.Takes k →
-      (w ≡ course (f ∷ fs) k (from_to i k ∷ before))
-      ↔ IsBehind alphabet tokens label f fs i before w
+    (is : IsPassage alphabet tokens tables label i r) (w : Course) where
+  abbrev Behind : Type 0
+  Behind = IsBehind alphabet tokens tables label f fs i before w
+
+  -- what the passage takes, where it is known
+  taken : (this : Passage) → r ≡ this → (k : ℕ) → TakesPlainly alphabet tokens tables label i k →
+      TakesUpTo this k
+  taken this is_this k takes = subst (λ (x : Passage). TakesUpTo x k) is_this ((is.takes k).1 takes)
+
+  takes_it : (this : Passage) → r ≡ this → (k : ℕ) → TakesUpTo this k →
+      TakesPlainly alphabet tokens tables label i k
+  takes_it this is_this k upto =
+      (is.takes k).0 (subst (λ (x : Passage). TakesUpTo x k) (sym is_this) upto)
+
+  pub behind_takes : (k : ℕ) → r ≡ passage.Takes k → IsPast i f fs before k w ↔ Behind
   behind_takes k this = (
-    λ e. inl (k, (is.takes k).0 this, e),
+    λ e. inl (k, takes_it (passage.Takes k) this k refl, e),
     λ b. elim b [
-      | inl t ↦
-          let same : k ≡ t.0 = takes_once k t.0 (sym this ∙ (is.takes t.0).1 t.1) in
-          t.2 ∙ ap (λ n. course (f ∷ fs) n (from_to i n ∷ before)) (sym same)
+      | inl t ↦ t.2 ∙ ap (λ n. course (f ∷ fs) n (from_to i n ∷ before))
+          (taken (passage.Takes k) this t.0 t.1)
       | inr o ↦ elim o [
         | inl s ↦ let no : passage.Takes k ≡ passage.Stays = sym this ∙ is.stays.1 s.0 in cc
         | inr h ↦
@@ -96,12 +106,25 @@ module _ (alphabet : Letters) (tokens : List Token) (label : Label) (f : Frame)
     ],
   )
 
-  pub behind_stays : r ≡ passage.Stays →
-      (w ≡ course (f ∷ fs) i before) ↔ IsBehind alphabet tokens label f fs i before w
+  pub behind_spans : (ends : Vec ℕ Global) → r ≡ passage.Spans ends →
+      ((k : ℕ) × Contains ends.items k × IsPast i f fs before k w) ↔ Behind
+  behind_spans ends this = (
+    λ (k, inside, e). inl (k, takes_it (passage.Spans ends) this k inside, e),
+    λ b. elim b [
+      | inl t ↦ (t.0, taken (passage.Spans ends) this t.0 t.1, t.2)
+      | inr o ↦ elim o [
+        | inl s ↦ let no : passage.Spans ends ≡ passage.Stays = sym this ∙ is.stays.1 s.0 in cc
+        | inr h ↦
+            let no : passage.Spans ends ≡ passage.Calls h.0 = sym this ∙ (is.calls h.0).1 h.1 in cc
+      ]
+    ],
+  )
+
+  pub behind_stays : r ≡ passage.Stays → (w ≡ course (f ∷ fs) i before) ↔ Behind
   behind_stays this = (
     λ e. inr (inl (is.stays.0 this, e)),
     λ b. elim b [
-      | inl t ↦ let no : passage.Stays ≡ passage.Takes t.0 = sym this ∙ (is.takes t.0).1 t.1 in cc
+      | inl t ↦ absurd (taken passage.Stays this t.0 t.1)
       | inr o ↦ elim o [
         | inl s ↦ s.1
         | inr h ↦ let no : passage.Stays ≡ passage.Calls h.0 = sym this ∙ (is.calls h.0).1 h.1 in cc
@@ -110,12 +133,11 @@ module _ (alphabet : Letters) (tokens : List Token) (label : Label) (f : Frame)
   )
 
   pub behind_calls : (h : ℕ) → r ≡ passage.Calls h →
-      (w ≡ course (record { graph = h; state = 0 } ∷ f ∷ fs) i before)
-      ↔ IsBehind alphabet tokens label f fs i before w
+      (w ≡ course (record { graph = h; state = 0 } ∷ f ∷ fs) i before) ↔ Behind
   behind_calls h this = (
     λ e. inr (inr (h, (is.calls h).0 this, e)),
     λ b. elim b [
-      | inl t ↦ let no : passage.Calls h ≡ passage.Takes t.0 = sym this ∙ (is.takes t.0).1 t.1 in cc
+      | inl t ↦ absurd (taken (passage.Calls h) this t.0 t.1)
       | inr o ↦ elim o [
         | inl s ↦ let no : passage.Calls h ≡ passage.Stays = sym this ∙ is.stays.1 s.0 in cc
         | inr g ↦
@@ -125,9 +147,9 @@ module _ (alphabet : Letters) (tokens : List Token) (label : Label) (f : Frame)
     ],
   )
 
-  pub behind_closed : r ≡ passage.Closed → IsBehind alphabet tokens label f fs i before w → ⊥
+  pub behind_closed : r ≡ passage.Closed → Behind → ⊥
   behind_closed this b = elim b [
-    | inl t ↦ let no : passage.Closed ≡ passage.Takes t.0 = sym this ∙ (is.takes t.0).1 t.1 in cc
+    | inl t ↦ taken passage.Closed this t.0 t.1
     | inr o ↦ elim o [
       | inl s ↦ let no : passage.Closed ≡ passage.Stays = sym this ∙ is.stays.1 s.0 in cc
       | inr h ↦ let no : passage.Closed ≡ passage.Calls h.0 = sym this ∙ (is.calls h.0).1 h.1 in cc
@@ -179,12 +201,13 @@ module _ {S : Type 0} (Leads : S → Course → Type 0) where
   adds_all old now all i past adds =
       subst (λ (l : List S). Adds (Among l) old now) (take_all i all past) adds
 
-module _ (alphabet : Letters) (tokens : List Token) (graphs : List NetGraph) (c : Config) where
+module _ (alphabet : Letters) (tokens : List Token) (tables : Tables) (graphs : List NetGraph)
+    (c : Config) where
   abbrev Next : List Frame → List Taken → Course → Type 0
-  Next back before = GoesOn alphabet tokens graphs c.here back c.at before
+  Next back before = GoesOn alphabet tokens tables graphs c.here back c.at before
 
   abbrev Over : List Edge → List Frame → List Taken → Course → Type 0
-  Over edges back before = IsOverSome alphabet tokens c.here back c.at before edges
+  Over edges back before = IsOverSome alphabet tokens tables c.here back c.at before edges
 
   abbrev Left : List Frame → List Taken → Course → Type 0
   Left back before w = w ≡ course back c.at before
@@ -242,25 +265,27 @@ module _ (alphabet : Letters) (tokens : List Token) (graphs : List NetGraph) (c 
               ],
         ))
 
-module _ (alphabet : Letters) (tokens : List Token) (graphs : List NetGraph) where
+module _ (alphabet : Letters) (tokens : List Token) (tables : Tables) (graphs : List NetGraph) where
   -- a course one step on from one for which a configuration stands, which stands for no other
   pub adds_after : (old now new : Reached) (c : Config) (v : Course) → (kept : Keeps old now) →
       IsNamed old c v → IsSound now → AddsFrom now new c (λ back before.
-      GoesOn alphabet tokens graphs c.here back c.at before) →
-      Adds (IsAfter alphabet tokens graphs old c) now new
+      GoesOn alphabet tokens tables graphs c.here back c.at before) →
+      Adds (IsAfter alphabet tokens tables graphs old c) now new
   adds_after old now new c v kept named sound adds =
       let here = adds named.back named.before sound
       (spells_kept old now kept c named.back named.before named.spells) in
-      adds_alike (GoesOn alphabet tokens graphs c.here named.back c.at named.before)
-      (IsAfter alphabet tokens graphs old c) now new here (λ w. (
+      adds_alike (GoesOn alphabet tokens tables graphs c.here named.back c.at named.before)
+      (IsAfter alphabet tokens tables graphs old c) now new here (λ w. (
         λ n. (named.back, named.before, named.spells, n),
         λ a.
             let frames : a.0 ≡ named.back = one_list (frames_of old) c.back a.0 named.back
             a.2.frames named.spells.frames in
             let events : a.1 ≡ named.before = one_list (events_of old) c.events a.1 named.before
             a.2.events named.spells.events in
-            subst (λ (b : List Taken). GoesOn alphabet tokens graphs c.here named.back c.at b w)
-            events (subst (λ (b : List Frame). GoesOn alphabet tokens graphs c.here b c.at a.1 w)
+            subst (λ (b : List Taken). GoesOn alphabet tokens tables graphs c.here
+            named.back c.at b w)
+            events (subst (λ (b : List Frame). GoesOn alphabet tokens tables graphs c.here b
+            c.at a.1 w)
             frames a.3),
       ))
 
@@ -268,8 +293,8 @@ module _ (alphabet : Letters) (tokens : List Token) (graphs : List NetGraph) whe
   pub rounds : (old mid new : Reached) (configs : List Config) → SameLists old mid →
       mid.found.keys ≡ old.found.keys → mid.pending.keys ≡ [] → configs ≡ old.pending.keys →
       (IsSound mid → ((c : Config) → Contains configs c → (w : Course) × IsNamed mid c w) →
-      Adds (IsAfterSome alphabet tokens graphs mid configs) mid new) →
-      IsSound old → IsRound alphabet tokens graphs old new
+      Adds (IsAfterSome alphabet tokens tables graphs mid configs) mid new) →
+      IsSound old → IsRound alphabet tokens tables graphs old new
   rounds old mid new configs same found none all adds sound =
       let forth = keeps_same old mid same in
       let back = keeps_same mid old (same_back old mid same) in

@@ -1,12 +1,11 @@
 pub mod Settings
 pub mod Links
+pub mod Courses
+pub mod Leads
+pub mod Passages
 pub mod Configurations
 pub mod Literals
 pub mod LookUps
-pub mod Transitions
-pub mod Automata
-pub mod Marks
-pub mod Prefilters
+pub mod EdgeIndexes
 pub mod Ends
 pub mod Noting
-pub mod Walkers

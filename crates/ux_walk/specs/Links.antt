@@ -1,5 +1,6 @@
 -- Lists that share their tails, each named by a number: 0 is the empty list, and n + 1 the list
--- that begins with link n. Inner, but for `AreOnce`, of which public contracts speak.
+-- that begins with link n. Public: public contracts of this crate and of the crates above speak of
+-- them.
 use Rattle.std.specs.Prelude.{◌≡◌, ℕ, zero, suc, ◌≤◌, List, [], ◌∷◌, ◌++◌, ◌⊎◌, Option, Some, None, slice_get}
 use Rattle.ux_walk.specs.declared.lists.Link.{Link}
 

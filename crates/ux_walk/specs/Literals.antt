@@ -1,5 +1,5 @@
--- Literals, and which of the different tokens of a text each fits. Inner: the crate's own functions
--- alone speak of it.
+-- Literals, and which of the different tokens of a text each fits. Public: crates above look edges
+-- up by them.
 use Rattle.std.specs.Prelude.{◌≡◌, ℕ, ◌≤◌, List, ◌⊎◌, Some, slice_get, Contains, All, length, map}
 use Rattle.std.specs.Str.{chars, IsUtf8}
 use Rattle.ux_alphabet.specs.Letters.{Letters, Fits}

@@ -3,7 +3,7 @@
 //! A list is named by a number: 0 is the empty list, and n + 1 the list that begins with link n.
 //! Equal links are one, so equal lists have equal numbers.
 
-ghost use Rattle.std.specs.Prelude.{◌≡◌, ℕ, List, [], true, IfOk, option_copied, reverse};
+ghost use Rattle.std.specs.Prelude.{◌≡◌, ℕ, List, [], true, IfOk, OnErr, option_copied, reverse};
 ghost use Rattle.ux_walk.specs.Links.{AreBelow, AreOnce, IsConsed, Names, link_at};
 
 use crate::sets::stand_once;
@@ -42,6 +42,16 @@ impl<T: Eq + Hash + Copy + Drop> Lists<T> {
         requires { (a b : T) → T.eq a b ≡ true → a ≡ b }
         ensures { IfOk result
             (IsConsed self.old.links.keys self.new.links.keys head tail) }
+    {
+        self.add(head, tail)
+    }
+
+    /// The same. Where memory runs out, the lists stay as they were.
+    pub fn add(&mut self, head: T, tail: usize) -> Mem<usize>
+        requires { (a b : T) → T.eq a b ≡ true → a ≡ b }
+        ensures consed { IfOk result
+            (IsConsed self.old.links.keys self.new.links.keys head tail) }
+        ensures kept { OnErr result (self.new.links.keys ≡ self.old.links.keys) }
     {
         let (index, _) = self.links.insert_full(Link { head, tail })?;
         self.links.len();

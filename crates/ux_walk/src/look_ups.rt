@@ -1,67 +1,148 @@
-//! Lists of the edges that may apply, by state and token.
+//! The indexes of states of many edges, as walks by rounds meet them.
 //!
-//! A state of thousands of literal edges has few that may apply at a token. Which they are is told
-//! by the token's text alone, and so by its number. A list leaves out nothing that may apply.
+//! Each is made once, when its state is first met, and is kept across the walks of one net over one
+//! text with one alphabet. What they take in all is bounded: beyond that, edges are tried one by
+//! one.
 
-ghost use Rattle.std.specs.Prelude.{◌≡◌, ◌⊎◌, ◌<◌, ℕ, true, List, Contains, IfOk, IfSome, OnOk, length};
+ghost use Rattle.std.specs.Prelude.{◌≡◌, ◌⊎◌, ◌<◌, ℕ, true, List, Contains, IfOk, IfSome, OnOk, Some, length, slice_get};
 ghost use Rattle.ux_alphabet.specs.Letters.{Letters};
 ghost use Rattle.ux_net.specs.declared.net_graph.NetGraph.{NetGraph};
-ghost use Rattle.ux_walk.specs.LookUps.{AreEnough, AreSound, IsListed};
+ghost use Rattle.ux_net.specs.declared.state.State.{State};
+ghost use Rattle.ux_net.specs.Nets.{states_of};
+ghost use Rattle.ux_tokens.specs.Numbers.{different_texts};
+ghost use Rattle.ux_walk.specs.EdgeIndexes.{IsIndexOf};
+ghost use Rattle.ux_walk.specs.LookUps.{AreSound, IsKept};
 
-use crate::matching::may_apply;
+use crate::config::Frame;
+use crate::edge_index::EdgeIndex;
+use crate::words::Words;
 use indexmap::IndexMap;
 use std::alloc::Global;
 use std::hash::Hash;
 use ux_alphabet::Alphabet;
-use ux_base::{Lst, Mem};
+use ux_base::Mem;
 use ux_net::Edge;
+use ux_tokens::Text;
 
-/// A state, and the number of a token that stands before it.
-#[derive(Clone, Copy, PartialEq, Eq, Hash)]
-pub struct LookUp {
-    /// The number of the graph, counted from 1.
-    pub graph: u32,
-    /// The number of the state.
-    pub state: u32,
-    /// The number of the token.
-    pub number: u32,
-}
+/// As many comparisons of a literal with a token are spent to make indexes. They take a second or
+/// two in all.
+const MOST_COMPARED: usize = 268_435_456;
 
-/// For states of many edges and tokens, the places of the edges that may apply.
-///
-/// It is kept across the walks of one net over one text with one alphabet. It grows by one list for
-/// each pair of a state of many edges and a different token that is met there.
+/// As many pairs of an edge and a token are kept in all, of eight bytes each.
+const MOST_KEPT: usize = 8_388_608;
+
+/// The indexes of states of many edges that were met.
 #[derive(Drop)]
-pub struct LookUps {
-    table: IndexMap<LookUp, Lst<u32>>,
+pub struct LookUps<'t> {
+    /// The different tokens of the text, once a state of many edges was met.
+    words: Option<Words<'t>>,
+    indexes: IndexMap<Frame, EdgeIndex>,
+    /// How many comparisons may still be spent.
+    compared: usize,
+    /// How many pairs may still be kept.
+    kept: usize,
 }
 
-impl LookUps {
-    /// No list yet. Takes no memory.
-    pub fn new(alloc: Global) -> LookUps
+impl<'t> LookUps<'t> {
+    /// No index yet. Takes no memory.
+    pub fn new(alloc: Global) -> LookUps<'t>
         ensures { (alphabet : Letters) (net : List NetGraph) (texts : List (List ℕ)) →
             AreSound alphabet net texts result }
     {
         LookUps {
-            table: IndexMap::new(alloc),
+            words: None,
+            indexes: IndexMap::new(alloc),
+            compared: MOST_COMPARED,
+            kept: MOST_KEPT,
         }
     }
 
-    /// The places of the edges that may apply, in order, where they are known.
-    pub fn places(&self, key: LookUp) -> Option<&[u32]>
-        ensures { IfSome result (λ places. IsListed self.now key places.now) }
+    /// The index of a state, where it is kept.
+    pub fn index(&self, state: Frame) -> Option<&EdgeIndex>
+        ensures { IfSome result (λ index. IsKept self.now state index.now) }
     {
-        let places = at(&self.table, key)?;
-        Some(places.as_slice())
+        at(&self.indexes, state)
     }
 
-    /// Adds a list.
-    pub fn add(&mut self, key: LookUp, places: Vec<u32>) -> Mem<()>
-        ensures listed { OnOk result (IsListed self.new key places.items) }
-        ensures only { (other : LookUp) (list : List ℕ) → IsListed self.new other list →
-            IsListed self.old other list ⊎ ((other ≡ key) × (list ≡ places.items)) }
+    /// Makes the index of a state with these edges, unless it is kept or the bounds are reached.
+    /// The first time it takes a step a token of the text.
+    pub fn meet(
+        &mut self,
+        alloc: Global,
+        text: &'t Text,
+        alphabet: &Alphabet,
+        state: Frame,
+        edges: &[Edge],
+    ) -> Mem<()>
+        requires few { length edges.now < 4294967296 }
+        ensures { (net : List NetGraph) (there : State) →
+            slice_get (states_of net state.graph) state.state ≡ Some there →
+            there.edges ≡ edges.now →
+            AreSound alphabet.now net (different_texts text.now) self.old →
+            AreSound alphabet.now net (different_texts text.now) self.new }
     {
-        put_at(&mut self.table, key, Lst::new(places))
+        if self.kept == 0 || self.index(state).is_some() {
+            return Ok(());
+        }
+        self.know_words(alloc, text, alphabet)?;
+        self.add_index(alloc, alphabet, state, edges)
+    }
+
+    /// Makes the list of the different tokens, where it is missing.
+    fn know_words(&mut self, alloc: Global, text: &'t Text, alphabet: &Alphabet) -> Mem<()>
+        ensures { (net : List NetGraph) →
+            AreSound alphabet.now net (different_texts text.now) self.old →
+            AreSound alphabet.now net (different_texts text.now) self.new }
+    {
+        if self.words.is_some() {
+            return Ok(());
+        }
+        let words = Words::of(alloc, text, alphabet)?;
+        self.words = Some(words);
+        Ok(())
+    }
+
+    /// Makes the index of a state with these edges, where the bounds allow it.
+    fn add_index(
+        &mut self,
+        alloc: Global,
+        alphabet: &Alphabet,
+        state: Frame,
+        edges: &[Edge],
+    ) -> Mem<()>
+        requires few { length edges.now < 4294967296 }
+        ensures { (net : List NetGraph) (there : State) (texts : List (List ℕ)) →
+            slice_get (states_of net state.graph) state.state ≡ Some there →
+            there.edges ≡ edges.now → AreSound alphabet.now net texts self.old →
+            AreSound alphabet.now net texts self.new }
+    {
+        let Some(words) = &self.words else {
+            return Ok(());
+        };
+        let cost = words.cost(edges.len());
+        if self.compared < cost {
+            return Ok(());
+        }
+        let index = EdgeIndex::of(alloc, words, alphabet, edges, self.kept)?;
+        self.compared -= cost;
+        self.keep(state, index)
+    }
+
+    /// Keeps the index of a state. Where none could be made for want of room, no further one is
+    /// made.
+    fn keep(&mut self, state: Frame, index: Option<EdgeIndex>) -> Mem<()>
+        ensures { (net : List NetGraph) (there : State) (alphabet : Letters)
+            (texts : List (List ℕ)) →
+            slice_get (states_of net state.graph) state.state ≡ Some there →
+            IfSome index (IsIndexOf alphabet texts there.edges) →
+            AreSound alphabet net texts self.old → AreSound alphabet net texts self.new }
+    {
+        let Some(index) = index else {
+            self.kept = 0;
+            return Ok(());
+        };
+        self.kept = self.kept.saturating_sub(index.size());
+        put_at(&mut self.indexes, state, index)
     }
 }
 
@@ -82,19 +163,4 @@ fn put_at<K: Eq + Hash + Drop, V: Drop>(map: &mut IndexMap<K, V>, key: K, value:
 {
     map.insert(key, value)?;
     Ok(())
-}
-
-/// The places of the edges that may apply at a token of this text, in order.
-pub fn places_for(alloc: Global, alphabet: &Alphabet, text: &str, edges: &[Edge]) -> Mem<Vec<u32>>
-    requires { length edges.now < 4294967296 }
-    ensures { IfOk result (λ places. AreEnough alphabet.now text.now edges.now places.items) }
-{
-    let mut places = Vec::new(alloc);
-    for place in 0..edges.len() {
-        if !may_apply(alphabet, &edges[place].label, text) {
-            continue;
-        }
-        places.push(place as u32)?;
-    }
-    Ok(places)
 }

@@ -1,23 +1,30 @@
 //! How a label applies at a position of the text.
 
-ghost use Rattle.std.specs.Prelude.{◌≡◌, ◌+◌, ◌^◌, ◌<◌, ◌↔◌, ℕ, false, IsTrue, IsSome, IsSomeAnd, Some, length, slice_get};
+ghost use Rattle.std.specs.Prelude.{◌≡◌, ◌+◌, ◌^◌, ◌<◌, ◌↔◌, ℕ, Contains, IfOk, IsTrue, IsSome, IsSomeAnd, Some, length, slice_get};
+ghost use Rattle.ux_apply.specs.Accepting.{Accepts};
+ghost use Rattle.ux_apply.specs.Belonging.{Belongs};
 ghost use Rattle.ux_net.specs.declared.label.Label.{Label};
 ghost use Rattle.ux_outputs.specs.Rendering.{kind_of, skip as skip_of};
-ghost use Rattle.ux_meaning.specs.Texts.{Folds, FoldsTo, IsSpaceAt, MayStandFor, TakesToken};
-ghost use Rattle.ux_walk.specs.Configurations.{Passes, TakesPlainly};
-ghost use Rattle.ux_walk.specs.LookUps.{Refuses};
+ghost use Rattle.ux_meaning.specs.Texts.{Folds, FoldsTo, IsBraced, IsSpaceAt, MayStandFor, TakesOne, TakesToken};
+ghost use Rattle.ux_walk.specs.Courses.{Passes, TakesPlainly};
+ghost use Rattle.ux_walk.specs.Passages.{TakesUpTo};
 
-use crate::literals::is_literal;
-use crate::words::fits;
+use std::alloc::Global;
+use std::sync::ledger::Ledger;
 use ux_alphabet::Alphabet;
+use ux_apply::Applied;
+use ux_base::{Mem, Steps};
+use ux_masks::Mask;
 use ux_net::Label;
 use ux_tokens::{Kind, Text};
 
 /// How a label applies at a position.
-#[derive(Clone, Copy)]
+#[derive(Drop)]
 pub enum Passage {
     /// It takes the tokens up to this position.
     Takes(usize),
+    /// It takes the tokens up to each of these positions, in different ways.
+    Spans(Vec<usize>),
     /// It takes nothing.
     Stays,
     /// It calls this graph.
@@ -26,47 +33,49 @@ pub enum Passage {
     Closed,
 }
 
-/// How the label applies at the position. Labels that stand in no net don't apply.
-pub fn passage_at(text: &Text, alphabet: &Alphabet, label: &Label, position: usize) -> Passage
-    ensures takes { (k : ℕ) →
-        (result ≡ Passage.Takes k) ↔ TakesPlainly alphabet.now text.now label.now position k }
-    ensures stays { (result ≡ Passage.Stays) ↔ Passes text.now label.now position }
-    ensures calls { (graph : ℕ) → (result ≡ Passage.Calls graph) ↔ (label.now ≡ Label.Call graph) }
+/// How the label applies at the position. Labels that stand in no net don't apply. A mask takes one
+/// step, and memory for the positions up to which it takes tokens.
+pub fn passage_at<L: Ledger>(
+    alloc: Global,
+    text: &Text,
+    alphabet: &Alphabet,
+    applied: &Applied,
+    label: &Label,
+    position: usize,
+    steps: &mut Steps<L>,
+) -> Mem<Passage>
+    requires belongs { Belongs alphabet.now text.now applied.now }
+    ensures takes { IfOk result (λ passage. (k : ℕ) → TakesUpTo passage k
+        ↔ TakesPlainly alphabet.now text.now applied.now label.now position k) }
+    ensures stays { IfOk result (λ passage.
+        (passage ≡ Passage.Stays) ↔ Passes text.now label.now position) }
+    ensures calls { IfOk result (λ passage. (graph : ℕ) →
+        (passage ≡ Passage.Calls graph) ↔ (label.now ≡ Label.Call graph)) }
 {
     match label {
-        Label::Empty => Passage::Stays,
-        Label::Fold(entry) => taking(after_fold(text, alphabet, entry.as_str(), position)),
-        Label::Exact(exact) => taking(after_exact(text, exact.as_str(), position)),
-        Label::Space => taking(after_space(text, position)),
-        Label::Glue => {
-            if is_space(text, position) {
-                Passage::Closed
-            } else {
-                Passage::Stays
-            }
+        Label::Empty => Ok(Passage::Stays),
+        Label::Fold(entry) => Ok(taking(after_fold(text, alphabet, entry.as_str(), position))),
+        Label::Exact(exact) => Ok(taking(after_exact(text, exact.as_str(), position))),
+        Label::Brace(brace) => Ok(taking(after_brace(text, brace.as_str(), position))),
+        Label::Mask(mask) => {
+            let ends = after_mask(alloc, text, alphabet, applied, mask, position, steps)?;
+            Ok(Passage::Spans(ends))
         },
-        Label::Call(graph) => Passage::Calls(*graph),
-        Label::Mask(_)
-        | Label::Brace(_)
-        | Label::Begin(_)
+        Label::Space => Ok(taking(after_space(text, position))),
+        Label::Glue => Ok(staying(!is_space(text, position))),
+        Label::Call(graph) => Ok(Passage::Calls(*graph)),
+        Label::Begin(_)
         | Label::End(_)
         | Label::Positive
         | Label::Negative
         | Label::ContextEnd
-        | Label::Cut => Passage::Closed,
+        | Label::Cut => Ok(Passage::Closed),
     }
-}
-
-/// Whether the label may apply where a token of this text stands after an optional space.
-pub fn may_apply(alphabet: &Alphabet, label: &Label, text: &str) -> bool
-    ensures { (result ≡ false) ↔ Refuses alphabet.now label.now text.now }
-{
-    !is_literal(label) || fits(alphabet, label, text)
 }
 
 /// The passage to an end, where there is one.
 fn taking(end: Option<usize>) -> Passage
-    ensures takes { (k : ℕ) → (result ≡ Passage.Takes k) ↔ (end ≡ Some k) }
+    ensures takes { (k : ℕ) → TakesUpTo result k ↔ (end ≡ Some k) }
     ensures stays { result ≡ Passage.Stays → ⊥ }
     ensures calls { (graph : ℕ) → result ≡ Passage.Calls graph → ⊥ }
 {
@@ -76,8 +85,42 @@ fn taking(end: Option<usize>) -> Passage
     }
 }
 
+/// The passage that takes nothing, where it is open.
+fn staying(is_open: bool) -> Passage
+    ensures takes { (k : ℕ) → TakesUpTo result k → ⊥ }
+    ensures stays { (result ≡ Passage.Stays) ↔ IsTrue is_open }
+    ensures calls { (graph : ℕ) → result ≡ Passage.Calls graph → ⊥ }
+{
+    if is_open {
+        Passage::Stays
+    } else {
+        Passage::Closed
+    }
+}
+
+/// The positions after the spans that the mask accepts, which may stand after a space.
+fn after_mask<L: Ledger>(
+    alloc: Global,
+    text: &Text,
+    alphabet: &Alphabet,
+    applied: &Applied,
+    mask: &Mask,
+    position: usize,
+    steps: &mut Steps<L>,
+) -> Mem<Vec<usize>>
+    requires belongs { Belongs alphabet.now text.now applied.now }
+    ensures { IfOk result (λ ends. (k : ℕ) → Contains ends.items k
+        ↔ Accepts alphabet.now text.now applied.now mask.now (skip_of text.now position) k) }
+{
+    let position = skip(text, position);
+    if text.len() <= position {
+        return Ok(Vec::new(alloc));
+    }
+    applied.ends(alloc, text, alphabet, mask, position, steps)
+}
+
 /// The position after the token whose characters the entry fits, which may stand after a space.
-fn after_fold(text: &Text, alphabet: &Alphabet, entry: &str, position: usize) -> Option<usize>
+pub fn after_fold(text: &Text, alphabet: &Alphabet, entry: &str, position: usize) -> Option<usize>
     ensures { (k : ℕ) → (result ≡ Some k)
         ↔ TakesToken text.now (FoldsTo alphabet.now entry.now) position k }
 {
@@ -90,7 +133,7 @@ fn after_fold(text: &Text, alphabet: &Alphabet, entry: &str, position: usize) ->
 }
 
 /// The position after the token of exactly this text, which may stand after a space.
-fn after_exact(text: &Text, exact: &str, position: usize) -> Option<usize>
+pub fn after_exact(text: &Text, exact: &str, position: usize) -> Option<usize>
     ensures { (k : ℕ) → (result ≡ Some k)
         ↔ TakesToken text.now (λ token. token.text ≡ exact.now) position k }
 {
@@ -102,8 +145,21 @@ fn after_exact(text: &Text, exact: &str, position: usize) -> Option<usize>
     }
 }
 
+/// The position after the sentence mark or tag of exactly this text, which may stand after a space.
+pub fn after_brace(text: &Text, brace: &str, position: usize) -> Option<usize>
+    ensures { (k : ℕ) → (result ≡ Some k)
+        ↔ TakesOne text.now (λ token. IsBraced token.kind × (token.text ≡ brace.now)) position k }
+{
+    let position = skip(text, position);
+    if is_braced(text, position) && text.token(position) == brace {
+        Some(position + 1)
+    } else {
+        None
+    }
+}
+
 /// The position after a space that stands at this one.
-fn after_space(text: &Text, position: usize) -> Option<usize>
+pub fn after_space(text: &Text, position: usize) -> Option<usize>
     ensures { (k : ℕ) → (result ≡ Some k)
         ↔ (IsSpaceAt text.now position × (k ≡ position + 1)) }
 {
@@ -126,7 +182,7 @@ pub fn skip(text: &Text, position: usize) -> usize
 }
 
 /// Whether a space stands at the position.
-fn is_space(text: &Text, position: usize) -> bool
+pub fn is_space(text: &Text, position: usize) -> bool
     ensures space { IsTrue result ↔ IsSpaceAt text.now position }
     ensures room { IsTrue result → position + 1 < 2 ^ 64 }
 {
@@ -143,6 +199,19 @@ pub fn may_stand_for(text: &Text, position: usize) -> bool
     match kind_at(text, position) {
         Some(Kind::Word | Kind::Other) => true,
         Some(Kind::Space | Kind::Sentence | Kind::Stop | Kind::Tag) | None => false,
+    }
+}
+
+/// Whether a sentence mark or a tag stands at the position.
+fn is_braced(text: &Text, position: usize) -> bool
+    ensures within { IsTrue result → position < length text.now }
+    ensures room { IsTrue result → position + 1 < 2 ^ 64 }
+    ensures kind { IsTrue result
+        ↔ IsSomeAnd (slice_get text.now position) (λ token. IsBraced token.kind) }
+{
+    match kind_at(text, position) {
+        Some(Kind::Sentence | Kind::Tag) => true,
+        Some(Kind::Word | Kind::Space | Kind::Other | Kind::Stop) | None => false,
     }
 }
 

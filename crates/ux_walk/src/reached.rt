@@ -1,6 +1,7 @@
 //! What a walk has reached, and how it goes one step on.
 
 ghost use Rattle.std.specs.Prelude.{◌≡◌, ◌<◌, ◌↔◌, ℕ, List, [], ◌∷◌, Contains, IfOk, IsTrue, OnOk, Some, length, map, option_copied, slice_get};
+ghost use Rattle.ux_apply.specs.Belonging.{Belongs};
 ghost use Rattle.ux_net.specs.declared.net_graph.NetGraph.{NetGraph};
 ghost use Rattle.ux_net.specs.Nets.{states_of};
 ghost use Rattle.ux_outputs.specs.declared.event.Event.{Event};
@@ -9,23 +10,26 @@ ghost use Rattle.ux_walk.specs.Links.{AreOnce, Names};
 ghost use Rattle.ux_walk.specs.LookUps.{AreSound};
 ghost use Rattle.ux_walk.specs.declared.config.Config.{Config};
 ghost use Rattle.ux_walk.specs.declared.config.Taken.{Taken};
-ghost use Rattle.ux_walk.specs.Configurations.{Adds, AddsFrom, Course, GoesOn, IsAfterSome, IsFoundAs, IsNamed, IsNothing, IsOver, IsOverAt, IsOverSome, IsOverSomeAt, IsRound, IsSound, event_of, events_of, from_to};
+ghost use Rattle.ux_walk.specs.Configurations.{Adds, AddsFrom, IsAfterSome, IsFoundAs, IsNamed, IsNothing, IsPast, IsRound, IsSound, events_of};
+ghost use Rattle.ux_walk.specs.Courses.{Course, GoesOn, IsOver, IsOverAt, IsOverSome, IsOverSomeAt, event_of};
 
 use crate::config::{Config, Found, Frame, Taken};
 use crate::lists::Lists;
-use crate::look_ups::{LookUp, LookUps, places_for};
+use crate::look_ups::LookUps;
 use crate::matching::{Passage, passage_at, skip};
 use crate::sets::{put, stand_once};
 use indexmap::IndexSet;
 use std::alloc::Global;
 use std::mem;
+use std::sync::ledger::Ledger;
 use ux_alphabet::Alphabet;
-use ux_base::{Lst, Mem};
+use ux_apply::Applied;
+use ux_base::{Lst, Mem, Steps};
 use ux_net::{Edge, Net, State};
 use ux_outputs::Event;
 use ux_tokens::Text;
 
-/// As many edges are tried one by one: no list of them is kept.
+/// As many edges are tried one by one: no index of them is made.
 const FEW: usize = 8;
 
 /// The pending configurations and what was found, with the lists that they name.
@@ -58,21 +62,33 @@ impl Reached {
     }
 
     /// Goes one step on from each pending configuration.
-    pub fn round(
+    pub fn round<'t, L: Ledger>(
         &mut self,
         alloc: Global,
         net: &Net,
-        text: &Text,
+        text: &'t Text,
         alphabet: &Alphabet,
-        look_ups: &mut LookUps,
+        applied: &Applied,
+        look_ups: &mut LookUps<'t>,
+        steps: &mut Steps<L>,
     ) -> Mem<()>
-        requires { AreSound alphabet.now net.now (different_texts text.now) look_ups.now }
+        requires belongs { Belongs alphabet.now text.now applied.now }
+        requires sound { AreSound alphabet.now net.now (different_texts text.now) look_ups.now }
         ensures sound { AreSound alphabet.now net.now (different_texts text.now) look_ups.new }
         ensures round { OnOk result (IsSound self.old →
-            IsRound alphabet.now text.now net.now self.old self.new) }
+            IsRound alphabet.now text.now applied.now net.now self.old self.new) }
     {
         let configs = mem::replace(&mut self.pending, IndexSet::new(alloc));
-        self.step_each(alloc, net, text, alphabet, look_ups, configs.as_slice())?;
+        self.step_each(
+            alloc,
+            net,
+            text,
+            alphabet,
+            applied,
+            look_ups,
+            configs.as_slice(),
+            steps,
+        )?;
         Ok(())
     }
 
@@ -95,48 +111,58 @@ impl Reached {
     }
 
     /// Goes one step on from each of the configurations.
-    fn step_each(
+    fn step_each<'t, L: Ledger>(
         &mut self,
         alloc: Global,
         net: &Net,
-        text: &Text,
+        text: &'t Text,
         alphabet: &Alphabet,
-        look_ups: &mut LookUps,
+        applied: &Applied,
+        look_ups: &mut LookUps<'t>,
         configs: &[Config],
+        steps: &mut Steps<L>,
     ) -> Mem<()>
-        requires { AreSound alphabet.now net.now (different_texts text.now) look_ups.now }
+        requires belongs { Belongs alphabet.now text.now applied.now }
+        requires sound { AreSound alphabet.now net.now (different_texts text.now) look_ups.now }
         ensures sound { AreSound alphabet.now net.now (different_texts text.now) look_ups.new }
         ensures adds { OnOk result (IsSound self.old →
             ((c : Config) → Contains configs.now c → (w : Course) × IsNamed self.old c w) →
-            Adds (IsAfterSome alphabet.now text.now net.now self.old configs.now)
+            Adds (IsAfterSome alphabet.now text.now applied.now net.now self.old configs.now)
             self.old self.new) }
     {
         for config in configs {
-            self.step(alloc, net, text, alphabet, look_ups, *config)?;
+            self.step(
+                alloc, net, text, alphabet, applied, look_ups, *config, steps,
+            )?;
         }
         Ok(())
     }
 
     /// Goes one step on from a configuration: over each edge of its state, and back where that is
     /// final.
-    pub fn step(
+    pub fn step<'t, L: Ledger>(
         &mut self,
         alloc: Global,
         net: &Net,
-        text: &Text,
+        text: &'t Text,
         alphabet: &Alphabet,
-        look_ups: &mut LookUps,
+        applied: &Applied,
+        look_ups: &mut LookUps<'t>,
         config: Config,
+        steps: &mut Steps<L>,
     ) -> Mem<()>
-        requires { AreSound alphabet.now net.now (different_texts text.now) look_ups.now }
+        requires belongs { Belongs alphabet.now text.now applied.now }
+        requires sound { AreSound alphabet.now net.now (different_texts text.now) look_ups.now }
         ensures sound { AreSound alphabet.now net.now (different_texts text.now) look_ups.new }
         ensures adds { OnOk result (AddsFrom self.old self.new config (λ back before.
-            GoesOn alphabet.now text.now net.now config.here back config.at before)) }
+            GoesOn alphabet.now text.now applied.now net.now config.here back config.at before)) }
     {
         let Some(state) = net.state(config.here.graph, config.here.state) else {
             return Ok(());
         };
-        self.follow_state(alloc, text, alphabet, look_ups, config, state)?;
+        self.follow_state(
+            alloc, text, alphabet, applied, look_ups, config, state, steps,
+        )?;
         if state.is_final {
             self.leave(config)?;
         }
@@ -144,15 +170,18 @@ impl Reached {
     }
 
     /// Goes over each edge of the state that applies: of many those that may apply at the token.
-    fn follow_state(
+    fn follow_state<'t, L: Ledger>(
         &mut self,
         alloc: Global,
-        text: &Text,
+        text: &'t Text,
         alphabet: &Alphabet,
-        look_ups: &mut LookUps,
+        applied: &Applied,
+        look_ups: &mut LookUps<'t>,
         config: Config,
         state: &State,
+        steps: &mut Steps<L>,
     ) -> Mem<()>
+        requires belongs { Belongs alphabet.now text.now applied.now }
         ensures sound { (net : List NetGraph) →
             slice_get (states_of net config.here.graph) config.here.state ≡ Some state.now →
             AreSound alphabet.now net (different_texts text.now) look_ups.old →
@@ -161,104 +190,152 @@ impl Reached {
             slice_get (states_of net config.here.graph) config.here.state ≡ Some state.now →
             AreSound alphabet.now net (different_texts text.now) look_ups.old →
             AddsFrom self.old self.new config (λ back before.
-            IsOverSome alphabet.now text.now config.here back config.at before state.now.edges)) }
+            IsOverSome alphabet.now text.now applied.now config.here back config.at before
+            state.now.edges)) }
     {
         let edges = state.edges.as_slice();
         let position = skip(text, config.at);
-        if !has_lists(edges.len()) || text.len() <= position {
-            return self.follow_edges(text, alphabet, config, edges);
+        if !has_index(edges.len()) || text.len() <= position {
+            return self.follow_edges(alloc, text, alphabet, applied, config, edges, steps);
         }
-        let key = LookUp {
-            graph: config.here.graph,
-            state: config.here.state,
-            number: text.number(position),
+        look_ups.meet(alloc, text, alphabet, config.here, edges)?;
+        let Some(index) = look_ups.index(config.here) else {
+            return self.follow_edges(alloc, text, alphabet, applied, config, edges, steps);
         };
-        if let Some(places) = look_ups.places(key) {
-            return self.follow_places(text, alphabet, config, edges, places);
-        }
-        let places = places_for(alloc, alphabet, text.token(position), edges)?;
-        self.follow_places(text, alphabet, config, edges, places.as_slice())?;
-        look_ups.add(key, places)
+        let places = index.places(alloc, text.number(position))?;
+        self.follow_places(
+            alloc,
+            text,
+            alphabet,
+            applied,
+            config,
+            edges,
+            places.as_slice(),
+            steps,
+        )
     }
 
     /// Goes over the edges at the places that apply.
-    fn follow_places(
+    fn follow_places<L: Ledger>(
         &mut self,
+        alloc: Global,
         text: &Text,
         alphabet: &Alphabet,
+        applied: &Applied,
         config: Config,
         edges: &[Edge],
         places: &[u32],
+        steps: &mut Steps<L>,
     ) -> Mem<()>
+        requires belongs { Belongs alphabet.now text.now applied.now }
         ensures { OnOk result (AddsFrom self.old self.new config (λ back before.
-            IsOverSomeAt alphabet.now text.now config.here back config.at before edges.now
+            IsOverSomeAt alphabet.now text.now applied.now config.here back config.at
+            before edges.now
             places.now)) }
     {
         for place in places {
-            self.follow_place(text, alphabet, config, edges, *place)?;
+            self.follow_place(alloc, text, alphabet, applied, config, edges, *place, steps)?;
         }
         Ok(())
     }
 
     /// Goes over the edge at a place, if it applies.
-    fn follow_place(
+    fn follow_place<L: Ledger>(
         &mut self,
+        alloc: Global,
         text: &Text,
         alphabet: &Alphabet,
+        applied: &Applied,
         config: Config,
         edges: &[Edge],
         place: u32,
+        steps: &mut Steps<L>,
     ) -> Mem<()>
+        requires belongs { Belongs alphabet.now text.now applied.now }
         ensures { OnOk result (AddsFrom self.old self.new config (λ back before.
-            IsOverAt alphabet.now text.now config.here back config.at before edges.now place)) }
+            IsOverAt alphabet.now text.now applied.now config.here back config.at before
+            edges.now place)) }
     {
         match edge_at(edges, place) {
-            Some(edge) => self.follow(text, alphabet, config, edge),
+            Some(edge) => self.follow(alloc, text, alphabet, applied, config, edge, steps),
             None => Ok(()),
         }
     }
 
     /// Goes over each of the edges that applies.
-    fn follow_edges(
+    fn follow_edges<L: Ledger>(
         &mut self,
+        alloc: Global,
         text: &Text,
         alphabet: &Alphabet,
+        applied: &Applied,
         config: Config,
         edges: &[Edge],
+        steps: &mut Steps<L>,
     ) -> Mem<()>
+        requires belongs { Belongs alphabet.now text.now applied.now }
         ensures { OnOk result (AddsFrom self.old self.new config (λ back before.
-            IsOverSome alphabet.now text.now config.here back config.at before edges.now)) }
+            IsOverSome alphabet.now text.now applied.now config.here back config.at before
+            edges.now)) }
     {
         for edge in edges {
-            self.follow(text, alphabet, config, edge)?;
+            self.follow(alloc, text, alphabet, applied, config, edge, steps)?;
         }
         Ok(())
     }
 
     /// Goes over the edge, if it applies.
-    fn follow(&mut self, text: &Text, alphabet: &Alphabet, config: Config, edge: &Edge) -> Mem<()>
+    fn follow<L: Ledger>(
+        &mut self,
+        alloc: Global,
+        text: &Text,
+        alphabet: &Alphabet,
+        applied: &Applied,
+        config: Config,
+        edge: &Edge,
+        steps: &mut Steps<L>,
+    ) -> Mem<()>
+        requires belongs { Belongs alphabet.now text.now applied.now }
         ensures { OnOk result (AddsFrom self.old self.new config (λ back before.
-            IsOver alphabet.now text.now config.here back config.at before edge.now)) }
+            IsOver alphabet.now text.now applied.now config.here back config.at before edge.now)) }
     {
         let here = Frame {
             graph: config.here.graph,
             state: edge.target,
         };
-        match passage_at(text, alphabet, &edge.label, config.at) {
+        let passage = passage_at(
+            alloc,
+            text,
+            alphabet,
+            applied,
+            &edge.label,
+            config.at,
+            steps,
+        )?;
+        match passage {
             Passage::Takes(end) => self.take(config, here, end),
+            Passage::Spans(ends) => self.take_each(config, here, ends.as_slice()),
             Passage::Stays => self.pend(Config { here, ..config }),
             Passage::Calls(graph) => self.call(config, here, graph),
             Passage::Closed => Ok(()),
         }
     }
 
+    /// Goes on in a frame after the tokens up to each of the ends.
+    fn take_each(&mut self, config: Config, here: Frame, ends: &[usize]) -> Mem<()>
+        ensures { OnOk result (AddsFrom self.old self.new config (λ back before w.
+            (end : ℕ) × Contains ends.now end × IsPast config.at here back before end w)) }
+    {
+        for end in ends {
+            self.take(config, here, *end)?;
+        }
+        Ok(())
+    }
+
     /// Goes on in a frame after the tokens that were taken.
     fn take(&mut self, config: Config, here: Frame, end: usize) -> Mem<()>
-        ensures { OnOk result (AddsFrom self.old self.new config (λ back before w. w ≡ record {
-          frames = here ∷ back;
-          at = end;
-          before = from_to config.at end ∷ before;
-        })) }
+        ensures { OnOk result (AddsFrom self.old self.new config (λ back before.
+            IsPast config.at here back before end)) }
     {
         let taken = Taken {
             from: config.at,
@@ -356,8 +433,8 @@ fn as_event(taken: &Taken) -> Event
     }
 }
 
-/// Whether the edges of a state of so many are listed: they are many, and 32 bits tell each place.
-fn has_lists(edges: usize) -> bool
+/// Whether a state of so many edges gets an index: they are many, and 32 bits tell each place.
+fn has_index(edges: usize) -> bool
     ensures { IsTrue result → edges < 4294967296 }
 {
     FEW < edges && edges < 4_294_967_296

@@ -2,11 +2,10 @@
 
 ghost use Rattle.std.specs.Prelude.{◌≡◌, ◌≤◌, ◌↔◌, ℕ, List, Contains, IfOk, OnOk, length};
 ghost use Rattle.ux_net.specs.Measured.{IsMeasured};
-ghost use Rattle.ux_net.specs.Nets.{net_grammar};
 ghost use Rattle.ux_outputs.specs.declared.event.Event.{Event};
 ghost use Rattle.ux_outputs.specs.Following.{Follows};
-ghost use Rattle.ux_meaning.specs.Meaning.{Der};
-ghost use Rattle.ux_meaning.specs.Texts.{bare_text};
+ghost use Rattle.ux_apply.specs.Belonging.{Belongs};
+ghost use Rattle.ux_walk.specs.Settings.{Derives, setting_of};
 ghost use Rattle.ux_walk.specs.Configurations.{IsFoundAs, IsNothing, IsSound};
 ghost use Rattle.ux_tokens.specs.Numbers.{different_texts};
 ghost use Rattle.ux_walk.specs.Links.{AreOnce};
@@ -16,72 +15,104 @@ use crate::config::{Config, Frame};
 use crate::look_ups::LookUps;
 use crate::reached::Reached;
 use std::alloc::Global;
+use std::sync::ledger::Ledger;
 use ux_alphabet::Alphabet;
-use ux_base::{Lst, Mem};
+use ux_apply::Applied;
+use ux_base::{Lst, Mem, Steps};
 use ux_net::Net;
 use ux_outputs::Event;
 use ux_tokens::Text;
 
 /// Each end and event list that the main graph derives from `start`, once.
 ///
-/// Until a first edge applies, or a state of many edges is met, it takes no memory.
-pub fn walk(
+/// Until a first edge applies, a mask is tried or a state of many edges is met, it takes no memory.
+/// Each try of a mask takes a step.
+pub fn walk<L: Ledger>(
     alloc: Global,
     net: &Net,
     text: &Text,
     alphabet: &Alphabet,
+    applied: &Applied,
     start: usize,
+    steps: &mut Steps<L>,
 ) -> Mem<Vec<(usize, Lst<Event>)>>
     requires measured { IsMeasured net.now }
+    requires belongs { Belongs alphabet.now text.now applied.now }
     requires inside { start ≤ length text.now }
     ensures exactly { IfOk result (λ found. (end : ℕ) (events : List Event) →
         Contains found.items (end, events)
-        ↔ Der (bare_text alphabet.now text.now) (net_grammar net.now) 1 start end events) }
+        ↔ Derives (setting_of net.now text.now alphabet.now applied.now) start end events) }
     ensures follows { IfOk result (λ found. (end : ℕ) (events : List Event) →
         Contains found.items (end, events) →
         Follows start end events × (end ≤ length text.now)) }
     ensures once { IfOk result (λ found. AreOnce found.items) }
 {
-    walk_through(alloc, net, text, alphabet, &mut LookUps::new(alloc), start)
+    walk_through(
+        alloc,
+        net,
+        text,
+        alphabet,
+        applied,
+        &mut LookUps::new(alloc),
+        start,
+        steps,
+    )
 }
 
-/// Each end and event list that the main graph derives from `start`, once, by rounds.
-pub fn walk_through(
+/// Each end and event list that the main graph derives from `start`, once, by rounds. The look-ups
+/// are kept from start to start. Each try of a mask takes a step.
+pub fn walk_through<'t, L: Ledger>(
     alloc: Global,
     net: &Net,
-    text: &Text,
+    text: &'t Text,
     alphabet: &Alphabet,
-    look_ups: &mut LookUps,
+    applied: &Applied,
+    look_ups: &mut LookUps<'t>,
     start: usize,
+    steps: &mut Steps<L>,
 ) -> Mem<Vec<(usize, Lst<Event>)>>
     requires measured { IsMeasured net.now }
+    requires belongs { Belongs alphabet.now text.now applied.now }
     requires sound { AreSound alphabet.now net.now (different_texts text.now) look_ups.now }
     requires inside { start ≤ length text.now }
     ensures sound { AreSound alphabet.now net.now (different_texts text.now) look_ups.new }
     ensures exactly { IfOk result (λ found. (end : ℕ) (events : List Event) →
         Contains found.items (end, events)
-        ↔ Der (bare_text alphabet.now text.now) (net_grammar net.now) 1 start end events) }
+        ↔ Derives (setting_of net.now text.now alphabet.now applied.now) start end events) }
     ensures follows { IfOk result (λ found. (end : ℕ) (events : List Event) →
         Contains found.items (end, events) →
         Follows start end events × (end ≤ length text.now)) }
     ensures once { IfOk result (λ found. AreOnce found.items) }
 {
     let mut reached = Reached::new(alloc);
-    reach(alloc, net, text, alphabet, look_ups, start, &mut reached)?;
+    reach(
+        alloc,
+        net,
+        text,
+        alphabet,
+        applied,
+        look_ups,
+        start,
+        &mut reached,
+        steps,
+    )?;
     reached.derivations(alloc)
 }
 
 /// Goes on from `start` by rounds, until no configuration is pending.
-fn reach(
+fn reach<'t, L: Ledger>(
     alloc: Global,
     net: &Net,
-    text: &Text,
+    text: &'t Text,
     alphabet: &Alphabet,
-    look_ups: &mut LookUps,
+    applied: &Applied,
+    look_ups: &mut LookUps<'t>,
     start: usize,
     reached: &mut Reached,
+    steps: &mut Steps<L>,
 ) -> Mem<()>
     requires measured { IsMeasured net.now }
+    requires belongs { Belongs alphabet.now text.now applied.now }
     requires sound { AreSound alphabet.now net.now (different_texts text.now) look_ups.now }
     requires inside { start ≤ length text.now }
     requires nothing { IsNothing reached.now }
@@ -89,7 +120,7 @@ fn reach(
     ensures named { OnOk result (IsSound reached.new) }
     ensures exactly { OnOk result ((end : ℕ) (events : List Event) →
         IsFoundAs reached.new end events
-        ↔ Der (bare_text alphabet.now text.now) (net_grammar net.now) 1 start end events) }
+        ↔ Derives (setting_of net.now text.now alphabet.now applied.now) start end events) }
 {
     net.is_plain();
     let main = Frame { graph: 1, state: 0 };
@@ -99,9 +130,9 @@ fn reach(
         at: start,
         events: 0,
     };
-    reached.step(alloc, net, text, alphabet, look_ups, first)?;
+    reached.step(alloc, net, text, alphabet, applied, look_ups, first, steps)?;
     while reached.is_pending() {
-        reached.round(alloc, net, text, alphabet, look_ups)?;
+        reached.round(alloc, net, text, alphabet, applied, look_ups, steps)?;
     }
     Ok(())
 }

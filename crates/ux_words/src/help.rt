@@ -5,8 +5,9 @@
 pub const HELP: &str = "\
 usage: unitex COMMAND ARGUMENTS
 
-  locate GRAPH TEXT ALPHABET   reads a grammar, a text and its letters, writes
-                               the index of all hits
+  locate GRAPH TEXT ALPHABET [DIC..]
+                               reads a grammar, a text, its letters and
+                               dictionaries, writes the index of all hits
     --mode ignore              outputs of the grammar are left out (default)
     --policy all               every hit is kept (default)
     --chars                    each letter is a token of its own
@@ -19,6 +20,9 @@ usage: unitex COMMAND ARGUMENTS
   dico TEXT ALPHABET [DIC..]   reads a text, its letters and dictionaries,
                                writes their report
     --chars                    each letter is a token of its own
+
+A mask in a graph takes tokens of a kind, as <WORD>, <NB> or <TOKEN>, or by the
+entries that the dictionaries have for them, as <N:p>, <be.V> or <!DIC>.
 
 Options and names of files stand in any order, an option as --name value or
 --name=value. After -- all words are names of files. --help and --version stand

@@ -382,15 +382,6 @@ fn refuses_grammars(rt: HostRuntime) -> Result<(), Fail> {
             ("", "refused: Y.grf: NoHeader\n", 3),
         ),
         (
-            "a mask",
-            &[(
-                "g.grf",
-                "#Unigraph\n#\n3\n\"<E>\" 0 0 1 2 \n\"\" 0 0 0 \n\"<N>\" 0 0 1 1 \n",
-            )],
-            "a",
-            ("", "refused: g.grf: NotYet graph=g node=2\n", 3),
-        ),
-        (
             "an output in a callee",
             &[
                 (
@@ -424,10 +415,10 @@ fn refuses_grammars(rt: HostRuntime) -> Result<(), Fail> {
             ("", "refused: g.grf: BadContent node=2 place=2\n", 3),
         ),
         (
-            "a missing callee comes before a mask",
+            "a missing callee comes before what isn't built",
             &[(
                 "g.grf",
-                "#Unigraph\n#\n4\n\"<E>\" 0 0 2 2 3 \n\"\" 0 0 0 \n\"<N>\" 0 0 1 1 \n\":Y\" 0 0 1 1 \n",
+                "#Unigraph\n#\n4\n\"<E>\" 0 0 2 2 3 \n\"\" 0 0 0 \n\"a/[N]\" 0 0 1 1 \n\":Y\" 0 0 1 1 \n",
             )],
             "a",
             ("", "absent: Y.grf\n", 2),

@@ -78,7 +78,7 @@ fn answers_usage(rt: HostRuntime) -> Result<(), Fail> {
             ],
             "",
         ),
-        (&["locate", "g.grf", "t.txt", "a.txt", "d.dic"], ""),
+        (&["locate", "g.grf", "t.txt", "a.txt", "d.udi"], ""),
         (&["locate", "g.fst2", "t.txt", "a.txt"], ""),
         (&["locate", "--mode=merge", "g.grf", "t.txt", "a.txt"], ""),
         (

@@ -199,21 +199,31 @@ fn requires_a_space_for_a_carriage_return(rt: HostRuntime) -> Result<(), Fail> {
 }
 
 /// A stage's two boxes.
-fn push_stage(alloc: Global, graph: &mut String, stage: u32) -> Result<(), AllocError> {
-    if stage == 39 {
-        return graph.push_str("\"a\" 0 0 1 1 \n\"a\" 0 0 1 1 \n");
-    }
+fn push_stage(
+    alloc: Global,
+    graph: &mut String,
+    content: &str,
+    stage: u32,
+) -> Result<(), AllocError> {
     let next = stage.saturating_mul(2).saturating_add(4);
-    let line = format!(in alloc; "\"a\" 0 0 2 {} {} \n", next, next.saturating_add(1))?;
+    let line = if stage == 39 {
+        format!(in alloc; "\"{content}\" 0 0 1 1 \n")?
+    } else {
+        format!(in alloc;
+            "\"{content}\" 0 0 2 {} {} \n",
+            next,
+            next.saturating_add(1)
+        )?
+    };
     graph.push_str(line.as_str())?;
     graph.push_str(line.as_str())
 }
 
-/// Forty stages of two boxes `a`, each leading to both boxes of the next stage: 2^40 runs.
-fn stages(alloc: Global) -> Result<String, AllocError> {
+/// Forty stages of two such boxes, each leading to both boxes of the next stage: 2^40 runs.
+fn stages(alloc: Global, content: &str) -> Result<String, AllocError> {
     let mut graph = String::from_str(alloc, "#Unigraph\n#\n82\n\"<E>\" 0 0 2 2 3 \n\"\" 0 0 0 \n")?;
     for stage in 0..40u32 {
-        push_stage(alloc, &mut graph, stage)?;
+        push_stage(alloc, &mut graph, content, stage)?;
     }
     Ok(graph)
 }
@@ -223,9 +233,11 @@ fn looks_at_no_run_twice(rt: HostRuntime) -> Result<(), Fail> {
     const TEXT: &str =
         "a a a a a a a a a a a a a a a a a a a a a a a a a a a a a a a a a a a a a a a a";
     let alloc = rt.alloc();
-    let graph = stages(alloc)?;
     let index = format!(in alloc; "#I\n0 78 {TEXT}\n")?;
-    let got = searched(alloc, LETTERS, graph.as_str(), TEXT)?;
-    compare_given(&rt, "forty stages", &got, (index.as_str(), "", 0));
+    for content in ["a", "<WORD>"] {
+        let graph = stages(alloc, content)?;
+        let got = searched(alloc, LETTERS, graph.as_str(), TEXT)?;
+        compare_given(&rt, content, &got, (index.as_str(), "", 0));
+    }
     Ok(())
 }

@@ -74,7 +74,7 @@ type Row = (
     &'static str,
 );
 
-const SEARCH: &[&str] = &["locate", "m.grf", "t.txt", "a.txt"];
+const SEARCH: &[&str] = &["locate", "m.grf", "t.txt", "a.txt", "d.dic", "e.dic"];
 
 const TOKENS: &[&str] = &["tokenize", "t.txt", "a.txt"];
 
@@ -90,6 +90,8 @@ const ROWS: &[Row] = &[
     (SEARCH, "m.grf", b"", "NoHeader"),
     (SEARCH, "g.grf", b"#Unigraph\n#\n1\n", "BadCount"),
     (SEARCH, "t.txt", b"\xff\xfea", "OddLength"),
+    (SEARCH, "d.dic", b"cat,N", "NoDot line=1 place=5"),
+    (SEARCH, "e.dic", b",cat.N", "EmptyForm line=1 place=0"),
     (TOKENS, "a.txt", b"#ba", "EmptyRange line=1"),
     (TOKENS, "t.txt", b"a\xff", "BadUtf8 place=1"),
     (CHECK, "d.dic", b"abc", "NoComma line=1 place=3"),

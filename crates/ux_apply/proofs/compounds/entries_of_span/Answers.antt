@@ -39,7 +39,7 @@ returns-clause-entries g c =
     c.slice-span.ensures
     (span-front c.args.text.now c.args.first c.args.last c.kind-kind.result c.requires.front
     c.requires.in_order c.kind-kind.ensures (c.may_bound.ensures.0 c.if-not-may_bound.false))
-    c.in_ok-applying.ensures
+    c.in_ok-applying.ensures.applies
 
 pub returns-clause-goes_on : goal.returns-clause-goes_on
 returns-clause-goes_on g c =

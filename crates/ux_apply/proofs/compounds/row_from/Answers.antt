@@ -8,14 +8,14 @@ use Rattle.ux_apply.proofs.SpanLemmas.{has_kind, none-unbounded, row-whole}
 use Rattle.ux_apply.proofs.StartLemmas.{none-over}
 use Rattle.ux_apply.proofs.compounds.row_from.Goals as goal
 
-pub returns-in-Some : goal.returns-in-Some
-returns-in-Some g c =
+pub returns-in-Some-clause-row : goal.returns-in-Some-clause-row
+returns-in-Some-clause-row g c =
     own-row c.args.alphabet.now (contents g.L.Lexicon.content c.args.dics.now) c.args.text.now
     c.args.first c.in-Some.entry.now c.requires.within c.in-Some.ensures.entry c.own_row.result
     c.own_row.ensures.letters c.own_row.ensures.others
 
-pub returns-then-not-may_bound : goal.returns-then-not-may_bound
-returns-then-not-may_bound g c =
+pub returns-then-not-may_bound-clause-row : goal.returns-then-not-may_bound-clause-row
+returns-then-not-may_bound-clause-row g c =
     let lines = c.args.alphabet.now in
     let dics = contents g.L.Lexicon.content c.args.dics.now in
     let tokens = c.args.text.now in
@@ -27,8 +27,8 @@ returns-then-not-may_bound g c =
     (none-unbounded lines dics tokens first c.kind.result c.kind.ensures
     (λ bounds. let t = c.may_bound.ensures.1 bounds in let f = c.if-not-may_bound.true in cc)))
 
-pub returns-in-None : goal.returns-in-None
-returns-in-None g c =
+pub returns-in-None-clause-row : goal.returns-in-None-clause-row
+returns-in-None-clause-row g c =
     let lines = c.args.alphabet.now in
     let dics = contents g.L.Lexicon.content c.args.dics.now in
     let tokens = c.args.text.now in

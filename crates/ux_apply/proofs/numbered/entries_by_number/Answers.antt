@@ -1,5 +1,7 @@
-use Rattle.std.proofs.Common.{List, ℕ, arith}
-use Rattle.std.specs.Prelude.{Vec}
+use Rattle.std.proofs.Common.{List, ℕ, arith, subst, sym}
+use Rattle.std.specs.Prelude.{All, Vec}
+use Rattle.std.proofs.lemmas.List.Elements.{All-push}
+use Rattle.ux_dela.specs.Sound.{IsSound}
 use Rattle.ux_dela.specs.declared.entry.Entry.{Entry}
 use Rattle.ux_tokens.specs.Numbers.{different_texts}
 use Rattle.ux_apply.specs.Applying.{AreApplying, contents}
@@ -12,19 +14,27 @@ token-requires g c =
     c.loop-place.place-index (omega arith)
 
 pub loop-place-preserved : goal.loop-place-preserved
-loop-place-preserved g c =
-    numbered-more
-    (λ (text : List ℕ) (row : Vec Entry _). AreApplying c.args.alphabet.now
-    (contents g.L.Lexicon.content c.args.dics.now) text row.items)
-    c.args.text.now (different_texts c.args.text.now) c.args.places.now c.requires
-    c.loop-place.place-index (omega arith) c.token.result.now c.token.ensures
-    c.loop-place.rows.items c.push.new.self.items c.in_ok-row.row c.loop-place.invariant
-    c.in_ok-row.ensures c.in_ok-push.ensures.items
+loop-place-preserved g c = record {
+  applying = numbered-more
+      (λ (text : List ℕ) (row : Vec Entry _). AreApplying c.args.alphabet.now
+      (contents g.L.Lexicon.content c.args.dics.now) text row.items)
+      c.args.text.now (different_texts c.args.text.now) c.args.places.now c.requires
+      c.loop-place.place-index (omega arith) c.token.result.now c.token.ensures
+      c.loop-place.rows.items c.push.new.self.items c.in_ok-row.row
+      c.loop-place.invariant.applying c.in_ok-row.ensures.applies c.in_ok-push.ensures.items;
+  sound = subst (λ (l : List (Vec Entry _)). All (λ row. All IsSound row.items) l)
+      (sym c.in_ok-push.ensures.items)
+      (All-push (λ row. All IsSound row.items) c.loop-place.rows.items c.in_ok-row.row
+      c.loop-place.invariant.sound c.in_ok-row.ensures.sound);
+}
 
 pub returns : goal.returns
-returns g c =
-    numbered-end
-    (λ (text : List ℕ) (row : Vec Entry _). AreApplying c.args.alphabet.now
-    (contents g.L.Lexicon.content c.args.dics.now) text row.items)
-    c.args.text.now (different_texts c.args.text.now) c.args.places.now c.requires
-    c.loop-place.place-index (omega arith) c.loop-place.rows.items c.loop-place.invariant
+returns g c = record {
+  applying = numbered-end
+      (λ (text : List ℕ) (row : Vec Entry _). AreApplying c.args.alphabet.now
+      (contents g.L.Lexicon.content c.args.dics.now) text row.items)
+      c.args.text.now (different_texts c.args.text.now) c.args.places.now c.requires
+      c.loop-place.place-index (omega arith) c.loop-place.rows.items
+      c.loop-place.invariant.applying;
+  sound = c.loop-place.invariant.sound;
+}

@@ -5,4 +5,4 @@ use Rattle.ux_apply.proofs.numbered.word_numbers.Given as goal
 
 -- the numbers are those of the words so far
 abbrev pub invariant-loop-place : goal.invariant-loop-place
-invariant-loop-place l = AllZip (IsWordNumber l.text) (take l.place l.text) l.numbers.items
+invariant-loop-place l = AllZip (IsWordNumber l.text) (take l.place l.text) l.words

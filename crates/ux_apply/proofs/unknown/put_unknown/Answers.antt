@@ -1,14 +1,12 @@
 use Rattle.std.proofs.Common.{ℕ, ap, inl, inr}
 use Rattle.std.specs.Prelude.{Some}
 use Rattle.std.proofs.lemmas.Option.{same_Some}
-use Rattle.ux_apply.proofs.UnknownLemmas.{Contains-insert}
 use Rattle.ux_apply.proofs.unknown.put_unknown.Goals as goal
 
-pub returns-in_ok-insert : goal.returns-in_ok-insert
-returns-in_ok-insert c n =
+pub returns-in_ok-put_number-clause-numbers : goal.returns-in_ok-put_number-clause-numbers
+returns-in_ok-put_number-clause-numbers c n =
     let number = c.in-Some.number in
-    let grown = Contains-insert c.args.set.now c.insert.new.self number n
-    c.in_ok-insert.ensures.updates in (
+    let grown = c.in_ok-put_number.ensures.numbers n in (
       λ has. elim (grown.0 has) [
         | inl old ↦ inl old
         | inr is ↦ inr ((c.in-Some.ensures n).0 (ap (λ (k : ℕ). Some k) is))
@@ -19,8 +17,8 @@ returns-in_ok-insert c n =
       ]),
     )
 
-pub returns-in_default : goal.returns-in_default
-returns-in_default c n = (
+pub returns-in_default-clause-numbers : goal.returns-in_default-clause-numbers
+returns-in_default-clause-numbers c n = (
   λ has. inl has,
   λ one. elim one [
     | inl old ↦ old

@@ -20,7 +20,7 @@ returns c =
     let same : contents (λ (content : List Entry). content) lent ≡ dics =
     map-id lent ∙ c.deref.ensures.value in
     let are = subst (λ (l : List (Priority × List Entry)). AreApplied letters l tokens tables) same
-    c.in_ok-applied.ensures in
+    c.in_ok-applied.ensures.applied in
     IfOk-weaker c.report.result
     (λ (report : String Global). IsReport tokens tables (string_bytes report))
     (λ (report : String Global). IsReportOf letters tokens dics (string_bytes report))

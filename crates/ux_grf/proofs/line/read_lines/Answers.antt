@@ -20,7 +20,7 @@ loop-lines-preserved c = record {
       c.loop-lines.invariant.lines c.in_ok-line.line.items.items c.in_ok-line.line.after.now
       c.in_ok-line.ensures.line c.in-Some.next.now c.push.new.self.items c.in-Some.ensures.some
       (c.in_ok-push.ensures.items ∙ ap (λ (l : List Item). c.loop-lines.lines.items ++ l ∷ [])
-      c.new.ensures);
+      c.fitted.ensures);
   bad = bad_more c.args.text.now c.loop-lines.rest.now c.in_ok-line.line.items.items
       c.in_ok-line.line.after.now c.in-Some.next.now c.loop-lines.invariant.bad
       c.in_ok-line.ensures.line c.in-Some.ensures.some;
@@ -32,7 +32,7 @@ returns-in-None-clause-lines c =
     c.loop-lines.invariant.lines c.in_ok-line.line.items.items c.in_ok-line.line.after.now
     c.in_ok-line.ensures.line c.last_output-output.result.now c.push.new.self.items c.last_output-output.ensures
     (c.in_ok-push.ensures.items ∙ ap (λ (l : List Item). c.loop-lines.lines.items ++ l ∷ [])
-    c.new.ensures)
+    c.fitted.ensures)
 
 pub loop-lines-init : goal.loop-lines-init
 loop-lines-init c = grind (arith, common_steps)

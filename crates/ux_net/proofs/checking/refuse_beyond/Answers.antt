@@ -2,12 +2,12 @@ use Rattle.std.proofs.Common.{ℕ, inl, sym, ◌∙◌, subst, List, arith}
 use Rattle.std.proofs.lemmas.Grind.{common_steps}
 use Rattle.ux_grf.specs.declared.graph.GrfBox.{GrfBox}
 use Rattle.ux_net.specs.Refusing.{drawn, HasNoBeyond, IsFirstBeyond, IsBeyondAt, IsFirstNamed}
-use Rattle.ux_net.proofs.RefusingLemmas.{compiled_more, compiled_all, found_first}
+use Rattle.ux_net.proofs.RefusingLemmas.{good_more, good_all, found_first}
 use Rattle.ux_net.proofs.checking.refuse_beyond.Goals as goal
 
 pub loop-name-preserved : goal.loop-name-preserved
 loop-name-preserved c =
-    compiled_more c.args.graphs.now c.loop-name.name-index c.loop-name-item.result
+    good_more HasNoBeyond c.args.graphs.now c.loop-name.name-index c.loop-name-item.result
     c.loop-name-test.true c.loop-name-item.is c.loop-name.invariant
     (subst HasNoBeyond c.as_slice.ensures c.in_default.ensures)
 
@@ -23,7 +23,7 @@ returns-in-Some-clause-err c =
 
 pub returns-clause-ok : goal.returns-clause-ok
 returns-clause-ok c =
-    compiled_all c.args.graphs.now c.loop-name.name-index c.loop-name-test.false
+    good_all HasNoBeyond c.args.graphs.now c.loop-name.name-index c.loop-name-test.false
     c.loop-name.invariant
 
 pub loop-name-init : goal.loop-name-init

@@ -18,7 +18,7 @@ pub loop-line-init : goal.loop-line-init
 loop-line-init c = record {
   chain = table_at c.args.places.now (chain_start c.args.places.now) c.args.starts.now
       c.args.place c.requires.starts c.requires.place ∙ omega arith;
-  items = sym (append-nil c.args.edges.now.items);
+  items = c.in_ok-reserve.ensures.items ∙ sym (append-nil c.args.edges.now.items);
 }
 
 pub edge-requires-clause-number : goal.edge-requires-clause-number

@@ -6,15 +6,15 @@ use Rattle.ux_net.proofs.grammar.build.Goals as goal
 
 pub loop-number-preserved : goal.loop-number-preserved
 loop-number-preserved c =
-    let graphs = c.args.graphs.now in
+    let names = c.args.names.now in
     let places = c.args.places.now in
     let ranks = c.args.ranks.now in
     let free = c.args.free.now in
     let i = c.loop-number.number in
-    subst (λ (net : List NetGraph). AreBuiltTo graphs places ranks free net (i + 1))
+    subst (λ (net : List NetGraph). AreBuiltTo names places ranks free net (i + 1))
     (sym c.in_ok-push.ensures.items)
-    (built_more graphs places ranks free c.loop-number.net.items i c.index-graphs-number.result
-    c.in_ok-build_graph.field-0 c.loop-number-test.true c.index-graphs-number.is
+    (built_more names places ranks free c.loop-number.net.items i c.index-names-number.result
+    c.in_ok-build_graph.field-0 c.loop-number-test.true c.index-names-number.is
     c.loop-number.invariant
     (built_at places ranks free i c.as_slice.result.now c.as_slice-in-loop-number.result.now
     c.as_slice-in-loop-number-2.result.now c.in_ok-build_graph.field-0

@@ -8,6 +8,12 @@ returns-in-MissingGraph-clause-line g c = rw c.in-MissingGraph.is c.say_missing.
 pub returns-in-MissingGraph-clause-front : goal.returns-in-MissingGraph-clause-front
 returns-in-MissingGraph-clause-front g c = rw c.in-MissingGraph.is c.say_missing.ensures.front
 
+pub returns-in-BadMask-clause-line : goal.returns-in-BadMask-clause-line
+returns-in-BadMask-clause-line g c = rw c.in-BadMask.is c.say_bad_mask.ensures.line
+
+pub returns-in-BadMask-clause-front : goal.returns-in-BadMask-clause-front
+returns-in-BadMask-clause-front g c = rw c.in-BadMask.is c.say_bad_mask.ensures.front
+
 pub returns-in-NotYet-clause-line : goal.returns-in-NotYet-clause-line
 returns-in-NotYet-clause-line g c = rw c.in-NotYet.is c.say_node.ensures.line
 

@@ -2,7 +2,7 @@ use Rattle.std.proofs.Common.{ℕ, length}
 use Rattle.ux_tokens.specs.Numbers.{different_texts}
 use Rattle.ux_net.specs.Nets.{net_grammar}
 use Rattle.ux_meaning.specs.Meaning.{RefusesBy}
-use Rattle.ux_meaning.specs.Texts.{bare_text}
+use Rattle.ux_walk.specs.Settings.{applied_text}
 use Rattle.ux_walk.specs.Configurations.{frames_of}
 use Rattle.ux_walk.specs.LookUps.{AreSound}
 use Rattle.ux_walk.proofs.Rounds.{Walking}
@@ -11,13 +11,14 @@ use Rattle.ux_walk.proofs.walking.reach.Given as goal
 
 -- what was found, and what the pending configurations give, is all that each level derives
 abbrev pub invariant-loop-alloc : goal.invariant-loop-alloc
-invariant-loop-alloc l = record {
+invariant-loop-alloc g l = record {
   sound : AreSound l.alphabet l.net (different_texts l.text) l.look_ups;
-  walking : (n : ℕ) → Walking l.alphabet l.text l.net
-      (RefusesBy (bare_text l.alphabet l.text) (net_grammar l.net) n) l.start l.reached;
+  walking : (n : ℕ) → Walking l.alphabet l.text l.applied l.net
+      (RefusesBy (applied_text l.alphabet l.text l.applied) (net_grammar l.net) n)
+      l.start l.reached;
 }
 
 -- the greatest weight of a pending configuration falls
 abbrev pub decreases-loop-alloc : goal.decreases-loop-alloc
-decreases-loop-alloc l =
+decreases-loop-alloc g l =
     greatest l.net (length l.text) (frames_of l.reached) l.reached.pending.keys

@@ -8,7 +8,7 @@ use Rattle.ux_apply.proofs.applied.Applied.compounds.Goals as goal
 pub returns-in-Some : goal.returns-in-Some
 returns-in-Some c =
     let a = c.self.inside in
-    let end = length a.words.items in
+    let end = length a.words in
     let table = length-table (row_of a.compounds) end in
     let view = ap (λ (t : Tables). length t.compounds) c.self.view_is in
     let below : c.args.i < end = omega (arith, c.requires, view, table) in
@@ -21,7 +21,7 @@ returns-in-Some c =
 pub returns-in-None : goal.returns-in-None
 returns-in-None c =
     let a = c.self.inside in
-    let end = length a.words.items in
+    let end = length a.words in
     let table = length-table (row_of a.compounds) end in
     let view = ap (λ (t : Tables). length t.compounds) c.self.view_is in
     let below : c.args.i < end = omega (arith, c.requires, view, table) in

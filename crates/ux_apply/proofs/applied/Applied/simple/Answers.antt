@@ -1,33 +1,30 @@
 use Rattle.std.proofs.Common.{◌≡◌, ◌<◌, ◌∙◌, List, ℕ, length, ap, arith, subst, sym}
 use Rattle.std.specs.Prelude.{IsSomeAnd, Option, Some, None, Vec, slice_get}
-use Rattle.std.proofs.lemmas.Option.{slice_get-get_or}
 use Rattle.ux_dela.specs.declared.entry.Entry.{Entry}
 use Rattle.ux_apply.specs.Tables.{Tables}
 use Rattle.ux_apply.specs.Kept.{items_in, row_by, simple_at}
 use Rattle.ux_apply.proofs.RowLemmas.{length-table, table-some}
 use Rattle.ux_apply.proofs.applied.Applied.simple.Goals as goal
 
-pub index-requires : goal.index-requires
-index-requires c =
+pub at-requires : goal.at-requires
+at-requires c =
     let a = c.self.inside in
-    let end = length a.words.items in
-    let table = length-table (simple_at a.words.items a.entries.items a.tags) end in
+    let end = length a.words in
+    let table = length-table (simple_at a.words a.entries.items a.tags) end in
     let view = ap (λ (t : Tables). length t.simple) c.self.view_is in
-    let long = a.words.ok.0 in
-    omega (arith, c.requires, view, table, long)
+    omega (arith, c.requires, view, table)
 
 pub returns-in-Some : goal.returns-in-Some
 returns-in-Some c =
     let a = c.self.inside in
     let i = c.args.i in
-    let end = length a.words.items in
-    let at = simple_at a.words.items a.entries.items a.tags in
+    let end = length a.words in
+    let at = simple_at a.words a.entries.items a.tags in
     let table = length-table at end in
     let view = ap (λ (t : Tables). length t.simple) c.self.view_is in
     let below : i < end = omega (arith, c.requires, view, table) in
-    let word : slice_get a.words.items i ≡ Some (Some c.in-Some.number) =
-    slice_get-get_or a.words.items i c.index.result.now below
-    ∙ ap (λ (w : Option ℕ). Some w) (sym c.index.ensures ∙ c.in-Some.is) in
+    let word : slice_get a.words i ≡ Some (Some c.in-Some.number) =
+    c.at.ensures ∙ ap (λ (w : Option ℕ). Some w) c.in-Some.is in
     subst
     (λ (t : Tables). IsSomeAnd (slice_get t.simple i) (λ row. c.row_of_number.result.now ≡ row))
     c.self.view_is
@@ -40,14 +37,13 @@ pub returns-in-None : goal.returns-in-None
 returns-in-None c =
     let a = c.self.inside in
     let i = c.args.i in
-    let end = length a.words.items in
-    let at = simple_at a.words.items a.entries.items a.tags in
+    let end = length a.words in
+    let at = simple_at a.words a.entries.items a.tags in
     let table = length-table at end in
     let view = ap (λ (t : Tables). length t.simple) c.self.view_is in
     let below : i < end = omega (arith, c.requires, view, table) in
-    let word : slice_get a.words.items i ≡ Some None =
-    slice_get-get_or a.words.items i c.index.result.now below
-    ∙ ap (λ (w : Option ℕ). Some w) (sym c.index.ensures ∙ c.in-None.is) in
+    let word : slice_get a.words i ≡ Some None =
+    c.at.ensures ∙ ap (λ (w : Option ℕ). Some w) c.in-None.is in
     subst
     (λ (t : Tables). IsSomeAnd (slice_get t.simple i) (λ row. c.own_at.result.now ≡ row))
     c.self.view_is

@@ -4,14 +4,10 @@ use Rattle.ux_net.specs.Boxes.{box_grammar}
 use Rattle.ux_net.specs.Nets.{net_grammar}
 use Rattle.ux_net.specs.Refusing.{drawn}
 use Rattle.ux_net.specs.Words.{SayTheSame}
-use Rattle.ux_net.proofs.RefusingLemmas.{Given}
 use Rattle.ux_net.proofs.net.Net.compile.Goals as goal
 
 pub returns-clause-words : goal.returns-clause-words
 returns-clause-words c =
-    subst (λ (graphs : List Given).
-    SayTheSame (box_grammar c.args.alphabet.now (drawn graphs)) (net_grammar c.of.result))
-    c.deref.ensures.value
-    (subst (λ (net : List NetGraph).
-    SayTheSame (box_grammar c.args.alphabet.now (drawn c.deref.result.now)) (net_grammar net))
-    (sym c.of.ensures) c.in_ok-compiled.ensures.words)
+    subst (λ (net : List NetGraph).
+    SayTheSame (box_grammar c.args.alphabet.now (drawn c.args.graphs.items)) (net_grammar net))
+    (sym c.of.ensures) c.in_ok-net.ensures.words

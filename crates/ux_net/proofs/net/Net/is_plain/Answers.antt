@@ -3,4 +3,4 @@ use Rattle.ux_net.specs.Nets.{ArePlain}
 use Rattle.ux_net.proofs.net.Net.is_plain.Goals as goal
 
 pub returns : goal.returns
-returns c = subst ArePlain c.self.view_is c.self.invariant.plain
+returns c = subst ArePlain c.self.view_is c.self.invariant.0.plain

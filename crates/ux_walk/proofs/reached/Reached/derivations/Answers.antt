@@ -3,7 +3,7 @@ use Rattle.std.specs.List.{AllZip}
 use Rattle.ux_outputs.specs.declared.event.Event.{Event}
 use Rattle.ux_walk.specs.declared.config.Found.{Found}
 use Rattle.ux_walk.specs.declared.config.Taken.{Taken}
-use Rattle.ux_walk.specs.Configurations.{event_of}
+use Rattle.ux_walk.specs.Courses.{event_of}
 use Rattle.ux_walk.proofs.Derived.{IsSpelled, spelled_more, spelled_all, derived_exactly, derived_once}
 use Rattle.ux_walk.proofs.Stepping.{item_at}
 use Rattle.ux_walk.proofs.reached.Reached.derivations.Goals as goal

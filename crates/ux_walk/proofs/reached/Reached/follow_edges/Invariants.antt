@@ -1,9 +1,10 @@
 use Rattle.std.proofs.Common.{take}
-use Rattle.ux_walk.specs.Configurations.{AddsFrom, IsOverSome}
+use Rattle.ux_walk.specs.Courses.{IsOverSome}
+use Rattle.ux_walk.specs.Configurations.{AddsFrom}
 use Rattle.ux_walk.proofs.reached.Reached.follow_edges.Given as goal
 
 -- what is behind the edges so far was added
 abbrev pub invariant-loop-edge : goal.invariant-loop-edge
-invariant-loop-edge l = AddsFrom l.fn.self l.self l.config (λ back before.
-    IsOverSome l.alphabet l.text l.config.here back l.config.at before
+invariant-loop-edge g l = AddsFrom l.fn.self l.self l.config (λ back before.
+    IsOverSome l.alphabet l.text l.applied l.config.here back l.config.at before
     (take l.edge-index l.edges))

@@ -4,7 +4,7 @@ use Rattle.ux_walk.proofs.Stepping.{rounds}
 use Rattle.ux_walk.proofs.reached.Reached.round.Goals as goal
 
 pub returns-clause-round : goal.returns-clause-round
-returns-clause-round c =
+returns-clause-round g c =
     let old = c.args.self.now in
     let mid : Reached = record {
       frames = old.frames;
@@ -12,7 +12,8 @@ returns-clause-round c =
       pending = c.replace-configs.new.dest;
       found = old.found;
     } in
-    rounds c.args.alphabet.now c.args.text.now c.args.net.now old mid c.step_each.new.self
+    rounds c.args.alphabet.now c.args.text.now c.args.applied.now c.args.net.now old mid
+    c.step_each.new.self
     c.as_slice.result.now (record { frames = refl; events = refl }) refl
     (ap (λ s. s.keys) c.replace-configs.ensures.after ∙ c.new.ensures.empty)
     (c.as_slice.ensures.keys ∙ ap (λ s. s.keys) c.replace-configs.ensures.value)

@@ -4,41 +4,41 @@ use Rattle.ux_walk.proofs.Stepping.{steps_final, steps_on}
 use Rattle.ux_walk.proofs.reached.Reached.step.Goals as goal
 
 pub returns-in_ok-leave-clause-adds : goal.returns-in_ok-leave-clause-adds
-returns-in_ok-leave-clause-adds c =
-    steps_final c.args.alphabet.now c.args.text.now c.args.net.now c.args.config
+returns-in_ok-leave-clause-adds g c =
+    steps_final c.args.alphabet.now c.args.text.now c.args.applied.now c.args.net.now c.args.config
     c.in-Some.state.now (sym c.in-Some.ensures) c.args.self.now c.follow_state.new.self
     c.leave.new.self c.in-Some.state.now.edges refl c.if-state.true
-    (c.in_ok-follow_state.ensures.adds c.args.net.now (sym c.in-Some.ensures) c.requires)
+    (c.in_ok-follow_state.ensures.adds c.args.net.now (sym c.in-Some.ensures) c.requires.sound)
     c.in_ok-leave.ensures
 
 pub returns-else-state-clause-adds : goal.returns-else-state-clause-adds
-returns-else-state-clause-adds c =
-    steps_on c.args.alphabet.now c.args.text.now c.args.net.now c.args.config
+returns-else-state-clause-adds g c =
+    steps_on c.args.alphabet.now c.args.text.now c.args.applied.now c.args.net.now c.args.config
     c.in-Some.state.now (sym c.in-Some.ensures) c.args.self.now c.follow_state.new.self
     c.in-Some.state.now.edges refl
     (λ yes. let no : false ≡ true = sym c.if-state.false ∙ yes in cc)
-    (c.in_ok-follow_state.ensures.adds c.args.net.now (sym c.in-Some.ensures) c.requires)
+    (c.in_ok-follow_state.ensures.adds c.args.net.now (sym c.in-Some.ensures) c.requires.sound)
 
 pub returns-in_default-clause-sound : goal.returns-in_default-clause-sound
-returns-in_default-clause-sound c = grind (arith, common_steps)
+returns-in_default-clause-sound g c = grind (arith, common_steps)
 
 pub returns-in_default-clause-adds : goal.returns-in_default-clause-adds
-returns-in_default-clause-adds c = grind (arith, common_steps)
+returns-in_default-clause-adds g c = grind (arith, common_steps)
 
 pub returns-in_err-follow_state-clause-sound : goal.returns-in_err-follow_state-clause-sound
-returns-in_err-follow_state-clause-sound c = grind (arith, common_steps)
+returns-in_err-follow_state-clause-sound g c = grind (arith, common_steps)
 
 pub returns-in_err-follow_state-clause-adds : goal.returns-in_err-follow_state-clause-adds
-returns-in_err-follow_state-clause-adds c = grind (arith, common_steps)
+returns-in_err-follow_state-clause-adds g c = grind (arith, common_steps)
 
 pub returns-in_err-leave-clause-sound : goal.returns-in_err-leave-clause-sound
-returns-in_err-leave-clause-sound c = grind (arith, common_steps)
+returns-in_err-leave-clause-sound g c = grind (arith, common_steps)
 
 pub returns-in_err-leave-clause-adds : goal.returns-in_err-leave-clause-adds
-returns-in_err-leave-clause-adds c = grind (arith, common_steps)
+returns-in_err-leave-clause-adds g c = grind (arith, common_steps)
 
 pub returns-in_ok-leave-clause-sound : goal.returns-in_ok-leave-clause-sound
-returns-in_ok-leave-clause-sound c = grind (arith, common_steps)
+returns-in_ok-leave-clause-sound g c = grind (arith, common_steps)
 
 pub returns-else-state-clause-sound : goal.returns-else-state-clause-sound
-returns-else-state-clause-sound c = grind (arith, common_steps)
+returns-else-state-clause-sound g c = grind (arith, common_steps)

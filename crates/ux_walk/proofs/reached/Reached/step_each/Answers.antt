@@ -7,7 +7,7 @@ use Rattle.ux_walk.proofs.Stepping.{adds_next, adds_after, item_at, item_in}
 use Rattle.ux_walk.proofs.reached.Reached.step_each.Goals as goal
 
 pub loop-config-preserved : goal.loop-config-preserved
-loop-config-preserved c = record {
+loop-config-preserved g c = record {
   sound = c.step.ensures.sound;
   adds = λ sound named.
       let old = c.args.self.now in
@@ -24,13 +24,15 @@ loop-config-preserved c = record {
       let item = get_or configs index none in
       let before = c.loop-config.invariant.adds sound named in
       let v = named item (item_in configs index none inside) in
-      adds_next (IsAfter c.args.alphabet.now c.args.text.now c.args.net.now old) old now
+      adds_next (IsAfter c.args.alphabet.now c.args.text.now c.args.applied.now c.args.net.now old)
+      old now
       c.step.new.self configs index item inside
       (item_at configs index none inside) before
-      (adds_after c.args.alphabet.now c.args.text.now c.args.net.now old now c.step.new.self item
+      (adds_after c.args.alphabet.now c.args.text.now c.args.applied.now c.args.net.now old now
+      c.step.new.self item
       v.0
       (keeps before) v.1 before.sound c.in_ok-step.ensures.adds);
 }
 
 pub returns-clause-adds : goal.returns-clause-adds
-returns-clause-adds c = grind (arith, common_steps)
+returns-clause-adds g c = grind (arith, common_steps)

@@ -1,7 +1,7 @@
 use Rattle.std.proofs.Common.{◌∷◌, refl}
 use Rattle.ux_walk.specs.declared.config.Taken.{Taken}
 use Rattle.ux_walk.specs.declared.reached.Reached.{Reached}
-use Rattle.ux_walk.specs.Configurations.{from_to}
+use Rattle.ux_walk.specs.Courses.{from_to}
 use Rattle.ux_walk.proofs.Results.{on_ok}
 use Rattle.ux_walk.proofs.Adding.{adds_event, adds_behind}
 use Rattle.ux_walk.proofs.reached.Reached.take.Goals as goal

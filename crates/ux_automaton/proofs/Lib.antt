@@ -1,0 +1,14 @@
+pub mod LandingLemmas
+pub mod MarkLemmas
+pub mod Results
+pub mod SlotsLemmas
+pub mod AddingLemmas
+pub mod StoreLemmas
+pub mod BuildingLemmas
+pub mod OverLemmas
+pub mod TakesLemmas
+pub mod CacheLemmas
+pub mod EdgesLemmas
+pub mod FrontIndexLemmas
+pub mod StepLemmas
+pub mod NowhereLemmas

@@ -1,0 +1,43 @@
+use Rattle.std.proofs.Common.{◌≡◌, ◌≤◌, List, true, false, ltb, leb, length, subst, sym, rules}
+use Rattle.std.specs.Prelude.{Contains, take}
+use Rattle.std.specs.List.Sorted.{IsNonDecreasingBy, IsPartitionPoint}
+use Rattle.std.proofs.lemmas.List.Sorted.{IsPartitionPoint-from_clause, IsPartitionedBy-ltb, IsPartitionedBy-leb, IsNonDecreasingBy-drop}
+use Rattle.ux_automaton.specs.declared.front_index.Fitting.{Fitting}
+use Rattle.ux_automaton.specs.FrontIndexes.{number_of}
+use Rattle.ux_automaton.proofs.FrontIndexLemmas.{run_among, run_has}
+use Rattle.ux_automaton.proofs.front_index.run.Goals as goal
+
+pub returns-clause-among : goal.returns-clause-among
+returns-clause-among c = λ fitting inside.
+    let fittings = c.args.fittings.now in
+    let start = c.partition_point-start.result in
+    let count = c.partition_point-count.result in
+    let is = c.behind-rest.ensures in
+    run_among fittings start count fitting
+    (subst (λ (l : List Fitting). count ≤ length l) is c.partition_point-count.ensures.bound)
+    (subst (λ (l : List Fitting). Contains (take count l) fitting) is
+    (subst (λ (l : List Fitting). Contains l fitting) c.front.ensures inside))
+
+pub returns-clause-all : goal.returns-clause-all
+returns-clause-all c = λ rises fitting same inside.
+    let fittings = c.args.fittings.now in
+    let number = c.args.number in
+    let start = c.partition_point-start.result in
+    let count = c.partition_point-count.result in
+    let rest = c.behind-rest.result.now in
+    let is = c.behind-rest.ensures in
+    let first = IsPartitionPoint-from_clause (λ (f : Fitting). ltb (number_of f) number) fittings
+    start c.partition_point-start.ensures.partitioned
+    (IsPartitionedBy-ltb number_of fittings number rises) (λ a r q k. search rules) in
+    let later = subst (λ (l : List Fitting). IsNonDecreasingBy number_of l) (sym is)
+    (IsNonDecreasingBy-drop number_of start fittings rises) in
+    let second = IsPartitionPoint-from_clause (λ (f : Fitting). leb (number_of f) number) rest count
+    c.partition_point-count.ensures.partitioned
+    (IsPartitionedBy-leb number_of rest number later) (λ a r q k. search rules) in
+    let point = subst (λ (l : List Fitting). IsPartitionPoint (λ f. leb (number_of f) number ≡ true)
+    (λ f. leb (number_of f) number ≡ false) l count) is second in
+    let bound = subst (λ (l : List Fitting). count ≤ length l) is
+    c.partition_point-count.ensures.bound in
+    subst (λ (l : List Fitting). Contains l fitting) (sym c.front.ensures)
+    (subst (λ (l : List Fitting). Contains (take count l) fitting) (sym is)
+    (run_has fittings start count number fitting same first point bound inside))

@@ -1,0 +1,56 @@
+-- Indexes of a front's stands by the tokens that their literals fit. Inner: the crate's own
+-- functions alone speak of it.
+use Rattle.std.specs.Prelude.{◌≡◌, ◌↔◌, ◌⊎◌, ℕ, List, Contains, Some}
+use Rattle.std.specs.List.Sorted.{IsNonDecreasingBy}
+use Rattle.ux_closure.specs.declared.stand.Stand.{Stand}
+use Rattle.ux_net.specs.declared.net_graph.NetGraph.{NetGraph}
+use Rattle.ux_net.specs.declared.state.Edge.{Edge}
+use Rattle.ux_tokens.specs.Numbers.{different_texts}
+use Rattle.ux_walk.specs.declared.words.Words.{Words}
+use Rattle.ux_walk.specs.Literals.{AreReady, FitsText, IsFitted, IsLiteral}
+use Rattle.ux_automaton.specs.declared.front_index.Fitting.{Fitting}
+use Rattle.ux_automaton.specs.declared.front_index.FrontIndex.{FrontIndex}
+use Rattle.ux_automaton.specs.declared.front_indexes.FrontIndexes.{FrontIndexes}
+use Rattle.ux_automaton.specs.declared.given.Given.{Given}
+use Rattle.ux_automaton.specs.Targets.{IsEdgeOf}
+
+abbrev pub number_of : Fitting → ℕ
+number_of fitting = fitting.number
+
+abbrev pub stand_of : Fitting → Stand
+stand_of fitting = fitting.stand
+
+-- it is this stand, a literal of which fits the token
+abbrev pub FitsOver : Given → Stand → Fitting → Type 0
+FitsOver given stand fitting = (edge : Edge) × IsEdgeOf given.net.now stand.here edge
+    × (IsFitted given.alphabet.now (different_texts given.text.now) edge.label fitting.number
+    × (fitting.stand ≡ stand))
+
+-- an edge of the stand is no literal
+abbrev pub HasOther : List NetGraph → Stand → Type 0
+HasOther net stand = (edge : Edge) × IsEdgeOf net stand.here edge × (IsLiteral edge.label → ⊥)
+
+-- Each stand is listed with each token that a literal of it fits, in the order of the tokens'
+-- numbers, and stands apart if it has another edge.
+pub record IsFrontIndex (given : Given) (index : FrontIndex) : Type 0 where
+  pub ordered : IsNonDecreasingBy number_of index.fittings.items
+  pub fittings : (fitting : Fitting) → Contains index.fittings.items fitting
+      ↔ ((stand : Stand) × Contains index.stands.items stand × FitsOver given stand fitting)
+  pub others : (other : Stand) → Contains index.others.items other
+      ↔ ((stand : Stand) × Contains index.stands.items stand
+      × ((other ≡ stand) × HasOther given.net.now stand))
+
+-- few of all stands: those of which a literal fits the text of the token, or that have another edge
+pub record AreLikely (given : Given) (text : List ℕ) (all few : List Stand) : Type 0 where
+  pub among : (stand : Stand) → Contains few stand → Contains all stand
+  pub enough : (stand : Stand) → Contains all stand → (edge : Edge) →
+      IsEdgeOf given.net.now stand.here edge →
+      FitsText given.alphabet.now edge.label text ⊎ (IsLiteral edge.label → ⊥) →
+      Contains few stand
+
+-- the words are those of the text, and each index is right
+pub record AreFrontsIndexed (given : Given) (known : FrontIndexes) : Type 0 where
+  pub ready : (words : Words) → known.words ≡ Some words →
+      AreReady given.alphabet.now (different_texts given.text.now) words
+  pub indexes : (front : ℕ) (index : FrontIndex) →
+      Contains known.indexes.entries (front, index) → IsFrontIndex given index

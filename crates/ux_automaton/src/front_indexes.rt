@@ -1,0 +1,170 @@
+//! The indexes of fronts of many stands, as walks meet them.
+//!
+//! Each is made once, when walks first go on from its front. What they take in all is bounded:
+//! beyond that, all stands are tried. They are let go with the fronts. The list of the different
+//! tokens stays.
+
+ghost use Rattle.std.specs.Prelude.{◌≡◌, ◌⊎◌, ℕ, true, List, Contains, IfOk, IfSome, OnOk, Some, slice_get};
+ghost use Rattle.ux_tokens.specs.Numbers.{different_texts};
+ghost use Rattle.ux_automaton.specs.declared.given.Given.{Given as TheGiven};
+ghost use Rattle.ux_automaton.specs.FrontIndexes.{AreFrontsIndexed, AreLikely, IsFrontIndex};
+
+use crate::front_index::FrontIndex;
+use crate::given::Given;
+use indexmap::IndexMap;
+use std::alloc::Global;
+use std::hash::Hash;
+use ux_base::Mem;
+use ux_closure::stand::Stand;
+use ux_net::Net;
+use ux_walk::words::Words;
+
+/// As many stands are tried one by one: no index of them is made.
+const FEW: usize = 8;
+
+/// As many comparisons of a literal with a token are spent to make indexes.
+const MOST_COMPARED: usize = 67_108_864;
+
+/// As many pairs of a stand and a token are kept in all, of some thirty bytes each.
+const MOST_KEPT: usize = 2_097_152;
+
+/// The indexes of fronts of many stands that were met.
+#[derive(Drop)]
+pub struct FrontIndexes<'t> {
+    /// The different tokens of the text, once a front of many stands was met.
+    words: Option<Words<'t>>,
+    /// The indexes, by the numbers of the fronts.
+    indexes: IndexMap<usize, FrontIndex>,
+    /// How many comparisons may still be spent.
+    compared: usize,
+    /// How many pairs may still be kept.
+    kept: usize,
+}
+
+impl<'t> FrontIndexes<'t> {
+    /// No index yet. Takes no memory.
+    pub fn new(alloc: Global) -> FrontIndexes<'t>
+        ensures { (given : TheGiven) → AreFrontsIndexed given result }
+    {
+        FrontIndexes {
+            words: None,
+            indexes: IndexMap::new(alloc),
+            compared: MOST_COMPARED,
+            kept: MOST_KEPT,
+        }
+    }
+
+    /// Lets all indexes go.
+    pub fn let_go(&mut self, alloc: Global)
+        ensures { (given : TheGiven) → AreFrontsIndexed given self.old →
+            AreFrontsIndexed given self.new }
+    {
+        self.indexes = IndexMap::new(alloc);
+        self.compared = MOST_COMPARED;
+        self.kept = MOST_KEPT;
+    }
+
+    /// Those of a front's stands that may lead on over the token of this number. Where no index can
+    /// be made, they are all.
+    pub fn likely(
+        &mut self,
+        alloc: Global,
+        given: &Given<'t>,
+        front: usize,
+        stands: Vec<Stand>,
+        number: u32,
+    ) -> Mem<Vec<Stand>>
+        requires indexed { AreFrontsIndexed given.now self.now }
+        ensures indexed { AreFrontsIndexed given.now self.new }
+        ensures likely { (text : List ℕ) →
+            slice_get (different_texts given.now.text.now) number ≡ Some text →
+            IfOk result (λ few. AreLikely given.now text stands.items few.items) }
+    {
+        if stands.len() <= FEW {
+            return Ok(stands);
+        }
+        self.meet(alloc, given, front, stands.as_slice())?;
+        let Some(index) = at(&self.indexes, front) else {
+            return Ok(stands);
+        };
+        if !index.is_of(stands.as_slice()) {
+            return Ok(stands);
+        }
+        index.likely(alloc, number)
+    }
+
+    /// Makes the index of a front with these stands, unless it is kept or the bounds are reached.
+    /// The first time it takes a step a token of the text.
+    fn meet(&mut self, alloc: Global, given: &Given<'t>, front: usize, stands: &[Stand]) -> Mem<()>
+        requires { AreFrontsIndexed given.now self.now }
+        ensures { AreFrontsIndexed given.now self.new }
+    {
+        if self.kept == 0 || at(&self.indexes, front).is_some() {
+            return Ok(());
+        }
+        self.know_words(alloc, given)?;
+        self.add_index(alloc, given, front, stands)
+    }
+
+    /// Makes the list of the different tokens, where it is missing.
+    fn know_words(&mut self, alloc: Global, given: &Given<'t>) -> Mem<()>
+        requires { AreFrontsIndexed given.now self.now }
+        ensures { AreFrontsIndexed given.now self.new }
+    {
+        if self.words.is_some() {
+            return Ok(());
+        }
+        let words = Words::of(alloc, given.text, given.alphabet)?;
+        self.words = Some(words);
+        Ok(())
+    }
+
+    /// Makes the index of a front with these stands, where the bounds allow it.
+    fn add_index(&mut self, alloc: Global, given: &Given, front: usize, stands: &[Stand]) -> Mem<()>
+        requires { AreFrontsIndexed given.now self.now }
+        ensures { AreFrontsIndexed given.now self.new }
+    {
+        let Some(words) = &self.words else {
+            return Ok(());
+        };
+        let cost = words.cost(edges_in(given.net, stands));
+        if self.compared < cost {
+            return Ok(());
+        }
+        let mut own = Vec::new(alloc);
+        own.extend_from_slice(stands)?;
+        let index = FrontIndex::of(alloc, words, given, own)?;
+        self.compared -= cost;
+        self.kept = self.kept.saturating_sub(index.size());
+        put_at(&mut self.indexes, front, index)
+    }
+}
+
+/// How many edges the stands have.
+fn edges_in(net: &Net, stands: &[Stand]) -> usize {
+    let mut count: usize = 0;
+    for stand in stands {
+        if let Some(state) = net.state(stand.here.graph, stand.here.state) {
+            count = count.saturating_add(state.edges.as_slice().len());
+        }
+    }
+    count
+}
+
+/// The value at a key.
+fn at<K: Eq + Hash + Copy, V>(map: &IndexMap<K, V>, key: K) -> Option<&V>
+    requires { (a b : K) → K.eq a b ≡ true → a ≡ b }
+    ensures { IfSome result (λ value. Contains map.now.entries (key, value.now)) }
+{
+    map.get(&key)
+}
+
+/// Puts a value at a key.
+fn put_at<K: Eq + Hash + Drop, V: Drop>(map: &mut IndexMap<K, V>, key: K, value: V) -> Mem<()>
+    requires { (a b : K) → K.eq a b ≡ true → a ≡ b }
+    ensures { (k : K) (v : V) → Contains map.new.entries (k, v) →
+        Contains map.old.entries (k, v) ⊎ ((k ≡ key) × (v ≡ value)) }
+{
+    map.insert(key, value)?;
+    Ok(())
+}

@@ -1,0 +1,456 @@
+//! What an automaton keeps from walk to walk.
+//!
+//! Of each front that a walk came to: what it reaches without a token, as a front again. Of closed
+//! fronts: transitions over tokens, by number and kind. All of it may be let go between walks, and
+//! is then worked out again.
+
+ghost use Rattle.std.specs.Prelude.{◌≡◌, ◌↔◌, ◌⊎◌, ◌<◌, ◌≤◌, ◌+◌, false, IfOk, IfSome, IsTrue, OnOk, Some, length, slice_get};
+ghost use Rattle.ux_meaning.specs.Texts.{IsSpaceAt};
+ghost use Rattle.ux_outputs.specs.Rendering.{skip as skip_of};
+ghost use Rattle.ux_closure.specs.Taking.{TellsSpace};
+ghost use Rattle.ux_walk.specs.Leads.{Stack as TheStack};
+ghost use Rattle.ux_walk.specs.Settings.{Setting};
+ghost use Rattle.ux_automaton.specs.Caches.{IsClosed, IsNumbered, IsTransition, TakeSingly};
+ghost use Rattle.ux_automaton.specs.FrontIndexes.{AreFrontsIndexed};
+ghost use Rattle.ux_automaton.specs.Fronts.{BeginsNothing, HoldsIn, IsFrontIn};
+ghost use Rattle.ux_automaton.specs.Kept.{AreIndexed, AreMarked, AreRight, BelongIn, Grows, IsFirst, IsSound, known_in, setting_in, store_of};
+ghost use Rattle.ux_automaton.specs.Onwards.{IsOnward, LeadNowhere, LeadOnlyTo};
+ghost use Rattle.ux_automaton.specs.Steps.{IsStep};
+ghost use Rattle.ux_automaton.specs.Targets.{HaveNoMask};
+
+use crate::closed::{Closed, Closures, close};
+use crate::front_indexes::FrontIndexes;
+use crate::fronts::Fronts;
+use crate::given::Given;
+use crate::onward::{Onward, onward_anew, over_token};
+use crate::step::Step;
+use crate::transitions::{Transition, Transitions};
+use std::alloc::Global;
+use std::sync::ledger::Ledger;
+use ux_base::{Mem, Steps};
+use ux_closure::stand::Stand;
+use ux_tokens::Kind;
+use ux_walk::config::Frame;
+use ux_walk::look_ups::LookUps;
+use ux_walk::matching::{is_space, skip};
+
+/// What is kept.
+#[derive(Drop)]
+pub struct Kept {
+    /// The fronts that were come to.
+    fronts: Fronts,
+    /// The front in which walks begin.
+    first: usize,
+    /// What is known of fronts.
+    closures: Closures,
+    /// Transitions from closed fronts.
+    transitions: Transitions,
+}
+
+impl Kept {
+    /// The front in which walks begin, alone, with room for so many different tokens.
+    pub fn new(alloc: Global, different: usize) -> Mem<Kept>
+        ensures { IfOk result (λ kept. (setting : Setting) → AreRight setting kept) }
+    {
+        let mut fronts = Fronts::new(alloc);
+        let main = Frame { graph: 1, state: 0 };
+        let first = fronts.front_of(&[Stand {
+            here: main,
+            back: 0,
+        }])?;
+        Ok(Kept {
+            fronts,
+            first,
+            closures: Closures::new(alloc),
+            transitions: Transitions::new(alloc, different)?,
+        })
+    }
+
+    /// How many links tell the fronts.
+    pub fn size(&self) -> usize {
+        self.fronts.size()
+    }
+
+    /// The front in which walks begin.
+    pub fn first(&self) -> usize
+        ensures { (setting : Setting) → AreRight setting self.now →
+            IsFirst (store_of self.now.fronts) result }
+    {
+        self.first
+    }
+
+    /// Whether anything may be derived from a start at which no space stands, as far as is known.
+    /// Takes a look at what is known of two fronts, and at two transitions.
+    pub fn may_begin(&self, given: &Given, marks: &[bool], start: usize) -> bool
+        requires right { AreRight (setting_in given.now) self.now }
+        requires belongs { BelongIn given.now }
+        requires marked { AreMarked (setting_in given.now) marks.now }
+        requires inside { start < length given.now.text.now }
+        ensures { result ≡ false → (IsSpaceAt given.now.text.now start → ⊥) →
+            BeginsNothing (setting_in given.now) start }
+    {
+        given.text.len();
+        let Some(closed) = self.closures.get(self.first, false) else {
+            return true;
+        };
+        let Some(next) = self.next_known(given, marks, closed, start) else {
+            return true;
+        };
+        !self.leads_nowhere(given, marks, next, start + 1)
+    }
+
+    /// Whether it is known that no walk leads anywhere from a front at a position.
+    fn leads_nowhere(&self, given: &Given, marks: &[bool], front: usize, at: usize) -> bool
+        requires right { AreRight (setting_in given.now) self.now }
+        requires belongs { BelongIn given.now }
+        requires marked { AreMarked (setting_in given.now) marks.now }
+        ensures { IsTrue result → LeadNowhere (setting_in given.now)
+            (HoldsIn (store_of self.now.fronts) front) at }
+    {
+        if front == 0 {
+            return true;
+        }
+        match self.closures.get(front, is_space(given.text, at)) {
+            Some(closed) => self.is_stuck(given, marks, closed, at),
+            None => false,
+        }
+    }
+
+    /// Whether it is known of a closed front that no walk ends there at a position, and that none
+    /// goes on.
+    fn is_stuck(&self, given: &Given, marks: &[bool], closed: Closed, at: usize) -> bool
+        requires right { AreRight (setting_in given.now) self.now }
+        requires belongs { BelongIn given.now }
+        requires marked { AreMarked (setting_in given.now) marks.now }
+        requires masks { closed.has_masks ≡ false →
+            HaveNoMask given.now.net.now (HoldsIn (store_of self.now.fronts) closed.front) }
+        ensures ends { IsTrue result → closed.ends ≡ false }
+        ensures space { IsTrue result → closed.over_space ≡ 0 }
+        ensures only { IsTrue result → LeadOnlyTo (setting_in given.now) (store_of self.now.fronts)
+            (HoldsIn (store_of self.now.fronts) closed.front) at 0 }
+    {
+        if closed.ends || closed.over_space != 0 {
+            return false;
+        }
+        match self.next_known(given, marks, closed, at) {
+            Some(next) => next == 0,
+            None => false,
+        }
+    }
+
+    /// The front behind the token at a position, which may stand after a space, where it is known
+    /// and no mask accepts a span of several there. At the end of the text it is front 0.
+    fn next_known(&self, given: &Given, marks: &[bool], closed: Closed, at: usize) -> Option<usize>
+        requires right { AreRight (setting_in given.now) self.now }
+        requires belongs { BelongIn given.now }
+        requires marked { AreMarked (setting_in given.now) marks.now }
+        requires masks { closed.has_masks ≡ false →
+            HaveNoMask given.now.net.now (HoldsIn (store_of self.now.fronts) closed.front) }
+        ensures { IfSome result (LeadOnlyTo (setting_in given.now) (store_of self.now.fronts)
+            (HoldsIn (store_of self.now.fronts) closed.front) at) }
+    {
+        let place = skip(given.text, at);
+        if given.text.len() <= place {
+            return Some(0);
+        }
+        if may_land(closed, marks, place) {
+            return None;
+        }
+        let number = given.text.number(place);
+        let kind = given.text.kind(place);
+        self.next_singly(given, closed.front, number, kind, at)
+    }
+
+    /// The front behind a token of this number and kind, where it is known, and no mask there
+    /// accepts a span of several.
+    fn next_singly(
+        &self,
+        given: &Given,
+        front: usize,
+        number: u32,
+        kind: Kind,
+        at: usize,
+    ) -> Option<usize>
+        requires right { AreRight (setting_in given.now) self.now }
+        requires belongs { BelongIn given.now }
+        requires numbered { IsNumbered given.now.text.now (skip_of given.now.text.now at) number kind }
+        requires singly { TakeSingly (setting_in given.now) (HoldsIn (store_of self.now.fronts) front)
+            (skip_of given.now.text.now at) }
+        ensures { IfSome result (LeadOnlyTo (setting_in given.now) (store_of self.now.fronts)
+            (HoldsIn (store_of self.now.fronts) front) at) }
+    {
+        self.transitions.next(front, number, kind)
+    }
+
+    /// The front of the stacks of both.
+    pub fn join(&mut self, alloc: Global, one: usize, other: usize) -> Mem<usize>
+        requires sound { IsSound (store_of self.now.fronts) }
+        requires one { IsFrontIn (store_of self.now.fronts) one }
+        requires other { IsFrontIn (store_of self.now.fronts) other }
+        ensures right { OnOk result ((setting : Setting) → AreRight setting self.old →
+            AreRight setting self.new) }
+        ensures grows { OnOk result (Grows (store_of self.old.fronts) (store_of self.new.fronts)) }
+        ensures there { IfOk result (IsFrontIn (store_of self.new.fronts)) }
+        ensures both { IfOk result (λ front. (stack : TheStack) →
+            HoldsIn (store_of self.new.fronts) front stack
+            ↔ (HoldsIn (store_of self.old.fronts) one stack
+            ⊎ HoldsIn (store_of self.old.fronts) other stack)) }
+    {
+        self.fronts.join(alloc, one, other)
+    }
+
+    /// How walks from the front go on at the position.
+    pub fn step<'t, L: Ledger>(
+        &mut self,
+        alloc: Global,
+        given: &Given<'t>,
+        look_ups: &mut LookUps<'t>,
+        front_indexes: &mut FrontIndexes<'t>,
+        marks: &[bool],
+        front: usize,
+        at: usize,
+        steps: &mut Steps<L>,
+    ) -> Mem<Step>
+        requires right { AreRight (setting_in given.now) self.now }
+        requires belongs { BelongIn given.now }
+        requires indexed { AreIndexed given.now look_ups.now }
+        requires fronts { AreFrontsIndexed given.now front_indexes.now }
+        requires marked { AreMarked (setting_in given.now) marks.now }
+        requires there { IsFrontIn (store_of self.now.fronts) front }
+        requires inside { at ≤ length given.now.text.now }
+        ensures indexed { OnOk result (AreIndexed given.now look_ups.new) }
+        ensures fronts { OnOk result (AreFrontsIndexed given.now front_indexes.new) }
+        ensures right { OnOk result (AreRight (setting_in given.now) self.new) }
+        ensures grows { OnOk result (Grows (store_of self.old.fronts) (store_of self.new.fronts)) }
+        ensures step { IfOk result (IsStep (known_in given.now self.old) (known_in given.now self.new)
+            front at) }
+    {
+        let is_spaced = is_space(given.text, at);
+        let closed = self.closed(alloc, given, look_ups, front, is_spaced, at, steps)?;
+        let onward = self.onward(
+            alloc,
+            given,
+            look_ups,
+            front_indexes,
+            marks,
+            closed,
+            at,
+            steps,
+        )?;
+        Ok(Step {
+            ends: closed.ends,
+            over_space: closed.over_space,
+            over_token: onward.over_token,
+            landings: onward.landings,
+        })
+    }
+
+    /// What is known of a front, where a space stands at a position, or where none does.
+    fn closed<'t, L: Ledger>(
+        &mut self,
+        alloc: Global,
+        given: &Given<'t>,
+        look_ups: &mut LookUps<'t>,
+        front: usize,
+        is_spaced: bool,
+        at: usize,
+        steps: &mut Steps<L>,
+    ) -> Mem<Closed>
+        requires right { AreRight (setting_in given.now) self.now }
+        requires belongs { BelongIn given.now }
+        requires indexed { AreIndexed given.now look_ups.now }
+        requires there { IsFrontIn (store_of self.now.fronts) front }
+        requires tells { TellsSpace (setting_in given.now) at is_spaced }
+        ensures indexed { OnOk result (AreIndexed given.now look_ups.new) }
+        ensures right { OnOk result (AreRight (setting_in given.now) self.new) }
+        ensures grows { OnOk result (Grows (store_of self.old.fronts) (store_of self.new.fronts)) }
+        ensures closed { IfOk result
+            (IsClosed (setting_in given.now) (store_of self.new.fronts) front is_spaced) }
+    {
+        if let Some(closed) = self.closures.get(front, is_spaced) {
+            return Ok(closed);
+        }
+        let closed = close(
+            alloc,
+            &mut self.fronts,
+            given,
+            look_ups,
+            front,
+            is_spaced,
+            at,
+            steps,
+        )?;
+        self.closures.put(front, is_spaced, closed)?;
+        Ok(closed)
+    }
+
+    /// Where walks go on from a closed front behind tokens.
+    fn onward<'t, L: Ledger>(
+        &mut self,
+        alloc: Global,
+        given: &Given<'t>,
+        look_ups: &mut LookUps<'t>,
+        front_indexes: &mut FrontIndexes<'t>,
+        marks: &[bool],
+        closed: Closed,
+        at: usize,
+        steps: &mut Steps<L>,
+    ) -> Mem<Onward>
+        requires right { AreRight (setting_in given.now) self.now }
+        requires belongs { BelongIn given.now }
+        requires indexed { AreIndexed given.now look_ups.now }
+        requires fronts { AreFrontsIndexed given.now front_indexes.now }
+        requires marked { AreMarked (setting_in given.now) marks.now }
+        requires there { IsFrontIn (store_of self.now.fronts) closed.front }
+        requires masks { closed.has_masks ≡ false →
+            HaveNoMask given.now.net.now (HoldsIn (store_of self.now.fronts) closed.front) }
+        ensures indexed { OnOk result (AreIndexed given.now look_ups.new) }
+        ensures fronts { OnOk result (AreFrontsIndexed given.now front_indexes.new) }
+        ensures right { OnOk result (AreRight (setting_in given.now) self.new) }
+        ensures grows { OnOk result (Grows (store_of self.old.fronts) (store_of self.new.fronts)) }
+        ensures onward { IfOk result (IsOnward (setting_in given.now) (store_of self.new.fronts)
+            (HoldsIn (store_of self.old.fronts) closed.front) at) }
+    {
+        let place = skip(given.text, at);
+        if given.text.len() <= place {
+            return Ok(Onward {
+                over_token: 0,
+                landings: Vec::new(alloc),
+            });
+        }
+        if may_land(closed, marks, place) {
+            return onward_anew(
+                alloc,
+                &mut self.fronts,
+                given,
+                look_ups,
+                closed.front,
+                at,
+                steps,
+            );
+        }
+        let number = given.text.number(place);
+        let kind = given.text.kind(place);
+        self.onward_singly(
+            alloc,
+            given,
+            look_ups,
+            front_indexes,
+            closed.front,
+            number,
+            kind,
+            at,
+            steps,
+        )
+    }
+
+    /// Where walks go on from a closed front behind a token of this number and kind, where no mask
+    /// there accepts a span of several.
+    fn onward_singly<'t, L: Ledger>(
+        &mut self,
+        alloc: Global,
+        given: &Given<'t>,
+        look_ups: &mut LookUps<'t>,
+        front_indexes: &mut FrontIndexes<'t>,
+        front: usize,
+        number: u32,
+        kind: Kind,
+        at: usize,
+        steps: &mut Steps<L>,
+    ) -> Mem<Onward>
+        requires right { AreRight (setting_in given.now) self.now }
+        requires belongs { BelongIn given.now }
+        requires indexed { AreIndexed given.now look_ups.now }
+        requires fronts { AreFrontsIndexed given.now front_indexes.now }
+        requires there { IsFrontIn (store_of self.now.fronts) front }
+        requires numbered { IsNumbered given.now.text.now (skip_of given.now.text.now at) number kind }
+        requires singly { TakeSingly (setting_in given.now) (HoldsIn (store_of self.now.fronts) front)
+            (skip_of given.now.text.now at) }
+        ensures indexed { OnOk result (AreIndexed given.now look_ups.new) }
+        ensures fronts { OnOk result (AreFrontsIndexed given.now front_indexes.new) }
+        ensures right { OnOk result (AreRight (setting_in given.now) self.new) }
+        ensures grows { OnOk result (Grows (store_of self.old.fronts) (store_of self.new.fronts)) }
+        ensures onward { IfOk result (IsOnward (setting_in given.now) (store_of self.new.fronts)
+            (HoldsIn (store_of self.old.fronts) front) at) }
+    {
+        let over_token = self.transition(
+            alloc,
+            given,
+            look_ups,
+            front_indexes,
+            front,
+            number,
+            kind,
+            at,
+            steps,
+        )?;
+        Ok(Onward {
+            over_token,
+            landings: Vec::new(alloc),
+        })
+    }
+
+    /// The front to which a token of this number and kind leads from a closed front.
+    fn transition<'t, L: Ledger>(
+        &mut self,
+        alloc: Global,
+        given: &Given<'t>,
+        look_ups: &mut LookUps<'t>,
+        front_indexes: &mut FrontIndexes<'t>,
+        front: usize,
+        number: u32,
+        kind: Kind,
+        at: usize,
+        steps: &mut Steps<L>,
+    ) -> Mem<usize>
+        requires right { AreRight (setting_in given.now) self.now }
+        requires belongs { BelongIn given.now }
+        requires indexed { AreIndexed given.now look_ups.now }
+        requires fronts { AreFrontsIndexed given.now front_indexes.now }
+        requires there { IsFrontIn (store_of self.now.fronts) front }
+        requires numbered { IsNumbered given.now.text.now (skip_of given.now.text.now at) number kind }
+        requires singly { TakeSingly (setting_in given.now) (HoldsIn (store_of self.now.fronts) front)
+            (skip_of given.now.text.now at) }
+        ensures indexed { OnOk result (AreIndexed given.now look_ups.new) }
+        ensures fronts { OnOk result (AreFrontsIndexed given.now front_indexes.new) }
+        ensures right { OnOk result (AreRight (setting_in given.now) self.new) }
+        ensures grows { OnOk result (Grows (store_of self.old.fronts) (store_of self.new.fronts)) }
+        ensures transition { IfOk result (λ next. IsTransition (setting_in given.now)
+            (store_of self.new.fronts)
+            (record { front = front; number = number; kind = kind; next = next })) }
+    {
+        if let Some(next) = self.transitions.next(front, number, kind) {
+            return Ok(next);
+        }
+        let next = over_token(
+            alloc,
+            &mut self.fronts,
+            given,
+            look_ups,
+            front_indexes,
+            front,
+            at,
+            steps,
+        )?;
+        self.transitions.put(Transition {
+            front,
+            number,
+            kind,
+            next,
+        });
+        Ok(next)
+    }
+}
+
+/// Whether a mask may accept a span of several tokens at the place.
+fn may_land(closed: Closed, marks: &[bool], place: usize) -> bool
+    ensures { result ≡ false → (closed.has_masks ≡ false) ⊎ (slice_get marks.now place ≡ Some false) }
+{
+    if !closed.has_masks {
+        return false;
+    }
+    match marks.get(place) {
+        Some(may_span) => *may_span,
+        None => true,
+    }
+}

@@ -1,0 +1,4 @@
+pub mod Passing
+pub mod Holding
+pub mod Taking
+pub mod Meeting

@@ -1,0 +1,8 @@
+use Rattle.std.proofs.Common.{arith}
+use Rattle.std.proofs.lemmas.Str.Pattern.{strip_prefix_char}
+use Rattle.ux_masks.proofs.reader.behind_mark.Goals as goal
+
+pub returns : goal.returns
+returns c =
+    strip_prefix_char 33 c.args.text.now c.strip_prefix.result c.strip_prefix.ensures.cases
+    (omega arith)

@@ -1,0 +1,7 @@
+pub mod Equal
+pub mod Meets
+pub mod Names
+pub mod Pieces
+pub mod Reading
+pub mod Signs
+pub mod Texts

@@ -1,0 +1,178 @@
+-- Where walks lead is where derivations end, walks lead on, and in plain nets derivations take
+-- tokens alone. Crates above build on these.
+use Rattle.std.proofs.Common.{arith, ◌≡◌, ℕ, zero, suc, ◌+◌, ◌-◌, ◌<◌, ◌≤◌, List, [], ◌∷◌, ◌↔◌, refl, sym, ap, subst, inl, inr, length}
+use Rattle.ux_net.specs.Measured.{IsMeasured}
+use Rattle.ux_net.specs.Nets.{ArePlain, net_grammar}
+use Rattle.ux_outputs.specs.declared.event.Event.{Event}
+use Rattle.ux_outputs.specs.Following.{AreTakes}
+use Rattle.ux_meaning.specs.Meaning.{RefusesBy}
+use Rattle.ux_walk.specs.declared.config.Frame.{Frame}
+use Rattle.ux_walk.specs.Settings.{Setting, Derives, applied_text}
+use Rattle.ux_walk.specs.Courses.{Course, GoesOn}
+use Rattle.ux_walk.specs.Ends.{IsStraight}
+use Rattle.ux_walk.specs.Leads.{Stack, LeadsTo, ended, goes, main_stack}
+use Rattle.ux_walk.proofs.LevelsLemmas.{at_level}
+use Rattle.ux_walk.proofs.OneStep.{Through, onto, step_forth, step_back, starts_forth, starts_back}
+use Rattle.ux_walk.proofs.Onward.{AreForward, takes_forward, next_lighter}
+use Rattle.ux_walk.proofs.Weights.{weight_of}
+
+module _ (setting : Setting) where
+  abbrev IsForward : Type 0
+  IsForward = AreForward setting.alphabet setting.tokens setting.tables
+
+  -- contexts are refused as so many levels tell
+  abbrev Refused : ℕ → (g opening closing p : ℕ) → Type 0
+  Refused n = RefusesBy (applied_text setting.alphabet setting.tokens setting.tables)
+      (net_grammar setting.net) n
+
+  -- so the frames are gone through with these events
+  abbrev GoesThrough : ℕ → Stack → ℕ → ℕ → List Event → Type 0
+  GoesThrough n = Through setting.alphabet setting.tokens setting.tables setting.net (Refused n)
+
+  abbrev Steps : Frame → Stack → ℕ → Course → Type 0
+  Steps f fs p w = GoesOn setting.alphabet setting.tokens setting.tables setting.net f fs p [] w
+
+  -- a step leads on, within the text
+  goes_forward : IsForward → (f : Frame) (fs : Stack) (p : ℕ) (w : Course) → Steps f fs p w →
+      (p ≤ w.at) × (p ≤ length setting.tokens → w.at ≤ length setting.tokens)
+  goes_forward forward f fs p w (state, found, inr (final, is)) =
+      let at : w.at ≡ p = ap (λ (x : Course). x.at) is in
+      (omega (arith, at), λ inside. omega (arith, at, inside))
+  goes_forward forward f fs p w (state, found, inl (edge, inside, inl (k, takes, is))) =
+      let at : w.at ≡ k = ap (λ (x : Course). x.at) is in
+      let ahead = takes_forward setting.alphabet setting.tokens setting.tables forward edge.label p
+      k takes.1 in
+      (omega (arith, at, ahead.0), λ within. omega (arith, at, ahead.1))
+  goes_forward forward f fs p w (state, found, inl (edge, inside, inr (inl (passes, is)))) =
+      let at : w.at ≡ p = ap (λ (x : Course). x.at) is in
+      (omega (arith, at), λ within. omega (arith, at, within))
+  goes_forward forward f fs p w (state, found, inl (edge, inside, inr (inr (h, label, is)))) =
+      let at : w.at ≡ p = ap (λ (x : Course). x.at) is in
+      (omega (arith, at), λ within. omega (arith, at, within))
+
+  -- a walk leads on, within the text
+  pub leads_forward : IsForward → (stack : Stack) (at end : ℕ) → LeadsTo setting stack at end →
+      (at ≤ end) × (at ≤ length setting.tokens → end ≤ length setting.tokens)
+  leads_forward forward stack at end leads = by leads
+    where
+      by : {frames : Stack} {p e : ℕ} → LeadsTo setting frames p e →
+          (p ≤ e) × (p ≤ length setting.tokens → e ≤ length setting.tokens)
+      by ended = (omega arith, λ inside. inside)
+      by (goes {f = f} {fs = fs} {p = p} w step rest) =
+          let first = goes_forward forward f fs p w step in
+          let later = by rest in
+          (omega (arith, first.0, later.0), λ inside. later.1 (first.1 inside))
+
+  -- where a walk leads some events are derived, however many levels tell of contexts
+  leads_through : {frames : Stack} {p end : ℕ} → LeadsTo setting frames p end →
+      (events : List Event) × ((n : ℕ) → GoesThrough n frames p end events)
+  leads_through ended = ([], λ n. (refl, refl))
+  leads_through {end = end} (goes {f = f} {fs = fs} {p = p} w step rest) =
+      let later = leads_through rest in (
+        onto w.before later.0,
+        λ n.
+            let all = step_back setting.alphabet setting.tokens setting.tables setting.net
+            (Refused n) f fs
+            p [] end (onto w.before later.0) w step (later.0, later.1 n, refl) in
+            subst (λ (events : List Event). GoesThrough n (f ∷ fs) p end events) (sym all.2) all.1,
+      )
+
+  module _ (forward : IsForward) (measured : IsMeasured setting.net) (are : ArePlain setting.net)
+    where
+      abbrev weight : ℕ → Stack → ℕ
+      weight at frames = weight_of setting.net ((length setting.tokens - at) + 1) frames
+
+      -- frames that are gone through lead to the end
+      through_leads : (n bound : ℕ) (frames : Stack) (p end : ℕ) (events : List Event) →
+          weight p frames < bound → p ≤ length setting.tokens → GoesThrough n frames p end events →
+          LeadsTo setting frames p end
+      through_leads n zero frames p end events less inside through = absurd (omega (arith, less))
+      through_leads n (suc bound) [] p end events less inside through =
+          subst (λ (e : ℕ). LeadsTo setting [] p e) through.0 ended
+      through_leads n (suc bound) (f ∷ fs) p end events less inside through =
+          let next = step_forth setting.alphabet setting.tokens setting.tables setting.net
+          (Refused n)
+          f fs p [] end events (are f.graph f.state) (events, through, refl) in
+          let lighter = next_lighter setting.net setting.alphabet setting.tokens
+          setting.tables forward
+          measured f fs p [] inside next.0 next.1 in
+          goes next.0 next.1 (through_leads n bound next.0.frames next.0.at end next.2.0
+          (omega (arith, less, lighter.1)) lighter.0 next.2.1)
+
+      -- a walk of the main graph leads exactly where some events are derived
+      pub leads_exactly : (start end : ℕ) → start ≤ length setting.tokens →
+          ((events : List Event) × Derives setting start end events)
+          ↔ LeadsTo setting main_stack start end
+      leads_exactly start end inside = (
+        λ (events, derives).
+            let all = starts_forth setting.alphabet setting.tokens setting.tables setting.net
+            (Refused derives.0) 1 start end events
+            (at_level (applied_text setting.alphabet setting.tokens setting.tables)
+            (net_grammar setting.net) 1 start end events derives) in
+            through_leads derives.0 (weight start main_stack + 1) main_stack start end all.0
+            (omega arith) inside all.1,
+        λ leads.
+            let all = leads_through leads in (
+              all.0,
+              (
+                0,
+                λ n more. starts_back setting.alphabet setting.tokens setting.tables setting.net
+                    (Refused n) 1 start end all.0 (all.0, all.1 n, refl),
+              ),
+            ),
+      )
+
+      -- a step gives no event but that it takes tokens
+      step_takes : (f : Frame) (fs : Stack) (p end : ℕ) (later : List Event) (w : Course) →
+          Steps f fs p w → AreTakes w.at end later → AreTakes p end (onto w.before later)
+      step_takes f fs p end later w (state, found, inr (final, is)) takes =
+          subst (λ (x : Course). AreTakes x.at end later → AreTakes p end (onto x.before later))
+          (sym is)
+          (λ same. same) takes
+      step_takes f fs p end later w (state, found, inl (edge, inside, inl (k, label, is))) takes =
+          let ahead = takes_forward setting.alphabet setting.tokens setting.tables forward
+          edge.label p
+          k label.1 in
+          subst (λ (x : Course). AreTakes x.at end later → AreTakes p end (onto x.before later))
+          (sym is)
+          (λ rest. (k, refl, ahead.0, rest)) takes
+      step_takes f fs p end later w (state, found, inl (edge, inside, inr (inl (passes, is))))
+          takes =
+          subst (λ (x : Course). AreTakes x.at end later → AreTakes p end (onto x.before later))
+          (sym is)
+          (λ same. same) takes
+      step_takes f fs p end later w (state, found, inl (edge, inside, inr (inr (h, label, is))))
+          takes =
+          subst (λ (x : Course). AreTakes x.at end later → AreTakes p end (onto x.before later))
+          (sym is)
+          (λ same. same) takes
+
+      -- frames are gone through by taking tokens alone
+      through_takes : (n bound : ℕ) (frames : Stack) (p end : ℕ) (events : List Event) →
+          weight p frames < bound → p ≤ length setting.tokens → GoesThrough n frames p end events →
+          AreTakes p end events
+      through_takes n zero frames p end events less inside through = absurd (omega (arith, less))
+      through_takes n (suc bound) [] p end events less inside through =
+          subst (λ (es : List Event). AreTakes p end es) (sym through.1) through.0
+      through_takes n (suc bound) (f ∷ fs) p end events less inside through =
+          let next = step_forth setting.alphabet setting.tokens setting.tables setting.net
+          (Refused n)
+          f fs p [] end events (are f.graph f.state) (events, through, refl) in
+          let lighter = next_lighter setting.net setting.alphabet setting.tokens
+          setting.tables forward
+          measured f fs p [] inside next.0 next.1 in
+          subst (λ (es : List Event). AreTakes p end es) (sym next.2.2)
+          (step_takes f fs p end next.2.0 next.0 next.1
+          (through_takes n bound next.0.frames next.0.at end next.2.0
+          (omega (arith, less, lighter.1)) lighter.0 next.2.1))
+
+      -- every derivation takes exactly the tokens up to its end, and gives no other event
+      pub plain_straight : (start : ℕ) → start ≤ length setting.tokens → IsStraight setting start
+      plain_straight start inside end events derives =
+          let all = starts_forth setting.alphabet setting.tokens setting.tables setting.net
+          (Refused derives.0) 1 start end events
+          (at_level (applied_text setting.alphabet setting.tokens setting.tables)
+          (net_grammar setting.net) 1 start end events derives) in
+          subst (λ (es : List Event). AreTakes start end es) (sym all.2)
+          (through_takes derives.0 (weight start main_stack + 1) main_stack start end all.0
+          (omega arith) inside all.1)

@@ -1,0 +1,5 @@
+pub mod AgendaLemmas
+pub mod WalkLemmas
+pub mod AscendingLemmas
+pub mod UnderWay
+pub mod StraightLaws

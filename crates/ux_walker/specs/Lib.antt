@@ -1,0 +1,3 @@
+pub mod Agendas
+pub mod Walking
+pub mod Walkers
