@@ -9,7 +9,7 @@ use Rattle.ux_dict.specs.Forms.{IsChosen, none}
 use Rattle.ux_dict.specs.Parts.{IsFittingPart, BeginsFittingAll, entries_of}
 use Rattle.ux_dict.proofs.ChosenLemmas.{chosen-append, chosen-again}
 use Rattle.ux_dict.proofs.FittingLemmas.{whole_part, whole_begins, entries_of-more}
-use Rattle.ux_dict.proofs.list_lexicon.whole_forms.Goals as goal
+use Rattle.ux_dict.proofs.list_reached.whole_forms.Goals as goal
 
 pub loop-part-init : goal.loop-part-init
 loop-part-init c alphabet text each =

@@ -1,5 +1,5 @@
 use Rattle.std.proofs.Common.{◌≡◌, ◌++◌, take}
-use Rattle.ux_dict.proofs.list_lexicon.push_copies.Given as goal
+use Rattle.ux_dict.proofs.list_reached.push_copies.Given as goal
 
 -- the entries so far stand behind
 abbrev pub invariant-loop-entry : goal.invariant-loop-entry

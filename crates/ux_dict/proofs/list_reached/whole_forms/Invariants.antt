@@ -5,7 +5,7 @@ use Rattle.std.specs.Str.{chars}
 use Rattle.ux_alphabet.specs.Letters.{Letters, Fits}
 use Rattle.ux_dict.specs.Forms.{IsChosen}
 use Rattle.ux_dict.specs.Parts.{IsFittingPart, entries_of}
-use Rattle.ux_dict.proofs.list_lexicon.whole_forms.Given as goal
+use Rattle.ux_dict.proofs.list_reached.whole_forms.Given as goal
 
 -- of the parts so far, the entries whose forms fit the text whole
 abbrev pub invariant-loop-part : goal.invariant-loop-part

@@ -1,6 +1,6 @@
 use Rattle.std.proofs.Common.{◌≡◌, [], take}
 use Rattle.ux_dict.specs.Parts.{entries_of}
-use Rattle.ux_dict.proofs.list_lexicon.has_entry.Given as goal
+use Rattle.ux_dict.proofs.list_reached.has_entry.Given as goal
 
 -- the parts so far have no entry
 abbrev pub invariant-loop-part : goal.invariant-loop-part

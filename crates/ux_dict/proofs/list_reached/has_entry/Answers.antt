@@ -2,7 +2,7 @@ use Rattle.std.proofs.Common.{◌≡◌, ◌<◌, length, refl, sym, arith}
 use Rattle.std.proofs.lemmas.Grind.{common_steps}
 use Rattle.std.proofs.lemmas.Bool.{eqb-false}
 use Rattle.ux_dict.proofs.FittingLemmas.{some_entry}
-use Rattle.ux_dict.proofs.list_lexicon.has_entry.Goals as goal
+use Rattle.ux_dict.proofs.list_reached.has_entry.Goals as goal
 
 pub returns-then-not-is_empty : goal.returns-then-not-is_empty
 returns-then-not-is_empty c =
