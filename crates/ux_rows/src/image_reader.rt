@@ -72,7 +72,9 @@ fn reads_fronts(rt: HostRuntime) -> Result<(), Fail> {
         ),
         (
             "`a`, `ab` and `bb`, where the visit comes back",
-            &[4, 1, 1, 0, 1, 1, 0x62, 0, 0, 1, 0x62, 0, 0, 2, 0x61, 1, 0x62, 2],
+            &[
+                4, 1, 1, 0, 1, 1, 0x62, 0, 0, 1, 0x62, 0, 0, 2, 0x61, 1, 0x62, 2,
+            ],
             "version 2, 4 states, 1 lists from byte 80",
         ),
         (
@@ -91,17 +93,13 @@ fn names_states_by_themselves(rt: HostRuntime) -> Result<(), Fail> {
         ("no state, and no count of lists", &[0], "BadState offset=8"),
         ("a list that isn't there", &[2, 0, 1], "BadState offset=16"),
         ("list 1 before list 0", &[2, 2, 2], "BadState offset=16"),
-        ("a state without list and edges", &[2, 1, 0, 0], "BadState offset=16"),
         (
-            "no list, as far as it is there",
-            &[2, 1, 0],
-            "Short",
+            "a state without list and edges",
+            &[2, 1, 0, 0],
+            "BadState offset=16",
         ),
-        (
-            "a line feed",
-            &[2, 1, 1, 0, 0, 1, 10],
-            "BadState offset=24",
-        ),
+        ("no list, as far as it is there", &[2, 1, 0], "Short"),
+        ("a line feed", &[2, 1, 1, 0, 0, 1, 10], "BadState offset=24"),
         (
             "a surrogate",
             &[2, 1, 1, 0, 0, 1, 0xd800],
@@ -181,7 +179,9 @@ fn names_states_among_others(rt: HostRuntime) -> Result<(), Fail> {
         ),
         (
             "two states in the other order",
-            &[4, 1, 1, 0, 0, 1, 0x61, 0, 0, 1, 0x62, 0, 0, 2, 0x61, 2, 0x62, 1],
+            &[
+                4, 1, 1, 0, 0, 1, 0x61, 0, 0, 1, 0x62, 0, 0, 2, 0x61, 2, 0x62, 1,
+            ],
             "BadState offset=24",
         ),
         (
