@@ -5,7 +5,7 @@ use std::alloc::{AllocError, Global};
 use std::test::Fail;
 use ux_base::{Mem, Txt};
 use ux_dawg::Items;
-use ux_dela::{print_delaf, read_delaf};
+use ux_dela::{Entry, print_delaf, read_delaf};
 use ux_image::{Code, Pair, code_of, image_of, is_content, is_short, rebuild};
 
 /// A name, a line of forms, and its code: each pair between brackets, and the codes.
@@ -36,17 +36,37 @@ fn shown(alloc: Global, code: &Code) -> Result<String, AllocError> {
 /// The code of the line's first entry, from which the entry is made again.
 fn coded(alloc: Global, line: &str) -> Result<String, Fail> {
     let entries = read_delaf(alloc, line)?;
-    let Some(entry) = entries.first() else {
-        return Ok(String::from_str(alloc, "no entry")?);
-    };
-    if !is_short(entry) {
-        return Ok(String::from_str(alloc, "too long")?);
+    coded_first(alloc, &entries)
+}
+
+/// The same of a list of entries.
+fn coded_first(alloc: Global, entries: &[Entry]) -> Result<String, Fail> {
+    match entries.first() {
+        Some(entry) if is_short(entry) => coded_entry(alloc, entry),
+        Some(_) => Ok(String::from_str(alloc, "too long")?),
+        None => Ok(String::from_str(alloc, "no entry")?),
     }
+}
+
+/// The same of an entry.
+fn coded_entry(alloc: Global, entry: &Entry) -> Result<String, Fail> {
     let code = code_of(alloc, entry)?;
-    match rebuild(alloc, entry.form.as_str(), &code)? {
-        Some(again) if again.same(entry) => Ok(shown(alloc, &code)?),
-        Some(_) => Ok(String::from_str(alloc, "another entry")?),
-        None => Ok(String::from_str(alloc, "no codes")?),
+    coded_as(alloc, entry, &code)
+}
+
+/// The same of an entry and its code.
+fn coded_as(alloc: Global, entry: &Entry, code: &Code) -> Result<String, Fail> {
+    if makes(alloc, entry, code)? {
+        return Ok(shown(alloc, code)?);
+    }
+    Ok(String::from_str(alloc, "another entry")?)
+}
+
+/// Whether the code makes the entry of its form.
+fn makes(alloc: Global, entry: &Entry, code: &Code) -> Mem<bool> {
+    match rebuild(alloc, entry.form.as_str(), code)? {
+        Some(again) => Ok(again.same(entry)),
+        None => Ok(false),
     }
 }
 
@@ -81,18 +101,28 @@ fn codes_say_how_lemmas_are_made(rt: HostRuntime) -> Result<(), Fail> {
 
 /// The line of the entry that the pairs and codes make of the form.
 fn made(alloc: Global, row: &Made) -> Result<String, Fail> {
+    let pairs = pairs_of(alloc, row.1)?;
+    let codes = Txt::from_str(alloc, row.2)?;
+    let code = Code { pairs, codes };
+    made_by(alloc, row.3, &code)
+}
+
+/// The pairs of a row.
+fn pairs_of(alloc: Global, row: &[(u32, &str)]) -> Mem<Items<Pair>> {
     let mut pairs = Items::empty(alloc);
-    for (taken, added) in row.1 {
+    for (taken, added) in row {
+        let added = Txt::from_str(alloc, added)?;
         pairs.push(Pair {
             taken: *taken,
-            added: Txt::from_str(alloc, added)?,
+            added,
         })?;
     }
-    let code = Code {
-        pairs,
-        codes: Txt::from_str(alloc, row.2)?,
-    };
-    match rebuild(alloc, row.3, &code)? {
+    Ok(pairs)
+}
+
+/// The line of the entry that the code makes of the form.
+fn made_by(alloc: Global, form: &str, code: &Code) -> Result<String, Fail> {
+    match rebuild(alloc, form, code)? {
         Some(entry) => Ok(print_delaf(alloc, &entry)?),
         None => Ok(String::from_str(alloc, "none")?),
     }
@@ -173,12 +203,22 @@ fn codes_make_entries(rt: HostRuntime) -> Result<(), Fail> {
 /// The bytes in base 16, or `unsorted` where the entries aren't a content.
 fn image(alloc: Global, lines: &str) -> Result<String, Fail> {
     let entries = read_delaf(alloc, lines)?;
-    let mut out = String::new(alloc);
-    if !is_content(&entries) {
-        out.push_str("unsorted")?;
-        return Ok(out);
+    image_in(alloc, &entries)
+}
+
+/// The same of a list of entries.
+fn image_in(alloc: Global, entries: &[Entry]) -> Result<String, Fail> {
+    if !is_content(entries) {
+        return Ok(String::from_str(alloc, "unsorted")?);
     }
-    for byte in image_of(alloc, &entries)? {
+    let bytes = image_of(alloc, entries)?;
+    Ok(written(alloc, &bytes)?)
+}
+
+/// The bytes in base 16.
+fn written(alloc: Global, bytes: &[u8]) -> Mem<String> {
+    let mut out = String::new(alloc);
+    for byte in bytes {
         out.push_str(format!(in alloc; "{byte:02x}")?.as_str())?;
     }
     Ok(out)
