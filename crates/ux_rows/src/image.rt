@@ -42,14 +42,16 @@ fn coded(alloc: Global, line: &str) -> Result<String, Fail> {
 /// The same of a list of entries.
 fn coded_first(alloc: Global, entries: &[Entry]) -> Result<String, Fail> {
     match entries.first() {
-        Some(entry) if is_short(entry) => coded_entry(alloc, entry),
-        Some(_) => Ok(String::from_str(alloc, "too long")?),
+        Some(entry) => coded_entry(alloc, entry),
         None => Ok(String::from_str(alloc, "no entry")?),
     }
 }
 
 /// The same of an entry.
 fn coded_entry(alloc: Global, entry: &Entry) -> Result<String, Fail> {
+    if !is_short(entry) {
+        return Ok(String::from_str(alloc, "too long")?);
+    }
     let code = code_of(alloc, entry)?;
     coded_as(alloc, entry, &code)
 }
