@@ -47,6 +47,7 @@ bench:
 	@bench/check.py
 	@bench/dico.py
 	@bench/masks.py
+	@bench/outputs.py
 
 gate:
 	@rt ci

@@ -1,14 +1,15 @@
 #!/usr/bin/env python3
 """Times `unitex dico` with generated dictionaries of 150,000 and 300,000 lines, a third of them compounds, over texts of
-2 and 4 MB, beside `grep -o -w -F -f` with the forms alone over the same text. Prints the best of three runs in turn, and
-peak memory by the size of the two files.
+2 and 4 MB, beside `grep -o -w -F -f` with the forms alone over the same text; then one long form over texts that repeat
+its front, each twice as long as the one before. Prints the best of three runs in turn, and peak memory by the size of
+the two files.
 
 Needs the built program (make build) and a folder to write to (bench/data).
 """
 import os
 import random
 
-from measuring import DATA, PROGRAM, RUNS, apart, least, prepare, run
+from measuring import DATA, PROGRAM, RUNS, apart, best, least, prepare, run
 
 CODES = [".N+Conc:ms", ".N+Hum:fs:fp", ".V+t:P3s", ".A:mp", ".ADV"]
 ALPHABET = "".join(f"{c.upper()}{c}\n" for c in "abcdefghijklmnopqrstuvwxyz")
@@ -58,6 +59,19 @@ def one(draw, simple, compounds):
     return form.capitalize() if draw.random() < 0.05 else form
 
 
+def fronts(letters):
+    """A form of 200 times `a ` and then `b`, over texts of `a` alone: from each the form goes on to its last word."""
+    dictionary, text = [os.path.join(DATA, name) for name in ("fronts.dic", "fronts.txt")]
+    with open(dictionary, "w", encoding="utf-8") as file:
+        file.write("a " * 200 + "b,.N\n")
+    print("a form of 201 words over its front, again and again")
+    for size in [4_500, 9_000, 18_000]:
+        with open(text, "w", encoding="utf-8") as file:
+            file.write("a " * size)
+        seconds, memory = best([PROGRAM, "dico", text, letters, dictionary])
+        print(f"  {size:6} words  {seconds:.3f} s  {memory / 1e6:.1f} MB")
+
+
 def main():
     prepare()
     letters = os.path.join(DATA, "letters.txt")
@@ -78,6 +92,7 @@ def main():
         for (name, _, _), column in zip(programs, zip(*runs)):
             seconds, memory = least(column)
             print(f"  {name:12}  {seconds:.3f} s  {memory / 1e6:.1f} MB  {memory / both:.1f} of the two files")
+    fronts(letters)
 
 
 if __name__ == "__main__":

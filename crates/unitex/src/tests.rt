@@ -7,6 +7,7 @@ mod grammars;
 mod letters;
 mod mask_refusals;
 mod masks;
+mod outputs;
 mod plain;
 mod refusals;
 mod reports;

@@ -1,10 +1,9 @@
 -- The tables that the dictionaries give for a text belong to it.
-use Rattle.std.proofs.Common.{arith, ◌≡◌, ◌≢◌, ◌⊎◌, ℕ, zero, suc, ◌+◌, ◌<◌, ◌≤◌, List, [], ◌∷◌, ◌++◌, append-nil, length, map, refl, sym, ◌∙◌, ap, subst, inl, inr}
-use Rattle.std.specs.Prelude.{Option, Some, None, All, AllPairs, Contains, IsSomeAnd, slice_get}
+use Rattle.std.proofs.Common.{arith, ◌≡◌, ◌⊎◌, ℕ, zero, suc, ◌+◌, ◌<◌, ◌≤◌, List, [], ◌∷◌, ◌++◌, append-nil, length, map, refl, sym, ◌∙◌, ap, subst, inl, inr}
+use Rattle.std.specs.Prelude.{Option, Some, None, All, AllPairs, IsSomeAnd, slice_get}
 use Rattle.std.proofs.lemmas.List.Elements.{All-append, All-contains, All-map, All-weaker}
-use Rattle.std.proofs.lemmas.Option.{none-some, same_Some, slice_get_within}
+use Rattle.std.proofs.lemmas.Option.{same_Some}
 use Rattle.ux_alphabet.specs.Letters.{Letters}
-use Rattle.ux_base.proofs.FirstsLemmas.{Contains-none}
 use Rattle.ux_dela.specs.Sound.{IsSound}
 use Rattle.ux_dela.specs.declared.entry.Entry.{Entry}
 use Rattle.ux_tokens.specs.declared.kind.Kind.{Kind}
@@ -14,10 +13,9 @@ use Rattle.ux_apply.specs.declared.priority.Priority.{Priority}
 use Rattle.ux_apply.specs.Applying.{AreApplying, high, normal, low}
 use Rattle.ux_apply.specs.Belonging.{Belongs, MayHaveSimple, StandsOn}
 use Rattle.ux_apply.specs.Spans.{IsSpan, MayBound, MayStand}
-use Rattle.ux_apply.specs.Tables.{Tables, AreApplied, AreCompoundUpTo, AreOfSpan, AreOwnCompound, AreSimpleOf, IsCompoundRow, IsOwnCompound, IsOwnSimple, IsSimpleForm, more, start}
-use Rattle.ux_apply.proofs.LetterLemmas.{IsSettled, settled_below, settled_both, settled_implies, settled_le, simple_settled}
+use Rattle.ux_apply.specs.Tables.{Tables, AreApplied, AreCompoundUpTo, AreOfSpan, AreOwnCompound, AreSimpleOf, IsOwnCompound, IsOwnSimple, IsSimpleForm, more, start}
+use Rattle.ux_apply.proofs.LetterLemmas.{IsSettled, settled_below, settled_implies, settled_le, simple_settled}
 use Rattle.ux_apply.proofs.PairsLemmas.{pairs_append, pairs_map, pairs_short}
-use Rattle.ux_apply.proofs.RowLemmas.{some-at}
 use Rattle.ux_apply.proofs.ZipLemmas.{zip-at, zip-back, zip-length}
 
 -- whether tokens are a span can be told

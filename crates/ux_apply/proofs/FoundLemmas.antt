@@ -4,13 +4,12 @@ use Rattle.std.specs.Prelude.{◌==◌}
 use Rattle.std.proofs.lemmas.Bool.{false≢true}
 use Rattle.std.proofs.lemmas.Bool.Decides.{Decides-eqb}
 use Rattle.std.proofs.lemmas.List.{map_more, nil_from_length, take_all}
-use Rattle.std.proofs.lemmas.List.Elements.{All-push}
 use Rattle.ux_alphabet.specs.Letters.{Letters}
 use Rattle.ux_dela.specs.declared.entry.Entry.{Entry}
-use Rattle.ux_dict.specs.Forms.{IsFitting, FitsForm, MayBegin}
+use Rattle.ux_dict.specs.Forms.{IsFitting, FitsForm}
 use Rattle.ux_apply.specs.declared.priority.Priority.{Priority}
 use Rattle.ux_apply.specs.Applying.{contents, content_at, is_same}
-use Rattle.ux_apply.specs.Kept.{AreAdded, NoneBegins}
+use Rattle.ux_apply.specs.Kept.{AreAdded}
 use Rattle.ux_apply.proofs.NothingLemmas.{chosen-append}
 
 module _ (priority : Priority) (dic : Priority × List Entry) where
@@ -60,16 +59,6 @@ module _ {L : Type 0} (content : L → List Entry) (dics : List (Priority × L))
       let pair : Priority × L → Priority × List Entry = λ d. (d.0, content d.1) in
       map_more pair dics i dic lt
       ∙ ap (λ (d : Priority × L). map pair (take i dics) ++ pair d ∷ []) (sym at)
-
-  -- none of its forms begins so either
-  pub none-more : (alphabet : Letters) (text : List ℕ) →
-      NoneBegins alphabet (contents content (take i dics)) text →
-      (MayBegin alphabet text (content dic.1) → ⊥) →
-      NoneBegins alphabet (contents content (take (i + 1) dics)) text
-  none-more alphabet text before here =
-      subst (λ (l : List (Priority × List Entry)). NoneBegins alphabet l text) (sym contents-more)
-      (All-push (λ (d : Priority × List Entry). MayBegin alphabet text d.1 → ⊥)
-      (contents content (take i dics)) (dic.0, content dic.1) before here)
 
 -- the contents of all of them
 pub contents-all : {L : Type 0} (content : L → List Entry) (dics : List (Priority × L)) (i : ℕ) →

@@ -1,10 +1,10 @@
 -- Equal words have equal rows, and all entries of the tables are sound.
-use Rattle.std.proofs.Common.{arith, ◌≡◌, ◌≢◌, ℕ, ◌<◌, List, [], ◌∷◌, length, refl, sym, ◌∙◌, ap, subst, inl, inr}
+use Rattle.std.proofs.Common.{arith, ◌≡◌, ℕ, ◌<◌, List, [], length, refl, sym, ◌∙◌, ap, subst, inl, inr}
 use Rattle.std.specs.Prelude.{Option, Some, None, All, IsSomeAnd, Vec, slice_get}
 use Rattle.std.specs.BTreeMap.{BTreeMap}
 use Rattle.std.specs.List.{AllZip}
 use Rattle.std.proofs.lemmas.List.Elements.{All-cons, All-contains, All-nil}
-use Rattle.std.proofs.lemmas.Option.{slice_get_within, slice_get-get_or, get_or_from_slice_get}
+use Rattle.std.proofs.lemmas.Option.{slice_get_within, get_or_from_slice_get}
 use Rattle.ux_alphabet.specs.Letters.{Letters}
 use Rattle.ux_dela.specs.Sound.{IsSound}
 use Rattle.ux_dela.specs.declared.entry.Entry.{Entry}
@@ -14,7 +14,7 @@ use Rattle.ux_tokens.specs.declared.kind.Kind.TheVariants.{Word, Space, Other, S
 use Rattle.ux_tokens.specs.Tokens.{Token}
 use Rattle.ux_tokens.specs.Numbers.{different_texts}
 use Rattle.ux_tokens.proofs.DistinctLemmas.{different_texts-once}
-use Rattle.ux_apply.specs.Tables.{Tables, AreOwnSimple, IsOwnSimple, IsSimpleForm}
+use Rattle.ux_apply.specs.Tables.{AreOwnSimple, IsOwnSimple, IsSimpleForm}
 use Rattle.ux_apply.specs.Kept.{AreRowsUpTo, AreSoundMembers, IsOwnRow, IsWordNumber, items_in, row_at, row_by, row_of, simple_at, table_of}
 use Rattle.ux_apply.proofs.BelongingLemmas.{AreKeptWell}
 use Rattle.ux_apply.proofs.LetterLemmas.{IsSettled, simple_settled}

@@ -2,6 +2,7 @@ mod Examples
 pub mod NamesLemmas
 pub mod ZipLemmas
 pub mod FoundLemmas
+pub mod CursorLemmas
 pub mod OnceLemmas
 pub mod NothingLemmas
 pub mod FirstLemmas

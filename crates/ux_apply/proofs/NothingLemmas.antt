@@ -1,5 +1,5 @@
 -- Where no form begins with characters that fit a text, no entry applies to it or to a longer one.
-use Rattle.std.proofs.Common.{arith, ◌≡◌, ℕ, zero, suc, ◌+◌, ◌<◌, ◌≤◌, Bool, true, false, cond, List, [], ◌∷◌, ◌++◌, length, length-append, get_or, ◌∙◌, ap, subst}
+use Rattle.std.proofs.Common.{arith, ℕ, Bool, true, false, cond, List, [], ◌∷◌, ◌++◌, get_or, subst}
 use Rattle.std.specs.Prelude.{All, IsUtf8}
 use Rattle.std.specs.List.{AllZip}
 use Rattle.std.specs.Str.{chars}
@@ -8,13 +8,13 @@ use Rattle.std.proofs.lemmas.List.{get_or_default}
 use Rattle.std.proofs.lemmas.List.Elements.{All-head, All-tail}
 use Rattle.ux_alphabet.specs.Letters.{Letters, Fits}
 use Rattle.ux_dela.specs.declared.entry.Entry.{Entry}
-use Rattle.ux_dict.specs.Forms.{FitsForm, BeginsFitting, MayBegin, IsChosen, none, kept, left, IsFitting, longest_of}
+use Rattle.ux_dict.specs.Forms.{FitsForm, BeginsFitting, MayBegin, IsChosen, none, kept, left, IsFitting}
 use Rattle.ux_apply.specs.declared.priority.Priority.{Priority}
 use Rattle.ux_apply.specs.declared.priority.Priority.TheVariants.{High, Normal, Low}
 use Rattle.ux_apply.specs.Applying.{AreFound, AreApplying, low, content_at, is_same}
 use Rattle.ux_apply.specs.Kept.{NoneBegins}
 use Rattle.ux_apply.proofs.OnceLemmas.{once-short}
-use Rattle.ux_apply.proofs.ZipLemmas.{zip-split, zip-length}
+use Rattle.ux_apply.proofs.ZipLemmas.{zip-split}
 
 module _ {X : Type 0} (P : X → Type 0) where
   -- what is chosen of two lists
@@ -31,28 +31,7 @@ module _ {X : Type 0} (P : X → Type 0) where
       let No : X → Type 0 = λ y. P y → ⊥ in
       left (All-head No x xs fails) (chosen-none xs (All-tail No x xs fails))
 
--- no form has more characters than the longest
-longest-at : (content : List Entry) (k : ℕ) (entry : Entry) → k < length content →
-    get_or content k entry ≡ entry → length (chars entry.form) ≤ longest_of content
-longest-at [] k entry lt at = absurd (omega arith)
-longest-at (first ∷ content) zero entry lt at =
-    omega (arith, ap (λ (e : Entry). length (chars e.form)) at)
-longest-at (first ∷ content) (suc k) entry lt at =
-    omega (arith, longest-at content k entry (omega arith) at)
-
 module _ (alphabet : Letters) (text : List ℕ) where
-  -- no form begins with characters that fit a text which is longer than all forms
-  pub longer-begins_none : (content : List Entry) → longest_of content < length (chars text) →
-      MayBegin alphabet text content → ⊥
-  longer-begins_none content longer may =
-      let form = may.1.form in
-      let begins = may.4 in
-      let short = longest-at content may.0 may.1 may.2 may.3 in
-      let whole : length (chars form) ≡ length begins.0 + length begins.1 =
-      ap length begins.2 ∙ length-append begins.0 begins.1 in
-      let same = zip-length (Fits alphabet) begins.0 (chars text) begins.3 in
-      absurd (omega (arith, short, whole, same, longer))
-
   module _ (utf8 : IsUtf8 text) (rest : List ℕ) where
     -- a form that fits a text begins with characters that fit its front
     begins-fitting : (form : List ℕ) → FitsForm alphabet form (text ++ rest) →

@@ -1,7 +1,7 @@
 -- Where no span that begins at a token has an entry, however far it goes.
 use Rattle.std.proofs.Common.{arith, below_more, ◌≡◌, ℕ, zero, suc, ◌+◌, ◌-◌, ◌<◌, ◌≤◌, List, [], ◌∷◌, ◌++◌, map, length, take, drop, refl, sym, ◌∙◌, ap, subst, append_assoc, append-nil}
-use Rattle.std.specs.Prelude.{Option, Some, None, IsSomeAnd, IsUtf8, slice_get}
-use Rattle.std.proofs.lemmas.List.{take-append-drop, take-take, drop-take}
+use Rattle.std.specs.Prelude.{Option, Some, None, IsSomeAnd, IsUtf8, slice_get, slice_range}
+use Rattle.std.proofs.lemmas.List.{drop-drop, take-append-drop, take-take, drop-take}
 use Rattle.std.proofs.lemmas.Option.{none-some, same_Some}
 use Rattle.ux_alphabet.specs.Letters.{Letters}
 use Rattle.ux_dela.specs.declared.entry.Entry.{Entry}
@@ -47,6 +47,29 @@ text_of-longer tokens first last later ordered on =
           ∙ (ap joined (take-parts m n behind)
           ∙ joined-append (take m behind) (take n (drop m behind))),
     )
+
+-- the text of neighbouring tokens goes on with that of the next ones
+pub joined-on : (tokens : List Token) (first next end : ℕ) → first ≤ next → next ≤ end →
+    joined (slice_range tokens first next) ++ joined (slice_range tokens next end)
+    ≡ joined (slice_range tokens first end)
+joined-on tokens first next end from to =
+    let m = next - first in
+    let n = end - next in
+    let behind = drop first tokens in
+    let sum : m + n ≡ end - first = omega arith in
+    let place : first + m ≡ next = omega arith in
+    let rest : drop m behind ≡ drop next tokens =
+    drop-drop m first tokens ∙ ap (λ (k : ℕ). drop k tokens) place in
+    ap (λ (l : List Token). joined (take m behind) ++ joined (take n l)) (sym rest)
+    ∙ (sym (joined-append (take m behind) (take n (drop m behind)))
+    ∙ (ap joined (sym (take-parts m n behind))
+    ∙ ap (λ (k : ℕ). joined (take k behind)) sum))
+
+-- that of no tokens is empty
+pub joined-none : (tokens : List Token) (first : ℕ) → [] ≡ joined (slice_range tokens first first)
+joined-none tokens first =
+    let none : 0 ≡ first - first = omega arith in
+    ap (λ (k : ℕ). joined (take k (drop first tokens))) none
 
 -- what may bound a span may stand in it
 bound-stands : (kind : Kind) → MayBound kind → MayStand kind

@@ -55,3 +55,32 @@ module _ {A B : Type 0} (R : A → B → Type 0) where
   zip-split (w ∷ xs) (z ∷ ys) zs all =
       let later = zip-split xs ys zs all.1 in
       (w ∷ later.0, later.1, ap (λ (l : List A). w ∷ l) later.2, (all.0, later.3))
+
+  -- where the second list ends in a member, so does the first
+  zip-last : (xs : List A) (ys : List B) (y : B) → AllZip R xs (ys ++ y ∷ []) →
+      (front : List A) × (x : A) × (xs ≡ front ++ x ∷ []) × AllZip R front ys × R x y
+  zip-last [] [] y all = absurd all
+  zip-last [] (z ∷ ys) y all = absurd all
+  zip-last (w ∷ []) [] y all = ([], w, refl, tt, all.0)
+  zip-last (w ∷ v ∷ xs) [] y all = absurd all.1
+  zip-last (w ∷ xs) (z ∷ ys) y all =
+      let later = zip-last xs ys y all.1 in (
+        w ∷ later.0,
+        later.1,
+        ap (λ (l : List A). w ∷ l) later.2,
+        (all.0, later.3),
+        later.4,
+      )
+
+  -- one more of the second list is one more of the first
+  pub zip-taken : (xs : List A) (ys : List B) (i : ℕ) (y : B) → i < length ys →
+      y ≡ get_or ys i y → AllZip R xs (take (i + 1) ys) →
+      (front : List A) × (x : A) × (xs ≡ front ++ x ∷ []) × AllZip R front (take i ys) × R x y
+  zip-taken xs ys i y lt at all =
+      let front = take_more ys i y lt ∙ ap (λ (z : B). take i ys ++ z ∷ []) (sym at) in
+      zip-last xs (take i ys) y (subst (λ (l : List B). AllZip R xs l) front all)
+
+  -- to none belongs none
+  pub zip-none : (xs : List A) → AllZip R xs [] → xs ≡ []
+  zip-none [] all = refl
+  zip-none (w ∷ xs) all = absurd all

@@ -9,7 +9,7 @@ use Rattle.ux_masks.specs.declared.lexical.Parts.{Parts}
 use Rattle.ux_masks.specs.declared.mask.Mask.{Mask}
 use Rattle.ux_masks.specs.declared.mask.Mask.TheVariants as mask
 use Rattle.ux_tokens.specs.declared.kind.Kind.{Kind}
-use Rattle.ux_tokens.specs.declared.kind.Kind.TheVariants.{Word, Space, Other, Sentence, Stop, Tag}
+use Rattle.ux_tokens.specs.declared.kind.Kind.TheVariants.{Word, Other, Sentence, Tag}
 use Rattle.ux_tokens.specs.Tokens.{Token}
 use Rattle.ux_apply.specs.Spans.{MayBound}
 use Rattle.ux_apply.specs.Tables.{Tables}

@@ -1,6 +1,7 @@
 pub mod Names
 pub mod Spans
 pub mod Applying
+pub mod Cursors
 pub mod Tables
 pub mod Kept
 pub mod Unknown

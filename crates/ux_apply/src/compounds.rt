@@ -1,15 +1,21 @@
 //! The compound entries of a text: those of spans of two or more tokens.
 
-ghost use Rattle.std.specs.Prelude.{◌≡◌, ◌↔◌, ◌+◌, All, ◌<◌, ◌∷◌, ◌++◌, ◌≢◌, ℕ, [], IfOk, IsTrue, MatchOption, OnOk, IfSome, IsSomeAnd, length, map, slice_get};
+ghost use Rattle.std.specs.Prelude.{◌≡◌, ◌↔◌, All, ◌<◌, ◌≤◌, ◌∷◌, ◌++◌, ◌≢◌, ℕ, List, [], IfOk, IsTrue, OnOk, IsSomeAnd, length, map, slice_get, slice_range};
 ghost use Rattle.std.specs.List.{AllZip};
+ghost use Rattle.ux_alphabet.specs.Letters.{Letters};
 ghost use Rattle.ux_dela.specs.Sound.{IsSound};
+ghost use Rattle.ux_dela.specs.declared.entry.Entry.{Entry};
 ghost use Rattle.ux_tokens.specs.Numbers.{different_texts};
+ghost use Rattle.ux_tokens.specs.Tokens.{joined};
 ghost use Rattle.ux_apply.specs.Applying.{contents};
-ghost use Rattle.ux_apply.specs.Kept.{AreRowsUpTo, AreSoundMembers, HaveNone, IsNearestLast, IsFront, IsStart, row_of};
-ghost use Rattle.ux_apply.specs.Spans.{MayBound, MayStand};
+ghost use Rattle.ux_apply.specs.Cursors.{AreReachedBy, WhereLed};
+ghost use Rattle.ux_apply.specs.declared.priority.Priority.{Priority};
+ghost use Rattle.ux_apply.specs.Kept.{AreRowsUpTo, AreSoundMembers, IsNearestLast, IsFront, IsStart, row_of};
+ghost use Rattle.ux_apply.specs.Spans.{MayBound, MayStand, text_of};
 ghost use Rattle.ux_apply.specs.Tables.{AreOfSpan, IsCompoundRow, IsSimpleForm};
 
-use crate::applying::{applying, may_begin};
+use crate::applying::applying_there;
+use crate::cursors::{Cursor, begin, go_on, may_go_on};
 use crate::priority::Priority;
 use crate::starts::{Start, nearest_last, start_at};
 use crate::tagged::is_simple;
@@ -25,8 +31,8 @@ use ux_tokens::kind::Kind;
 /// Compound entries with their last tokens, by first token, where there are any.
 pub(crate) type Rows = BTreeMap<usize, Vec<(usize, Entry)>>;
 
-/// The compound entries of the text. No span is tried that is longer than the longest form, or
-/// behind one with which no form may begin.
+/// The compound entries of the text. From each token the dictionaries are gone along once, as far as
+/// some form may begin with the tokens.
 pub(crate) fn compounds<L: Lexicon>(
     alloc: Global,
     text: &Text,
@@ -116,7 +122,7 @@ fn own_row(
 }
 
 /// The compound entries of the spans that begin at a token, from the one with this last token on,
-/// one span after the other.
+/// one span after the other. Goes along the dictionaries once.
 fn spans_from<L: Lexicon>(
     alloc: Global,
     text: &Text,
@@ -132,15 +138,41 @@ fn spans_from<L: Lexicon>(
         IsCompoundRow alphabet.now (contents L.content dics.now) text.now first row.items) }
     ensures sound { IfOk result (λ row. AreSoundMembers row.items) }
 {
-    let end = text.len();
     let mut row = Vec::new(alloc);
-    for last in nearest..end {
-        match entries_of_span(alloc, text, first, last, alphabet, dics)? {
-            Some(entries) => push_row(&mut row, last, entries)?,
-            None => return Ok(row),
+    let mut cursors = begin(alloc, dics)?;
+    // The first token by which the dictionaries haven't been gone along.
+    let mut next = first;
+    for last in nearest..text.len() {
+        if !may_stand(text.kind(last)) {
+            return Ok(row);
         }
+        cursors = go_on_to(alloc, &cursors, text, next, last, alphabet)?;
+        if !may_go_on(&cursors) {
+            return Ok(row);
+        }
+        next = last + 1;
+        let entries = entries_to(alloc, text, last, &cursors)?;
+        push_row(&mut row, last, entries)?;
     }
     Ok(row)
+}
+
+/// Where the tokens so far lead with the next ones up to this last one.
+fn go_on_to<'a>(
+    alloc: Global,
+    cursors: &[Cursor<'a>],
+    text: &Text,
+    next: usize,
+    last: usize,
+    alphabet: &Alphabet,
+) -> Mem<Vec<Cursor<'a>>>
+    requires in_order { next ≤ last }
+    requires within { last < length text.now }
+    ensures { IfOk result (λ all. (dics : List (Priority × List Entry)) (first : ℕ) → first ≤ next →
+        AreReachedBy alphabet.now dics (joined (slice_range text.now first next)) cursors.now →
+        AreReachedBy alphabet.now dics (text_of text.now first last) all.items) }
+{
+    go_on(alloc, cursors, text.slice(next, last), alphabet)
 }
 
 /// Puts the entries last, with their last token.
@@ -158,39 +190,20 @@ fn push_row(
     Ok(())
 }
 
-/// The entries of the span from the first token to the last, or nothing where no longer span has
-/// any either.
-fn entries_of_span<L: Lexicon>(
-    alloc: Global,
-    text: &Text,
-    first: usize,
-    last: usize,
-    alphabet: &Alphabet,
-    dics: &[(Priority, L)],
-) -> Mem<Option<Vec<Entry>>>
-    requires front { IsFront text.now first last }
-    requires in_order { first < last }
-    requires within { last < length text.now }
-    ensures entries { IfOk result (λ found. MatchOption found
-        (HaveNone alphabet.now (contents L.content dics.now) text.now first last)
-        (λ entries. AreOfSpan alphabet.now (contents L.content dics.now) text.now first last
-        entries.items)) }
-    ensures sound { IfOk result (λ found. IfSome found (λ entries. All IsSound entries.items)) }
-    ensures goes_on { IfOk result (λ found. IfSome found
-        (λ _. IsFront text.now first (last + 1))) }
+/// The entries of a span with this last token, whose text led to the cursors.
+fn entries_to(alloc: Global, text: &Text, last: usize, cursors: &[Cursor<'_>]) -> Mem<Vec<Entry>>
+    requires { last < length text.now }
+    ensures entries { IfOk result (λ entries. (alphabet : Letters)
+        (dics : List (Priority × List Entry)) (first : ℕ) → first < last →
+        IsFront text.now first last → AreReachedBy alphabet dics (text_of text.now first last) cursors.now →
+        AreOfSpan alphabet dics text.now first last entries.items) }
+    ensures sound { IfOk result (λ entries. WhereLed cursors.now
+        (λ _ _ _. All IsSound entries.items)) }
 {
-    let kind = text.kind(last);
-    if !may_stand(kind) {
-        return Ok(None);
+    if !may_bound(text.kind(last)) {
+        return Ok(Vec::new(alloc));
     }
-    let span = text.slice(first, last);
-    if !may_begin(alloc, span, alphabet, dics)? {
-        return Ok(None);
-    }
-    if !may_bound(kind) {
-        return Ok(Some(Vec::new(alloc)));
-    }
-    Ok(Some(applying(alloc, span, alphabet, dics)?))
+    applying_there(alloc, cursors)
 }
 
 /// Whether a token of this kind may stand in a span.

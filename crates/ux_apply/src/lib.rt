@@ -2,9 +2,10 @@
 //!
 //! Begin with `applied`, whose `Applied::of` looks up every token and span of a text. Which entries
 //! apply to one text, by the priorities of the dictionaries, stands in `specs/Applying.antt`, and
-//! which spans have entries in `specs/Spans.antt` and `specs/Tables.antt`. Inside, `applying` asks
-//! the dictionaries about one text, `numbered` about each different token once, `starts` how spans
-//! may begin with it, and `compounds` about the spans of two or more tokens.
+//! which spans have entries in `specs/Spans.antt` and `specs/Tables.antt`. Inside, `cursors` goes
+//! along all dictionaries with a text, `applying` takes the entries of the text so far, `numbered`
+//! asks about each different token once, `starts` how spans may begin with it, and `compounds` goes
+//! along the spans of two or more tokens.
 //!
 //! ```text
 //! let dics = [(Priority::of("animals.dic"), lexicon)];
@@ -16,6 +17,7 @@
 pub mod applied;
 mod applying;
 mod compounds;
+mod cursors;
 mod ends;
 mod numbered;
 pub mod priority;

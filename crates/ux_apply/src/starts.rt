@@ -4,12 +4,12 @@
 //! of a token and a space is asked once for each different token, and not at each of its places.
 //! Where each letter is a word, it is mostly a letter, and the first step of the span asks.
 
-ghost use Rattle.std.specs.Prelude.{◌≡◌, ◌<◌, ◌⊎◌, ◌+◌, ◌≤◌, ◌^◌, IfOk, IsFalse, IsTrue, MatchOption, Some, length, slice_get};
+ghost use Rattle.std.specs.Prelude.{◌≡◌, ◌<◌, ◌⊎◌, ◌+◌, ◌≤◌, ◌^◌, IfOk, IsTrue, MatchOption, Some, length, slice_get};
 ghost use Rattle.ux_apply.specs.Applying.{contents};
 ghost use Rattle.ux_apply.specs.Kept.{IsNearestLast, IsOver, IsSpaceAt, IsStart};
-ghost use Rattle.ux_apply.specs.declared.starts.Start.TheVariants.{Spaced, Unspaced};
+ghost use Rattle.ux_apply.specs.declared.starts.Start.TheVariants.{Spaced};
 
-use crate::applying::may_begin;
+use crate::cursors::{go_on, may_go_on, reach};
 use crate::priority::Priority;
 use std::alloc::Global;
 use ux_alphabet::Alphabet;
@@ -39,29 +39,15 @@ pub(crate) fn start_of<L: Lexicon>(
     ensures { IfOk result
         (IsStart alphabet.now (contents L.content dics.now) token.now) }
 {
-    // Where a form goes on behind a space, it begins with the token: one question less.
-    if may_begin_spaced(alloc, token, alphabet, dics)? {
-        return Ok(Start::Spaced);
+    let cursors = reach(alloc, token, alphabet, dics)?;
+    if !may_go_on(&cursors) {
+        return Ok(Start::Never);
     }
-    if may_begin(alloc, token, alphabet, dics)? {
+    let spaced = go_on(alloc, &cursors, " ", alphabet)?;
+    if !may_go_on(&spaced) {
         return Ok(Start::Unspaced);
     }
-    Ok(Start::Never)
-}
-
-/// Whether some form may begin with the text and a space.
-fn may_begin_spaced<L: Lexicon>(
-    alloc: Global,
-    text: &str,
-    alphabet: &Alphabet,
-    dics: &[(Priority, L)],
-) -> Mem<bool>
-    ensures { IfOk result (λ may. IsFalse may →
-        IsStart alphabet.now (contents L.content dics.now) text.now Unspaced) }
-{
-    let mut spaced = String::from_str(alloc, text)?;
-    spaced.push(' ')?;
-    may_begin(alloc, spaced.as_str(), alphabet, dics)
+    Ok(Start::Spaced)
 }
 
 /// How forms may begin with the token of this number.

@@ -1,12 +1,13 @@
 -- What is kept stays right as the store grows.
 use Rattle.std.proofs.Common.{◌≡◌, ℕ, ◌+◌, ◌∷◌, ◌⊎◌, ◌↔◌, inl, inr, sym, subst, refl, Bool}
 use Rattle.ux_outputs.specs.Rendering.{skip}
+use Rattle.ux_tokens.specs.declared.kind.Kind.{Kind}
 use Rattle.ux_walk.specs.Leads.{LeadsFrom, Stack}
 use Rattle.ux_walk.specs.Settings.{Setting}
 use Rattle.ux_automaton.specs.declared.closed.Closed.{Closed}
 use Rattle.ux_automaton.specs.declared.kept.Kept.{Kept}
 use Rattle.ux_automaton.specs.declared.transitions.Transition.{Transition}
-use Rattle.ux_automaton.specs.Caches.{IsClosed, TakeSingly, IsTransition}
+use Rattle.ux_automaton.specs.Caches.{HasValue, IsBarred, IsClosed, TakeSingly, IsTransition}
 use Rattle.ux_automaton.specs.Fronts.{Keeps, Store, HoldsIn}
 use Rattle.ux_automaton.specs.Kept.{AreRight, Grows, HasClosed, HasTransition, IsFirst, IsSound, store_of}
 use Rattle.ux_automaton.specs.Targets.{GoesOver, IsOver}
@@ -71,6 +72,7 @@ module _ (setting : Setting) (old new : Store) (sound : IsSound old) (grows : Gr
         no_space = right.no_space;
         masks = λ none f fs edge mask there.
             right.masks none f fs edge mask ((within (f ∷ fs)).1 there);
+        tokens = λ none f fs edge there. right.tokens none f fs edge ((within (f ∷ fs)).1 there);
       }
 
   pub transition_kept : (transition : Transition) → IsTransition setting old transition →
@@ -97,8 +99,9 @@ module _ (setting : Setting) (old new : Store) (sound : IsSound old) (grows : Gr
 -- all stays right as the store grows
 pub right_kept : (setting : Setting) (old new : Kept) → AreRight setting old →
     Grows (store_of old.fronts) (store_of new.fronts) → new.first ≡ old.first →
-    new.closures ≡ old.closures → new.transitions ≡ old.transitions → AreRight setting new
-right_kept setting old new right grows first closures transitions =
+    new.closures ≡ old.closures → new.transitions ≡ old.transitions → new.barred ≡ old.barred →
+    AreRight setting new
+right_kept setting old new right grows first closures transitions barred =
     let s = right.sound in record {
       sound = grows.sound;
       first = subst (λ n. IsFirst (store_of new.fronts) n) (sym first)
@@ -111,17 +114,19 @@ right_kept setting old new right grows first closures transitions =
           transition_kept setting (store_of old.fronts) (store_of new.fronts) s grows transition
           (right.transitions transition
           (subst (λ t. HasTransition t transition) transitions has));
+      barred = λ number kind has.
+          right.barred number kind (subst (λ b. HasValue b.items number kind) barred has);
     }
 
 -- one more closed front
 pub closed_put : (setting : Setting) (old new : Kept) → AreRight setting old →
     new.fronts ≡ old.fronts → new.first ≡ old.first → new.transitions ≡ old.transitions →
-    (front : ℕ) (is_spaced : Bool) (closed : Closed) →
+    new.barred ≡ old.barred → (front : ℕ) (is_spaced : Bool) (closed : Closed) →
     IsClosed setting (store_of old.fronts) front is_spaced closed →
     ((spaced : Bool) (f : ℕ) (c : Closed) → HasClosed new.closures spaced f c →
     ((spaced ≡ is_spaced) × (f ≡ front) × (c ≡ closed)) ⊎ HasClosed old.closures spaced f c) →
     AreRight setting new
-closed_put setting old new right fronts first transitions front is_spaced closed this put =
+closed_put setting old new right fronts first transitions barred front is_spaced closed this put =
     record {
       sound = subst (λ f. IsSound (store_of f)) (sym fronts) right.sound;
       first = subst (λ n. IsFirst (store_of new.fronts) n) (sym first)
@@ -132,6 +137,8 @@ closed_put setting old new right fronts first transitions front is_spaced closed
           subst (λ s. IsTransition setting (store_of s) transition) (sym fronts)
           (right.transitions transition
           (subst (λ t. HasTransition t transition) transitions has));
+      barred = λ number kind has.
+          right.barred number kind (subst (λ b. HasValue b.items number kind) barred has);
     }
   where
     go : (spaced : Bool) (f : ℕ) (c : Closed) →
@@ -146,12 +153,12 @@ closed_put setting old new right fronts first transitions front is_spaced closed
 -- one more transition
 pub transition_put : (setting : Setting) (old new : Kept) → AreRight setting old →
     new.fronts ≡ old.fronts → new.first ≡ old.first → new.closures ≡ old.closures →
-    (transition : Transition) →
+    new.barred ≡ old.barred → (transition : Transition) →
     IsTransition setting (store_of old.fronts) transition →
     ((t : Transition) → HasTransition new.transitions t →
     (t ≡ transition) ⊎ HasTransition old.transitions t) →
     AreRight setting new
-transition_put setting old new right fronts first closures transition this put = record {
+transition_put setting old new right fronts first closures barred transition this put = record {
   sound = subst (λ f. IsSound (store_of f)) (sym fronts) right.sound;
   first = subst (λ n. IsFirst (store_of new.fronts) n) (sym first)
       (subst (λ f. IsFirst (store_of f) old.first) (sym fronts) right.first);
@@ -162,6 +169,29 @@ transition_put setting old new right fronts first closures transition this put =
         | inl e ↦ subst (IsTransition setting (store_of old.fronts)) (sym e) this
         | inr before ↦ right.transitions t before
       ]);
+  barred = λ number kind has.
+      right.barred number kind (subst (λ b. HasValue b.items number kind) barred has);
+}
+
+-- one more token with which nothing begins
+pub barred_put : (setting : Setting) (old new : Kept) → AreRight setting old →
+    new.fronts ≡ old.fronts → new.first ≡ old.first → new.closures ≡ old.closures →
+    new.transitions ≡ old.transitions → (number : ℕ) (kind : Kind) → IsBarred setting number kind →
+    ((n : ℕ) (k : Kind) → HasValue new.barred.items n k →
+    ((n ≡ number) × (k ≡ kind)) ⊎ HasValue old.barred.items n k) → AreRight setting new
+barred_put setting old new right fronts first closures transitions number kind this put = record {
+  sound = subst (λ f. IsSound (store_of f)) (sym fronts) right.sound;
+  first = subst (λ n. IsFirst (store_of new.fronts) n) (sym first)
+      (subst (λ f. IsFirst (store_of f) old.first) (sym fronts) right.first);
+  closures = λ spaced f c has. subst (λ s. IsClosed setting (store_of s) f spaced c) (sym fronts)
+      (right.closures spaced f c (subst (λ x. HasClosed x spaced f c) closures has));
+  transitions = λ t has. subst (λ s. IsTransition setting (store_of s) t) (sym fronts)
+      (right.transitions t (subst (λ x. HasTransition x t) transitions has));
+  barred = λ n k has. elim (put n k has) [
+    | inl is ↦ subst (λ x. IsBarred setting x k) (sym is.0)
+        (subst (IsBarred setting number) (sym is.1) this)
+    | inr before ↦ right.barred n k before
+  ];
 }
 
 -- what contracts see stays, as the store grows

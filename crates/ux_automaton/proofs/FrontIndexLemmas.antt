@@ -1,10 +1,9 @@
 -- The stands of a front that an index tells have all targets.
 use Rattle.std.proofs.Common.{arith, ◌≡◌, ◌↔◌, ℕ, ◌+◌, ◌-◌, ◌<◌, ◌≤◌, List, [], ◌∷◌, ◌++◌, Bool, ◌⊎◌, inl, inr, sym, ◌∙◌, ap, subst, refl, true, false, ltb, leb, length, take, drop, get_or, map}
 use Rattle.std.specs.Prelude.{Option, Some, None, IsSomeAnd, slice_get, Contains}
-use Rattle.std.specs.Cmp.Lexicographic.{pointwise}
 use Rattle.std.specs.List.Sorted.{IsNonDecreasingBy, IsPartitionPoint, IsPermutation}
 use Rattle.std.proofs.lemmas.List.Sorted.{Contains-permutation, IsPermutation-sym}
-use Rattle.std.proofs.lemmas.Bool.{and_parts, ltb-true, leb-false}
+use Rattle.std.proofs.lemmas.Bool.{ltb-true, leb-false}
 use Rattle.std.proofs.lemmas.List.{get_or-take, get_or-drop, length-drop, length-take-le}
 use Rattle.std.proofs.lemmas.List.Elements.{Contains-append_left, Contains-append_right, Contains-append_cases}
 use Rattle.std.proofs.lemmas.Option.{same_Some}
@@ -14,8 +13,10 @@ use Rattle.ux_net.specs.declared.label.Label.{Label}
 use Rattle.ux_net.specs.declared.label.Label.TheVariants as label
 use Rattle.ux_outputs.specs.Rendering.{skip}
 use Rattle.ux_meaning.specs.Texts.{FoldsTo}
+use Rattle.ux_tokens.specs.declared.kind.Kind.{Kind}
 use Rattle.ux_tokens.specs.Numbers.{different_texts}
 use Rattle.ux_tokens.specs.Tokens.{Token}
+use Rattle.ux_walk.specs.declared.config.Frame.{Frame}
 use Rattle.ux_walk.specs.Literals.{FitsText, IsLiteral}
 use Rattle.ux_automaton.specs.declared.front_index.Fitting.{Fitting}
 use Rattle.ux_automaton.specs.declared.front_index.FrontIndex.{FrontIndex}
@@ -23,8 +24,13 @@ use Rattle.ux_automaton.specs.declared.front_indexes.FrontIndexes.{FrontIndexes}
 use Rattle.ux_automaton.specs.declared.given.Given.{Given}
 use Rattle.ux_automaton.specs.declared.target.Target.{Target}
 use Rattle.ux_automaton.specs.FrontIndexes.{AreFrontsIndexed, AreLikely, FitsOver, HasOther, IsFrontIndex, number_of, stand_of}
-use Rattle.ux_automaton.specs.Kept.{setting_in}
-use Rattle.ux_automaton.specs.Targets.{IsTarget, Takes}
+use Rattle.ux_automaton.specs.Caches.{IsNumbered}
+use Rattle.ux_automaton.specs.Fronts.{Store, HasStand, HoldsIn, IsFrontIn}
+use Rattle.ux_automaton.specs.Kept.{Grows, IsSound, setting_in}
+use Rattle.ux_automaton.specs.Onwards.{LeadOnlyTo}
+use Rattle.ux_automaton.specs.Targets.{IsEdgeOf, IsTarget, Takes}
+use Rattle.ux_automaton.proofs.AddingLemmas.{nothing_in}
+use Rattle.ux_automaton.proofs.StoreLemmas.{front_kept, has_kept}
 
 -- what stands between two places of a list stands in the list
 pub run_among : (fittings : List Fitting) (start count : ℕ) (fitting : Fitting) →
@@ -79,24 +85,24 @@ run_has fittings start count number fitting is first second inside (k, lt, at) =
         get_or-drop start fittings (k - start) fitting
         ∙ (ap (λ (n : ℕ). get_or fittings n fitting) sum ∙ at)
 
-module _ (given : Given) (text : List ℕ) where
+module _ (given : Given) (text : List ℕ) (IsThere : Stand → Type 0) where
   -- those of the token's number and those that have another edge are enough
-  pub index_likely : (index : FrontIndex) → IsFrontIndex given index → (number : ℕ) →
+  pub index_likely : (index : FrontIndex) → IsFrontIndex given IsThere index → (number : ℕ) →
       slice_get (different_texts given.text.now) number ≡ Some text → (run : List Fitting) →
       ((fitting : Fitting) → Contains run fitting → Contains index.fittings.items fitting) →
       ((fitting : Fitting) → fitting.number ≡ number → Contains index.fittings.items fitting →
       Contains run fitting) →
-      AreLikely given text index.stands.items (map stand_of run ++ index.others.items)
+      AreLikely given text IsThere (map stand_of run ++ index.others.items)
   index_likely index is number numbered run among all = record {
     among = λ stand inside.
         elim (Contains-append_cases (map stand_of run) index.others.items stand inside) [
           | inl fits ↦
               let from = contained_mapped stand_of run stand fits in
               let told = (is.fittings from.0).0 (among from.0 from.1) in
-              subst (Contains index.stands.items) (sym told.2.2.1 ∙ from.2) told.1
+              subst IsThere (sym told.2.2.1 ∙ from.2) told.1
           | inr other ↦
               let told = (is.others stand).0 other in
-              subst (Contains index.stands.items) (sym told.2.0) told.1
+              subst IsThere (sym told.2.0) told.1
         ];
     enough = λ stand inside edge of may. elim may [
       | inl fits ↦ Contains-append_left (map stand_of run) index.others.items stand
@@ -122,12 +128,12 @@ module _ (given : Given) (p k : ℕ) (token : Token)
   takes_likely _ takes = inr (λ no. no)
 
 -- the likely stands have the targets of all
-module _ (given : Given) (p : ℕ) (all few : List Stand) where
+module _ (given : Given) (p : ℕ) (IsThere : Stand → Type 0) (few : List Stand) where
   same_targets : (token : Token) →
       slice_get given.text.now (skip given.text.now p) ≡ Some token →
-      AreLikely given token.text all few → (target : Target) →
+      AreLikely given token.text IsThere few → (target : Target) →
       IsTarget (setting_in given) p (Contains few) target
-      ↔ IsTarget (setting_in given) p (Contains all) target
+      ↔ IsTarget (setting_in given) p IsThere target
   same_targets token there likely target = (
     λ (stand, inside, edge, of, over). (stand, likely.among stand inside, edge, of, over),
     λ (stand, inside, edge, of, over). (
@@ -144,79 +150,104 @@ module _ (given : Given) (p : ℕ) (all few : List Stand) where
       IsSomeAnd (slice_get given.text.now place)
       (λ token. slice_get (different_texts given.text.now) number ≡ Some token.text) →
       ((text : List ℕ) → slice_get (different_texts given.text.now) number ≡ Some text →
-      AreLikely given text all few) → (target : Target) →
+      AreLikely given text IsThere few) → (target : Target) →
       IsTarget (setting_in given) p (Contains few) target
-      ↔ IsTarget (setting_in given) p (Contains all) target
+      ↔ IsTarget (setting_in given) p IsThere target
   likely_targets place number is numbered likely target =
       go (slice_get given.text.now place) refl numbered
     where
       go : (o : Option Token) → slice_get given.text.now place ≡ o → IsSomeAnd o
           (λ token. slice_get (different_texts given.text.now) number ≡ Some token.text) →
           IsTarget (setting_in given) p (Contains few) target
-          ↔ IsTarget (setting_in given) p (Contains all) target
+          ↔ IsTarget (setting_in given) p IsThere target
       go None there text = absurd text
       go (Some token) there text =
           same_targets token (ap (slice_get given.text.now) (sym is) ∙ there)
           (likely token.text text) target
 
+-- where no stand is likely, nothing leads over the token
+pub none_likely : (given : Given) (store : Store) (front number p : ℕ) (kind : Kind) →
+    IsNumbered given.text.now (skip given.text.now p) number kind →
+    ((text : List ℕ) → slice_get (different_texts given.text.now) number ≡ Some text →
+    AreLikely given text (HasStand store front) []) →
+    LeadOnlyTo (setting_in given) store (HoldsIn store front) p 0
+none_likely given store front number p kind (token, at, is, text) likely k stack
+    (f, fs, (stand, has, (here, names)), edge, of, takes, same) =
+    absurd (nothing_in ((likely token.text text).enough stand has edge
+    (subst (λ (x : Frame). IsEdgeOf given.net.now x edge) (sym here) of)
+    (takes_likely given p k token at edge.label takes)))
+
 -- the index of these stands is right
-pub index_made : (given : Given) (stands first : List Stand) → first ≡ stands →
-    (fittings : List Fitting) (index : FrontIndex) →
-    IsPermutation fittings index.fittings.items →
+pub index_made : (given : Given) (stands : List Stand) (fittings : List Fitting)
+    (index : FrontIndex) → IsPermutation fittings index.fittings.items →
     ((fitting : Fitting) → Contains fittings fitting
-    ↔ ((stand : Stand) × Contains first stand × FitsOver given stand fitting)) →
-    (second : List Stand) → second ≡ stands → index.stands.items ≡ stands →
+    ↔ ((stand : Stand) × Contains stands stand × FitsOver given stand fitting)) →
     IsNonDecreasingBy number_of index.fittings.items →
     ((other : Stand) → Contains index.others.items other
-    ↔ ((stand : Stand) × Contains second stand
-    × ((other ≡ stand) × HasOther given.net.now stand))) → IsFrontIndex given index
-index_made given stands first one fittings index moved fits second two whole ordered others = record {
+    ↔ ((stand : Stand) × Contains stands stand
+    × ((other ≡ stand) × HasOther given.net.now stand))) →
+    IsFrontIndex given (Contains stands) index
+index_made given stands fittings index moved fits ordered others = record {
   ordered = ordered;
   fittings = λ fitting. (
-    λ h. let there = Contains-permutation index.fittings.items fittings fitting
-        (IsPermutation-sym fittings index.fittings.items moved) h in
-        let told = (fits fitting).0 there in
-        (told.0, subst (λ (l : List Stand). Contains l told.0) (one ∙ sym whole) told.1, told.2),
-    λ h. Contains-permutation fittings index.fittings.items fitting moved
-        ((fits fitting).1
-        (h.0, subst (λ (l : List Stand). Contains l h.0) (sym (one ∙ sym whole)) h.1, h.2)),
+    λ h. (fits fitting).0 (Contains-permutation index.fittings.items fittings fitting
+        (IsPermutation-sym fittings index.fittings.items moved) h),
+    λ h. Contains-permutation fittings index.fittings.items fitting moved ((fits fitting).1 h),
+  );
+  others = others;
+}
+
+-- the index of the same stands
+pub index_by : (given : Given) (A B : Stand → Type 0) → ((stand : Stand) → A stand ↔ B stand) →
+    (index : FrontIndex) → IsFrontIndex given A index → IsFrontIndex given B index
+index_by given A B same index right = record {
+  ordered = right.ordered;
+  fittings = λ fitting. (
+    λ h. let told = (right.fittings fitting).0 h in (told.0, (same told.0).0 told.1, told.2),
+    λ h. (right.fittings fitting).1 (h.0, (same h.0).1 h.1, h.2),
   );
   others = λ other. (
-    λ h. let told = (others other).0 h in
-        (told.0, subst (λ (l : List Stand). Contains l told.0) (two ∙ sym whole) told.1, told.2),
-    λ h. (others other).1
-        (h.0, subst (λ (l : List Stand). Contains l h.0) (sym (two ∙ sym whole)) h.1, h.2),
+    λ h. let told = (right.others other).0 h in (told.0, (same told.0).0 told.1, told.2),
+    λ h. (right.others other).1 (h.0, (same h.0).1 h.1, h.2),
   );
 }
 
 -- one index more
-pub one_index : (given : Given) (old new : FrontIndexes) (front : ℕ) (index : FrontIndex) →
-    IsFrontIndex given index → new.words ≡ old.words →
-    ((f : ℕ) (i : FrontIndex) → Contains new.indexes.entries (f, i) →
+pub one_index : (given : Given) (store : Store) (old new : FrontIndexes) (front : ℕ)
+    (index : FrontIndex) → IsFrontIn store front → IsFrontIndex given (HasStand store front) index →
+    new.words ≡ old.words → ((f : ℕ) (i : FrontIndex) → Contains new.indexes.entries (f, i) →
     Contains old.indexes.entries (f, i) ⊎ ((f ≡ front) × (i ≡ index))) →
-    AreFrontsIndexed given old → AreFrontsIndexed given new
-one_index given old new front index right same more sound = record {
+    AreFrontsIndexed given store old → AreFrontsIndexed given store new
+one_index given store old new front index there right same more sound = record {
   ready = λ words is. sound.ready words (sym same ∙ is);
   indexes = λ f i inside. elim (more f i inside) [
     | inl before ↦ sound.indexes f i before
-    | inr this ↦ subst (IsFrontIndex given) (sym this.1) right
+    | inr this ↦ (
+      subst (IsFrontIn store) (sym this.0) there,
+      subst (λ n. IsFrontIndex given (HasStand store n) i) (sym this.0)
+          (subst (IsFrontIndex given (HasStand store front)) (sym this.1) right),
+    )
   ];
 }
 
--- all stands are enough
-pub all_likely : (given : Given) (text : List ℕ) (stands : List Stand) →
-    AreLikely given text stands stands
-all_likely given text stands = record {
-  among = λ stand inside. inside;
-  enough = λ stand inside edge of may. inside;
+-- the indexes stay right as the store grows
+pub indexes_kept : (given : Given) (old new : Store) (known : FrontIndexes) → IsSound old →
+    Grows old new → AreFrontsIndexed given old known → AreFrontsIndexed given new known
+indexes_kept given old new known sound grows right = record {
+  ready = right.ready;
+  indexes = λ front index inside.
+      let is = right.indexes front index inside in (
+        front_kept old new sound grows front is.0,
+        index_by given (HasStand old front) (HasStand new front)
+            (has_kept old new sound grows front is.0) index is.1,
+      );
 }
 
--- lists with equal elements are equal
-module _ {A : Type 0} (eq : A → A → Bool) (same : (a b : A) → eq a b ≡ true → a ≡ b) where
-  pub same_lists : (xs ys : List A) → pointwise eq xs ys ≡ true → xs ≡ ys
-  same_lists [] [] h = refl
-  same_lists [] (y ∷ ys) h = cc
-  same_lists (x ∷ xs) [] h = cc
-  same_lists (x ∷ xs) (y ∷ ys) h =
-      let both = and_parts (eq x y) (pointwise eq xs ys) h in
-      ap (λ (z : A). z ∷ xs) (same x y both.0) ∙ ap (λ (l : List A). y ∷ l) (same_lists xs ys both.1)
+-- all stands are enough
+pub all_likely : (given : Given) (text : List ℕ) (IsThere : Stand → Type 0) (stands : List Stand) →
+    ((stand : Stand) → Contains stands stand ↔ IsThere stand) →
+    AreLikely given text IsThere stands
+all_likely given text IsThere stands same = record {
+  among = λ stand inside. (same stand).0 inside;
+  enough = λ stand inside edge of may. (same stand).1 inside;
+}

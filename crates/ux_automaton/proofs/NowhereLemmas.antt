@@ -1,6 +1,7 @@
 -- From what is kept to starts from which nothing is derived.
 use Rattle.std.proofs.Common.{arith, ◌≡◌, ℕ, ◌+◌, ◌<◌, ◌≤◌, ◌⊎◌, inl, inr, sym, ◌∙◌, subst, refl, length, Bool, true, false}
 use Rattle.std.specs.Prelude.{IsTrue}
+use Rattle.ux_apply.specs.Accepting.{IsAlone}
 use Rattle.ux_apply.specs.Belonging.{Belongs}
 use Rattle.ux_closure.specs.Taking.{TellsSpace}
 use Rattle.ux_masks.specs.declared.mask.Mask.{Mask}
@@ -11,19 +12,25 @@ use Rattle.ux_tokens.specs.declared.kind.Kind.{Kind}
 use Rattle.ux_walk.specs.Leads.{LeadsTo, Stack, main_stack}
 use Rattle.ux_walk.specs.Settings.{Setting}
 use Rattle.ux_automaton.specs.declared.closed.Closed.{Closed}
-use Rattle.ux_automaton.specs.Caches.{IsClosed, IsNumbered, TakeSingly, IsTransition}
+use Rattle.ux_automaton.specs.Caches.{IsBarred, IsClosed, IsNumbered, TakeSingly, IsTransition}
 use Rattle.ux_automaton.specs.Fronts.{BeginsNothing, HoldsIn, Store}
 use Rattle.ux_automaton.specs.Kept.{IsFirst}
 use Rattle.ux_automaton.specs.Onwards.{LeadNowhere, LeadOnlyTo}
-use Rattle.ux_automaton.specs.Targets.{GoesOver, IsOver}
+use Rattle.ux_automaton.specs.Targets.{GoesOver, IsOver, TakeNoToken}
 use Rattle.ux_automaton.proofs.StepLemmas.{near}
 use Rattle.ux_automaton.proofs.StoreLemmas.{nothing_held}
-use Rattle.ux_automaton.proofs.TakesLemmas.{reach, skip_bare}
+use Rattle.ux_automaton.proofs.TakesLemmas.{reach, skip_bare, takes_space}
 
 -- no walk leads anywhere from front 0
 pub nowhere_from_0 : (setting : Setting) (store : Store) (p : ℕ) →
     LeadNowhere setting (HoldsIn store 0) p
 nowhere_from_0 setting store p end (stack, held, leads) = nothing_held store stack held
+
+-- edges that may take no token take a space alone
+pub bare_only : (setting : Setting) (store : Store) (There : Stack → Type 0) (p front : ℕ) →
+    TakeNoToken setting.net There → LeadOnlyTo setting store There p front
+bare_only setting store There p front none k stack (f, fs, there, edge, of, takes, is) =
+    inl (takes_space setting edge.label p k (λ may. none f fs edge there of may) takes)
 
 module _ (setting : Setting)
     (belongs : Belongs setting.alphabet setting.tokens setting.tables) (store : Store) where
@@ -68,10 +75,12 @@ module _ (setting : Setting)
       go (inr (inr (far, inside, mask))) = absurd (near setting belongs (HoldsIn store front) p k
           stack numbered.0 numbered.1 singly over far)
 
-  -- a front leads nowhere whose closure doesn't end and leads into front 0 alone
+  -- a front leads nowhere whose closure doesn't end, leads over a token into front 0 alone, and
+  -- over a space to where no walk leads on
   pub nowhere : (front p : ℕ) (is_spaced : Bool) → TellsSpace setting p is_spaced →
       (closed : Closed) → IsClosed setting store front is_spaced closed → closed.ends ≡ false →
-      closed.over_space ≡ 0 → LeadOnlyTo setting store (HoldsIn store closed.front) p 0 →
+      LeadNowhere setting (HoldsIn store closed.over_space) (p + 1) →
+      LeadOnlyTo setting store (HoldsIn store closed.front) p 0 →
       LeadNowhere setting (HoldsIn store front) p
   nowhere front p is_spaced tells closed right no_end no_space only end leads =
       go ((right.leads p tells end).0 leads)
@@ -83,10 +92,12 @@ module _ (setting : Setting)
         where
           by : (IsSpaceAt setting.tokens p × (k ≡ p + 1))
               ⊎ ((k ≡ skip setting.tokens p + 1) × HoldsIn store 0 stack) → ⊥
-          by (inl (space, is)) = nothing_held store stack
-              (subst (λ n. HoldsIn store n stack) no_space
-              ((right.over_space p (tells.1 space) space stack).1
-              (subst (λ n. IsOver setting (HoldsIn store closed.front) p n stack) is over)))
+          by (inl (space, is)) = no_space end (
+            stack,
+            (right.over_space p (tells.1 space) space stack).1
+                (subst (λ n. IsOver setting (HoldsIn store closed.front) p n stack) is over),
+            subst (λ n. LeadsTo setting stack n end) is leads_on,
+          )
           by (inr (is, held)) = nothing_held store stack held
 
   -- nothing begins where the first front leads only to one that leads nowhere
@@ -112,3 +123,16 @@ module _ (setting : Setting)
               let same = skip_bare setting.tokens start bare in
               let at : k ≡ start + 1 = omega (arith, is, same) in
               nothing end (stack, held, subst (λ n. LeadsTo setting stack n end) at leads_on)
+
+  -- nothing begins with tokens over which the first front leads nowhere
+  pub bars : (first : ℕ) (closed : Closed) (number : ℕ) (kind : Kind) → IsFirst store first →
+      IsClosed setting store first false closed → IsTransition setting store
+      (record { front = closed.front; number = number; kind = kind; next = 0 }) →
+      IsBarred setting number kind
+  bars first closed number kind is_first right transition start numbered alone bare =
+      let same = sym (skip_bare setting.tokens start bare) in
+      begins_nothing first closed is_first right start 0
+      (token_only closed.front number 0 start kind transition
+      (subst (λ n. IsNumbered setting.tokens n number kind) same numbered)
+      (inl (subst (λ n. IsAlone setting.tokens setting.tables n) same alone)))
+      (nowhere_from_0 setting store (start + 1)) bare

@@ -1,10 +1,19 @@
 -- What values numbers have as places are added and one is written.
-use Rattle.std.proofs.Common.{◌≡◌, ℕ, zero, suc, List, [], ◌∷◌, ◌++◌, ◌⊎◌, inl, inr, refl, sym, ap, set}
+use Rattle.std.proofs.Common.{◌≡◌, ℕ, zero, suc, List, [], ◌∷◌, ◌++◌, ◌⊎◌, inl, inr, refl, sym, ap, set, subst}
 use Rattle.std.specs.Prelude.{Option, Some, None}
 use Rattle.std.proofs.lemmas.Option.{none-some, same_Some}
 use Rattle.ux_automaton.specs.Caches.{HasValue}
 
 module _ {V : Type 0} where
+  -- no place, no value
+  pub nothing_given : (slots : List (Option V)) → slots ≡ [] → (n : ℕ) (v : V) →
+      HasValue slots n v → ⊥
+  nothing_given slots is n v h = go n (subst (λ (l : List (Option V)). HasValue l n v) is h)
+    where
+      go : (m : ℕ) → HasValue [] m v → ⊥
+      go zero at = none-some (Some v) at
+      go (suc m) at = none-some (Some v) at
+
   -- a place that is added has no value
   pub added_none : (slots : List (Option V)) (n : ℕ) (v : V) →
       HasValue (slots ++ None ∷ []) n v → HasValue slots n v

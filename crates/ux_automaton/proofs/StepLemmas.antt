@@ -29,12 +29,12 @@ use Rattle.ux_automaton.specs.Kept.{Grows, IsSound, IsStand}
 use Rattle.ux_automaton.specs.Landings.{AreLandings}
 use Rattle.ux_automaton.specs.Onwards.{IsFrontOver, IsOnward}
 use Rattle.ux_automaton.specs.Steps.{IsStep, LeadsFromLanding}
-use Rattle.ux_automaton.specs.Targets.{GoesOver, IsEdgeOf, IsOver, IsTarget}
+use Rattle.ux_automaton.specs.Targets.{GoesOver, IsEdgeOf, IsOver, IsTarget, MayTakeToken, TakeNoToken}
 use Rattle.ux_automaton.proofs.AddingLemmas.{nothing_in}
 use Rattle.ux_automaton.proofs.CacheLemmas.{goes_same, leads_same, over_same, through}
 use Rattle.ux_automaton.proofs.OverLemmas.{closure_leads, front_over, leads_by}
 use Rattle.ux_automaton.proofs.StoreLemmas.{front_kept, grows_on, holds_kept, names_same, nothing_held}
-use Rattle.ux_automaton.proofs.TakesLemmas.{alone_near, numbered_within, reach, same_token, space_alike, space_within, token_alike}
+use Rattle.ux_automaton.proofs.TakesLemmas.{alone_near, numbered_within, reach, same_token, skip_space, space_alike, space_within, takes_space, token_alike}
 
 -- the known of a setting and a store
 abbrev pub known_at : Setting → Store → Known
@@ -142,6 +142,33 @@ module _ (setting : Setting)
       beyond k stack (f, fs, there, edge, of, takes, is) far =
           let within = (reach setting belongs edge.label p k takes).within in
           omega (arith, within, past, far)
+
+  -- where no edge may take a token
+  pub bare_onward : (store : Store) (There : Stack → Type 0) (p : ℕ) (onward : Onward) →
+      TakeNoToken setting.net There → onward.over_token ≡ 0 → onward.landings.items ≡ [] →
+      IsOnward setting store There p onward
+  bare_onward store There p onward no_token zero_is none = record {
+    token = record {
+      there = omega (arith, zero_is);
+      stacks = λ stack. (
+        λ h. absurd (nothing_held store stack (subst (λ n. HoldsIn store n stack) zero_is h)),
+        λ h. absurd (beyond (skip setting.tokens p + 1) stack h (omega arith)),
+      );
+    };
+    token_within = inl zero_is;
+    landings = λ landing inside.
+        absurd (nothing_in (subst (λ (l : List Landing). Contains l landing) none inside));
+    all = λ k stack over far. absurd (beyond k stack over (omega (arith, far)));
+  }
+    where
+      beyond : (k : ℕ) (stack : Stack) → IsOver setting There p k stack →
+          skip setting.tokens p < k → ⊥
+      beyond k stack (f, fs, there, edge, of, takes, is) far =
+          let space = takes_space setting edge.label p k
+          (λ may. no_token f fs edge there of may) takes in
+          let past = skip_space setting.tokens p space.0 in
+          let at = space.1 in
+          omega (arith, past, at, far)
 
   -- a transition tells all where no span of several tokens begins
   pub singly_onward : (store : Store) (old : Store) (front number p : ℕ) (kind : Kind)
@@ -405,8 +432,11 @@ module _ (setting : Setting)
         (closed.has_masks ≡ false → (stand : Stand) (edge : Edge) (mask : Mask) →
         Contains closure.stands.items stand → IsEdgeOf setting.net stand.here edge →
         edge.label ≡ label.Mask mask → ⊥) →
+        (closed.takes_tokens ≡ false → (stand : Stand) (edge : Edge) →
+        Contains closure.stands.items stand → IsEdgeOf setting.net stand.here edge →
+        MayTakeToken edge.label → ⊥) →
         IsClosed setting three front is_spaced closed
-    close_right space_there spaced bare masks =
+    close_right space_there spaced bare masks tokens =
         let whole = grows_on zero_store two three (grows_on zero_store one two first second) third in
         let kept = holds_kept zero_store three sound whole front there in record {
           front_there = front_kept zero_store three sound whole front there;
@@ -438,8 +468,15 @@ module _ (setting : Setting)
               let both : true ≡ false = sym yes ∙ no in cc);
           masks = λ none f fs edge mask held of has. no_mask none f fs edge mask
               ((at_two (f ∷ fs)).1 held) of has;
+          tokens = λ none f fs edge held of may. no_token none f fs edge
+              ((at_two (f ∷ fs)).1 held) of may;
         }
       where
+        no_token : closed.takes_tokens ≡ false → (f : Frame) (fs : Stack) (edge : Edge) →
+            Given two (f ∷ fs) → IsEdgeOf setting.net f edge → MayTakeToken edge.label → ⊥
+        no_token none f fs edge (stand, inside, (here, names)) of may = tokens none stand edge inside
+            (subst (λ (x : Frame). IsEdgeOf setting.net x edge) (sym here) of) may
+
         no_mask : closed.has_masks ≡ false → (f : Frame) (fs : Stack) (edge : Edge) (mask : Mask) →
             Given two (f ∷ fs) → IsEdgeOf setting.net f edge → edge.label ≡ label.Mask mask → ⊥
         no_mask none f fs edge mask (stand, inside, (here, names)) of has =

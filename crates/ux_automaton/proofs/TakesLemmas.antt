@@ -16,7 +16,7 @@ use Rattle.ux_outputs.specs.Rendering.{kind_of, skip, skip_past}
 use Rattle.ux_meaning.specs.Texts.{FoldsTo, IsBraced, IsSpaceAt, MayStandFor}
 use Rattle.ux_walk.specs.Settings.{Setting}
 use Rattle.ux_automaton.specs.Caches.{IsNumbered}
-use Rattle.ux_automaton.specs.Targets.{Takes}
+use Rattle.ux_automaton.specs.Targets.{MayTakeToken, Takes}
 
 module _ (tokens : List Token) where
   pub skip_space : (p : ℕ) → IsSpaceAt tokens p → skip tokens p ≡ p + 1
@@ -52,6 +52,16 @@ module _ (tokens : List Token) where
   pub numbered_within : (p number : ℕ) (kind : Kind) → IsNumbered tokens p number kind →
       p < length tokens
   numbered_within p number kind (token, at, is, text) = slice_get_within tokens p token at
+
+-- a label that may take no token takes a space alone, if anything
+pub takes_space : (setting : Setting) (x : Label) (p k : ℕ) → (MayTakeToken x → ⊥) →
+    Takes setting x p k → IsSpaceAt setting.tokens p × (k ≡ p + 1)
+takes_space setting (label.Fold text) p k never takes = absurd (never tt)
+takes_space setting (label.Exact text) p k never takes = absurd (never tt)
+takes_space setting (label.Mask mask) p k never takes = absurd (never tt)
+takes_space setting (label.Brace text) p k never takes = absurd (never tt)
+takes_space setting (label.Space) p k never (plain, t) = t
+takes_space setting _ p k never (plain, t) = absurd t
 
 -- how far a label takes tokens: over a space, over one token behind an optional space, or farther
 pub record Reach (setting : Setting) (x : Label) (p k : ℕ) : Type 0 where

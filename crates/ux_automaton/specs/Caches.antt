@@ -11,8 +11,8 @@ use Rattle.ux_walk.specs.Leads.{LeadsFrom, Stack}
 use Rattle.ux_walk.specs.Settings.{Setting}
 use Rattle.ux_automaton.specs.declared.closed.Closed.{Closed}
 use Rattle.ux_automaton.specs.declared.transitions.Transition.{Transition}
-use Rattle.ux_automaton.specs.Fronts.{Store, HoldsIn, IsFrontIn}
-use Rattle.ux_automaton.specs.Targets.{GoesOver, HaveNoMask, IsOver}
+use Rattle.ux_automaton.specs.Fronts.{BeginsNothing, Store, HoldsIn, IsFrontIn}
+use Rattle.ux_automaton.specs.Targets.{GoesOver, HaveNoMask, IsOver, TakeNoToken}
 
 -- the slot of this number has the value
 abbrev pub HasValue : {V : Type 0} → List (Option V) → ℕ → V → Type 0
@@ -27,6 +27,13 @@ IsNumbered tokens place number kind = (token : Token) × (slice_get tokens place
 abbrev pub TakeSingly : Setting → (IsThere : Stack → Type 0) → (place : ℕ) → Type 0
 TakeSingly setting IsThere place =
     IsAlone setting.tokens setting.tables place ⊎ HaveNoMask setting.net IsThere
+
+-- nothing begins with a token of this number and kind, where no space stands and no span of several
+-- tokens begins
+abbrev pub IsBarred : Setting → (number : ℕ) → Kind → Type 0
+IsBarred setting number kind = (start : ℕ) → IsNumbered setting.tokens start number kind →
+    IsAlone setting.tokens setting.tables start → (IsSpaceAt setting.tokens start → ⊥) →
+    BeginsNothing setting start
 
 module _ (setting : Setting) (store : Store) where
   -- what is kept of a front is right, where a space stands or where none does
@@ -44,6 +51,8 @@ module _ (setting : Setting) (store : Store) where
     pub no_space : is_spaced ≡ false → closed.over_space ≡ 0
     pub masks : closed.has_masks ≡ false →
         HaveNoMask setting.net (HoldsIn store closed.front)
+    pub tokens : closed.takes_tokens ≡ false →
+        TakeNoToken setting.net (HoldsIn store closed.front)
 
   -- a transition leads from the stacks of a front over each token of its number and kind
   pub record IsTransition (transition : Transition) : Type 0 where

@@ -12,6 +12,7 @@ use Rattle.ux_automaton.specs.declared.front_index.Fitting.{Fitting}
 use Rattle.ux_automaton.specs.declared.front_index.FrontIndex.{FrontIndex}
 use Rattle.ux_automaton.specs.declared.front_indexes.FrontIndexes.{FrontIndexes}
 use Rattle.ux_automaton.specs.declared.given.Given.{Given}
+use Rattle.ux_automaton.specs.Fronts.{Store, HasStand, IsFrontIn}
 use Rattle.ux_automaton.specs.Targets.{IsEdgeOf}
 
 abbrev pub number_of : Fitting → ℕ
@@ -30,27 +31,30 @@ FitsOver given stand fitting = (edge : Edge) × IsEdgeOf given.net.now stand.her
 abbrev pub HasOther : List NetGraph → Stand → Type 0
 HasOther net stand = (edge : Edge) × IsEdgeOf net stand.here edge × (IsLiteral edge.label → ⊥)
 
--- Each stand is listed with each token that a literal of it fits, in the order of the tokens'
--- numbers, and stands apart if it has another edge.
-pub record IsFrontIndex (given : Given) (index : FrontIndex) : Type 0 where
-  pub ordered : IsNonDecreasingBy number_of index.fittings.items
-  pub fittings : (fitting : Fitting) → Contains index.fittings.items fitting
-      ↔ ((stand : Stand) × Contains index.stands.items stand × FitsOver given stand fitting)
-  pub others : (other : Stand) → Contains index.others.items other
-      ↔ ((stand : Stand) × Contains index.stands.items stand
-      × ((other ≡ stand) × HasOther given.net.now stand))
+-- Each of these stands is listed with each token that a literal of it fits, in the order of the
+-- tokens' numbers, and stands apart if it has another edge.
+pub record IsFrontIndex (given : Given) (IsThere : Stand → Type 0) (index : FrontIndex) : Type 0
+  where
+    pub ordered : IsNonDecreasingBy number_of index.fittings.items
+    pub fittings : (fitting : Fitting) → Contains index.fittings.items fitting
+        ↔ ((stand : Stand) × IsThere stand × FitsOver given stand fitting)
+    pub others : (other : Stand) → Contains index.others.items other
+        ↔ ((stand : Stand) × IsThere stand × ((other ≡ stand) × HasOther given.net.now stand))
 
--- few of all stands: those of which a literal fits the text of the token, or that have another edge
-pub record AreLikely (given : Given) (text : List ℕ) (all few : List Stand) : Type 0 where
-  pub among : (stand : Stand) → Contains few stand → Contains all stand
-  pub enough : (stand : Stand) → Contains all stand → (edge : Edge) →
+-- few of these stands: those of which a literal fits the text of the token, or that have another
+-- edge
+pub record AreLikely (given : Given) (text : List ℕ) (IsThere : Stand → Type 0) (few : List Stand)
+    : Type 0 where
+  pub among : (stand : Stand) → Contains few stand → IsThere stand
+  pub enough : (stand : Stand) → IsThere stand → (edge : Edge) →
       IsEdgeOf given.net.now stand.here edge →
       FitsText given.alphabet.now edge.label text ⊎ (IsLiteral edge.label → ⊥) →
       Contains few stand
 
--- the words are those of the text, and each index is right
-pub record AreFrontsIndexed (given : Given) (known : FrontIndexes) : Type 0 where
+-- the words are those of the text, and each index is that of its front's stands
+pub record AreFrontsIndexed (given : Given) (store : Store) (known : FrontIndexes) : Type 0 where
   pub ready : (words : Words) → known.words ≡ Some words →
       AreReady given.alphabet.now (different_texts given.text.now) words
   pub indexes : (front : ℕ) (index : FrontIndex) →
-      Contains known.indexes.entries (front, index) → IsFrontIndex given index
+      Contains known.indexes.entries (front, index) →
+      IsFrontIn store front × IsFrontIndex given (HasStand store front) index

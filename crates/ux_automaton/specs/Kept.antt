@@ -4,6 +4,7 @@ use Rattle.std.specs.Prelude.{◌≡◌, ◌↔◌, ◌≤◌, ℕ, List, Bool, 
 use Rattle.ux_apply.specs.Accepting.{IsAlone}
 use Rattle.ux_apply.specs.Belonging.{Belongs}
 use Rattle.ux_closure.specs.declared.stand.Stand.{Stand}
+use Rattle.ux_tokens.specs.declared.kind.Kind.{Kind}
 use Rattle.ux_tokens.specs.Numbers.{different_texts}
 use Rattle.ux_walk.specs.declared.lists.Link.{Link}
 use Rattle.ux_walk.specs.declared.look_ups.LookUps.{LookUps}
@@ -21,7 +22,7 @@ use Rattle.ux_automaton.specs.declared.transitions.Transition.{Transition}
 use Rattle.ux_automaton.specs.declared.transitions.Transitions.{Transitions}
 use Rattle.ux_automaton.specs.FrontIndexes.{AreFrontsIndexed}
 use Rattle.ux_automaton.specs.Fronts.{Known, Store, HoldsIn, IsFrontIn}
-use Rattle.ux_automaton.specs.Caches.{HasValue, IsClosed, IsTransition}
+use Rattle.ux_automaton.specs.Caches.{HasValue, IsBarred, IsClosed, IsTransition}
 
 -- the setting of what was given
 abbrev pub setting_in : Given → Setting
@@ -86,6 +87,8 @@ pub record AreRight (setting : Setting) (kept : Kept) : Type 0 where
       IsClosed setting (store_of kept.fronts) front is_spaced closed
   pub transitions : (transition : Transition) → HasTransition kept.transitions transition →
       IsTransition setting (store_of kept.fronts) transition
+  pub barred : (number : ℕ) (kind : Kind) → HasValue kept.barred.items number kind →
+      IsBarred setting number kind
 
 -- what contracts see of what is kept
 abbrev pub known_in : Given → Kept → Known
@@ -106,4 +109,5 @@ pub record IsConsistent (a : Inside) : Type 0 where
   pub marked : AreMarked (setting_in a.given) a.marks.items
   pub right : IsTrue a.is_whole → AreRight (setting_in a.given) a.kept
   pub indexed : IsTrue a.is_whole → AreIndexed a.given a.look_ups
-  pub fronts_indexed : IsTrue a.is_whole → AreFrontsIndexed a.given a.front_indexes
+  pub fronts_indexed : IsTrue a.is_whole →
+      AreFrontsIndexed a.given (store_of a.kept.fronts) a.front_indexes

@@ -4,7 +4,7 @@ use Rattle.ux_closure.specs.declared.stand.Stand.{Stand}
 use Rattle.ux_closure.specs.Passing.{behind}
 use Rattle.ux_masks.specs.declared.mask.Mask as masks
 use Rattle.ux_net.specs.declared.label.Label.{Label}
-use Rattle.ux_net.specs.declared.label.Label.TheVariants.{Mask}
+use Rattle.ux_net.specs.declared.label.Label.TheVariants.{Fold, Exact, Mask, Brace}
 use Rattle.ux_net.specs.declared.net_graph.NetGraph.{NetGraph}
 use Rattle.ux_net.specs.declared.state.Edge.{Edge}
 use Rattle.ux_net.specs.declared.state.State.{State}
@@ -40,6 +40,19 @@ GoesOver setting IsThere p end = (k : ℕ) × (stack : Stack) × IsOver setting 
 abbrev pub HaveNoMask : List NetGraph → (IsThere : Stack → Type 0) → Type 0
 HaveNoMask net IsThere = (f : Frame) (fs : Stack) (edge : Edge) (mask : masks.Mask) →
     IsThere (f ∷ fs) → IsEdgeOf net f edge → edge.label ≡ Mask mask → ⊥
+
+-- a label that may take a token, and not a space alone
+abbrev pub MayTakeToken : Label → Type 0
+MayTakeToken (Fold text) = Unit {0}
+MayTakeToken (Exact text) = Unit {0}
+MayTakeToken (Mask mask) = Unit {0}
+MayTakeToken (Brace text) = Unit {0}
+MayTakeToken other = ⊥
+
+-- no edge of these stacks has such a label
+abbrev pub TakeNoToken : List NetGraph → (IsThere : Stack → Type 0) → Type 0
+TakeNoToken net IsThere = (f : Frame) (fs : Stack) (edge : Edge) → IsThere (f ∷ fs) →
+    IsEdgeOf net f edge → MayTakeToken edge.label → ⊥
 
 -- the target of an edge: where it leads in place of the stand's first frame, and the position
 abbrev pub IsTargetOver : Setting → (p : ℕ) → Stand → Edge → Target → Type 0

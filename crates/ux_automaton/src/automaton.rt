@@ -96,9 +96,12 @@ impl<'a> Automaton<'a> {
             BeginsNothing self.now.setting start }
     {
         !self.is_whole
-            || self
-                .kept
-                .may_begin(&self.given, self.marks.as_slice(), start)
+            || self.kept.may_begin(
+                &self.given,
+                &self.front_indexes,
+                self.marks.as_slice(),
+                start,
+            )
     }
 
     /// The front with which a walk begins. Fronts of earlier walks aren't fronts any more: what is

@@ -13,6 +13,7 @@ ghost use Rattle.ux_automaton.specs.Targets.{IsOver};
 use crate::fronts::Fronts;
 use crate::given::Given;
 use crate::slots::{give, value_of};
+use crate::takers::may_take;
 use crate::targets::{front_at, have_mask, targets_of};
 use std::alloc::Global;
 use std::sync::ledger::Ledger;
@@ -30,6 +31,8 @@ pub struct Closed {
     pub ends: bool,
     /// Whether an edge there may have a mask.
     pub has_masks: bool,
+    /// Whether an edge there may take a token, and not a space alone.
+    pub takes_tokens: bool,
     /// The front after the space that stands there, if one does.
     pub over_space: usize,
 }
@@ -110,6 +113,7 @@ pub fn close<'t, L: Ledger>(
         front: closed,
         ends: closure.ends,
         has_masks: have_mask(given.net, stands),
+        takes_tokens: may_take(given.net, stands),
         over_space,
     })
 }

@@ -4,7 +4,7 @@
 //! The index lists each stand with the number of each token that a literal of it fits, in the order
 //! of these numbers, and the stands apart that have another edge.
 
-ghost use Rattle.std.specs.Prelude.{◌≡◌, ◌↔◌, ◌⊎◌, ℕ, List, Contains, IfOk, IsTrue, OnOk, Some, drop, map, slice_get, take, true};
+ghost use Rattle.std.specs.Prelude.{◌≡◌, ◌↔◌, ◌⊎◌, [], ℕ, List, Contains, IfOk, IsTrue, OnOk, Some, drop, map, slice_get, take};
 ghost use Rattle.std.specs.List.Sorted.{IsNonDecreasingBy, IsPermutation};
 ghost use Rattle.ux_closure.specs.declared.stand.Stand.{Stand as TheStand};
 ghost use Rattle.ux_net.specs.declared.state.Edge.{Edge as TheEdge};
@@ -13,6 +13,7 @@ ghost use Rattle.ux_walk.specs.Literals.{AreReady, IsFitted, IsLiteral};
 ghost use Rattle.ux_automaton.specs.declared.front_index.Fitting.{Fitting as TheFitting};
 ghost use Rattle.ux_automaton.specs.declared.given.Given.{Given as TheGiven};
 ghost use Rattle.ux_automaton.specs.FrontIndexes.{AreLikely, FitsOver, HasOther, IsFrontIndex, number_of, stand_of};
+ghost use Rattle.ux_automaton.specs.Fronts.{HasStand, Store};
 
 use crate::given::Given;
 use std::alloc::Global;
@@ -33,8 +34,6 @@ pub struct Fitting {
 /// The stands of a front, by the tokens that their literals fit.
 #[derive(Drop)]
 pub struct FrontIndex {
-    /// All of them.
-    stands: Vec<Stand>,
     /// Each with each token that a literal of it fits, in the order of the tokens' numbers.
     fittings: Vec<Fitting>,
     /// Those that have an edge that is no literal.
@@ -44,45 +43,47 @@ pub struct FrontIndex {
 impl FrontIndex {
     /// The index of these stands. Takes the comparisons that `Words::cost` tells of so many labels,
     /// and a sorting of what was found.
-    pub fn of(alloc: Global, words: &Words, given: &Given, stands: Vec<Stand>) -> Mem<FrontIndex>
+    pub fn of(alloc: Global, words: &Words, given: &Given, stands: &[Stand]) -> Mem<FrontIndex>
         requires { AreReady given.now.alphabet.now (different_texts given.now.text.now) words.now }
-        ensures { IfOk result (IsFrontIndex given.now) }
+        ensures { IfOk result (IsFrontIndex given.now (Contains stands.now)) }
     {
-        let mut fittings = fittings_of(alloc, words, given, stands.as_slice())?;
-        let others = others_of(alloc, given.net, stands.as_slice())?;
+        let mut fittings = fittings_of(alloc, words, given, stands)?;
+        let others = others_of(alloc, given.net, stands)?;
         sort(&mut fittings);
-        Ok(FrontIndex {
-            stands,
-            fittings,
-            others,
-        })
-    }
-
-    /// Whether it is the index of these stands.
-    pub fn is_of(&self, stands: &[Stand]) -> bool
-        ensures { IsTrue result → self.now.stands.items ≡ stands.now }
-    {
-        are_same(self.stands.as_slice(), stands)
+        Ok(FrontIndex { fittings, others })
     }
 
     /// The stands that may lead on over the token of this number. Takes a look-up, and a step for
     /// each of them.
     pub fn likely(&self, alloc: Global, number: u32) -> Mem<Vec<Stand>>
-        ensures { (given : TheGiven) (text : List ℕ) → IsFrontIndex given self.now →
+        ensures { (given : TheGiven) (text : List ℕ) (store : Store) (front : ℕ) →
+            IsFrontIndex given (HasStand store front) self.now →
             slice_get (different_texts given.text.now) number ≡ Some text →
-            IfOk result (λ few. AreLikely given text self.now.stands.items few.items) }
+            IfOk result (λ few. AreLikely given text (HasStand store front) few.items) }
     {
         let mut few = stands_of(alloc, run(self.fittings.as_slice(), number))?;
         few.extend_from_slice(self.others.as_slice())?;
         Ok(few)
     }
 
-    /// How many pairs of a stand and a token it keeps, and stands.
+    /// Whether it is known that none of the stands leads on over the token of this number. Takes a
+    /// look-up.
+    pub fn has_none(&self, number: u32) -> bool
+        ensures { (given : TheGiven) (text : List ℕ) (store : Store) (front : ℕ) →
+            IsFrontIndex given (HasStand store front) self.now →
+            slice_get (different_texts given.text.now) number ≡ Some text →
+            IsTrue result → AreLikely given text (HasStand store front) [] }
+    {
+        are_none(
+            self.others.as_slice(),
+            run(self.fittings.as_slice(), number),
+        )
+    }
+
+    /// How many pairs of a stand and a token it keeps, and other stands, and one for itself.
     pub fn size(&self) -> usize {
-        self.fittings
-            .len()
-            .saturating_add(self.stands.len())
-            .saturating_add(self.others.len())
+        let kept = self.fittings.len().saturating_add(self.others.len());
+        kept.saturating_add(1)
     }
 }
 
@@ -217,14 +218,6 @@ fn is_literal(label: &Label) -> bool
     matches!(label, Label::Fold(_) | Label::Exact(_))
 }
 
-/// Whether both lists are the same.
-fn are_same<T: Eq>(one: &[T], other: &[T]) -> bool
-    requires { (a b : T) → T.eq a b ≡ true → a ≡ b }
-    ensures { IsTrue result → one.now ≡ other.now }
-{
-    one == other
-}
-
 /// Puts them in the order of the tokens' numbers.
 fn sort(fittings: &mut Vec<Fitting>)
     ensures same { IsPermutation fittings.old.items fittings.new.items }
@@ -244,6 +237,14 @@ fn run(fittings: &[Fitting], number: u32) -> &[Fitting]
     let rest = behind(fittings, start);
     let count = rest.partition_point(|fitting| fitting.number <= number);
     front(rest, count)
+}
+
+/// Whether there is neither another stand nor a fitting.
+fn are_none(others: &[Stand], fittings: &[Fitting]) -> bool
+    ensures others { IsTrue result → others.now ≡ [] }
+    ensures fittings { IsTrue result → fittings.now ≡ [] }
+{
+    others.is_empty() && fittings.is_empty()
 }
 
 /// What stands from a place on.

@@ -4,12 +4,16 @@
 //! beyond that, all stands are tried. They are let go with the fronts. The list of the different
 //! tokens stays.
 
-ghost use Rattle.std.specs.Prelude.{◌≡◌, ◌⊎◌, ℕ, true, List, Contains, IfOk, IfSome, OnOk, Some, slice_get};
+ghost use Rattle.std.specs.Prelude.{◌≡◌, ◌↔◌, ◌⊎◌, [], ℕ, true, List, Contains, IfOk, IfSome, IsTrue, OnOk, Some, slice_get};
+ghost use Rattle.ux_closure.specs.declared.stand.Stand.{Stand as TheStand};
 ghost use Rattle.ux_tokens.specs.Numbers.{different_texts};
 ghost use Rattle.ux_automaton.specs.declared.given.Given.{Given as TheGiven};
 ghost use Rattle.ux_automaton.specs.FrontIndexes.{AreFrontsIndexed, AreLikely, IsFrontIndex};
+ghost use Rattle.ux_automaton.specs.Fronts.{HasStand, IsFrontIn, Store};
+ghost use Rattle.ux_automaton.specs.Kept.{IsSound, store_of};
 
 use crate::front_index::FrontIndex;
+use crate::fronts::Fronts;
 use crate::given::Given;
 use indexmap::IndexMap;
 use std::alloc::Global;
@@ -19,7 +23,7 @@ use ux_closure::stand::Stand;
 use ux_net::Net;
 use ux_walk::words::Words;
 
-/// As many stands are tried one by one: no index of them is made.
+/// As many stands are tried one by one: no index of them is made before one of more was.
 const FEW: usize = 8;
 
 /// As many comparisons of a literal with a token are spent to make indexes.
@@ -44,7 +48,7 @@ pub struct FrontIndexes<'t> {
 impl<'t> FrontIndexes<'t> {
     /// No index yet. Takes no memory.
     pub fn new(alloc: Global) -> FrontIndexes<'t>
-        ensures { (given : TheGiven) → AreFrontsIndexed given result }
+        ensures { (given : TheGiven) (store : Store) → AreFrontsIndexed given store result }
     {
         FrontIndexes {
             words: None,
@@ -54,62 +58,89 @@ impl<'t> FrontIndexes<'t> {
         }
     }
 
-    /// Lets all indexes go.
+    /// Lets all indexes go, so that there may be other fronts.
     pub fn let_go(&mut self, alloc: Global)
-        ensures { (given : TheGiven) → AreFrontsIndexed given self.old →
-            AreFrontsIndexed given self.new }
+        ensures { (given : TheGiven) (old new : Store) → AreFrontsIndexed given old self.old →
+            AreFrontsIndexed given new self.new }
     {
         self.indexes = IndexMap::new(alloc);
         self.compared = MOST_COMPARED;
         self.kept = MOST_KEPT;
     }
 
-    /// Those of a front's stands that may lead on over the token of this number. Where no index can
-    /// be made, they are all.
+    /// Whether it is known that no stand of the front leads on over the token of this number.
+    pub fn has_none(&self, front: usize, number: u32) -> bool
+        ensures { (given : TheGiven) (store : Store) (text : List ℕ) →
+            AreFrontsIndexed given store self.now →
+            slice_get (different_texts given.text.now) number ≡ Some text →
+            IsTrue result → AreLikely given text (HasStand store front) [] }
+    {
+        match at(&self.indexes, front) {
+            Some(index) => index.has_none(number),
+            None => false,
+        }
+    }
+
+    /// Those of a front's stands that may lead on over the token of this number. Where the front has
+    /// no index yet, they are all, and its index is made if that is worth its cost.
     pub fn likely(
         &mut self,
         alloc: Global,
         given: &Given<'t>,
+        fronts: &Fronts,
         front: usize,
-        stands: Vec<Stand>,
         number: u32,
     ) -> Mem<Vec<Stand>>
-        requires indexed { AreFrontsIndexed given.now self.now }
-        ensures indexed { AreFrontsIndexed given.now self.new }
+        requires indexed { AreFrontsIndexed given.now (store_of fronts.now) self.now }
+        requires sound { IsSound (store_of fronts.now) }
+        requires there { IsFrontIn (store_of fronts.now) front }
+        ensures indexed { AreFrontsIndexed given.now (store_of fronts.now) self.new }
         ensures likely { (text : List ℕ) →
             slice_get (different_texts given.now.text.now) number ≡ Some text →
-            IfOk result (λ few. AreLikely given.now text stands.items few.items) }
+            IfOk result (λ few.
+            AreLikely given.now text (HasStand (store_of fronts.now) front) few.items) }
     {
-        if stands.len() <= FEW {
-            return Ok(stands);
+        if let Some(index) = at(&self.indexes, front) {
+            return index.likely(alloc, number);
         }
-        self.meet(alloc, given, front, stands.as_slice())?;
-        let Some(index) = at(&self.indexes, front) else {
-            return Ok(stands);
-        };
-        if !index.is_of(stands.as_slice()) {
-            return Ok(stands);
-        }
-        index.likely(alloc, number)
+        let stands = fronts.stands(alloc, front)?;
+        self.meet(alloc, given, fronts, front, stands.as_slice())?;
+        Ok(stands)
     }
 
-    /// Makes the index of a front with these stands, unless it is kept or the bounds are reached.
-    /// The first time it takes a step a token of the text.
-    fn meet(&mut self, alloc: Global, given: &Given<'t>, front: usize, stands: &[Stand]) -> Mem<()>
-        requires { AreFrontsIndexed given.now self.now }
-        ensures { AreFrontsIndexed given.now self.new }
+    /// Whether an index of these stands is worth its cost. Where the list of the different tokens is
+    /// there, that is little for few stands of few edges.
+    fn is_worth(&self, net: &Net, stands: &[Stand]) -> bool {
+        FEW < stands.len() || (self.words.is_some() && edges_in(net, stands) <= FEW)
+    }
+
+    /// Makes the index of a front, which has these stands, where it is worth its cost and the bounds
+    /// allow it. The first time it takes a step a token of the text.
+    fn meet(
+        &mut self,
+        alloc: Global,
+        given: &Given<'t>,
+        fronts: &Fronts,
+        front: usize,
+        stands: &[Stand],
+    ) -> Mem<()>
+        requires indexed { AreFrontsIndexed given.now (store_of fronts.now) self.now }
+        requires there { IsFrontIn (store_of fronts.now) front }
+        requires stands { (stand : TheStand) →
+            Contains stands.now stand ↔ HasStand (store_of fronts.now) front stand }
+        ensures { AreFrontsIndexed given.now (store_of fronts.now) self.new }
     {
-        if self.kept == 0 || at(&self.indexes, front).is_some() {
+        if self.kept == 0 || !self.is_worth(given.net, stands) {
             return Ok(());
         }
-        self.know_words(alloc, given)?;
-        self.add_index(alloc, given, front, stands)
+        self.know_words(alloc, given, fronts)?;
+        self.add_index(alloc, given, fronts, front, stands)
     }
 
     /// Makes the list of the different tokens, where it is missing.
-    fn know_words(&mut self, alloc: Global, given: &Given<'t>) -> Mem<()>
-        requires { AreFrontsIndexed given.now self.now }
-        ensures { AreFrontsIndexed given.now self.new }
+    fn know_words(&mut self, alloc: Global, given: &Given<'t>, fronts: &Fronts) -> Mem<()>
+        requires { AreFrontsIndexed given.now (store_of fronts.now) self.now }
+        ensures { AreFrontsIndexed given.now (store_of fronts.now) self.new }
     {
         if self.words.is_some() {
             return Ok(());
@@ -119,10 +150,20 @@ impl<'t> FrontIndexes<'t> {
         Ok(())
     }
 
-    /// Makes the index of a front with these stands, where the bounds allow it.
-    fn add_index(&mut self, alloc: Global, given: &Given, front: usize, stands: &[Stand]) -> Mem<()>
-        requires { AreFrontsIndexed given.now self.now }
-        ensures { AreFrontsIndexed given.now self.new }
+    /// Makes the index of a front, which has these stands, where the bounds allow it.
+    fn add_index(
+        &mut self,
+        alloc: Global,
+        given: &Given,
+        fronts: &Fronts,
+        front: usize,
+        stands: &[Stand],
+    ) -> Mem<()>
+        requires indexed { AreFrontsIndexed given.now (store_of fronts.now) self.now }
+        requires there { IsFrontIn (store_of fronts.now) front }
+        requires stands { (stand : TheStand) →
+            Contains stands.now stand ↔ HasStand (store_of fronts.now) front stand }
+        ensures { AreFrontsIndexed given.now (store_of fronts.now) self.new }
     {
         let Some(words) = &self.words else {
             return Ok(());
@@ -131,9 +172,7 @@ impl<'t> FrontIndexes<'t> {
         if self.compared < cost {
             return Ok(());
         }
-        let mut own = Vec::new(alloc);
-        own.extend_from_slice(stands)?;
-        let index = FrontIndex::of(alloc, words, given, own)?;
+        let index = FrontIndex::of(alloc, words, given, stands)?;
         self.compared -= cost;
         self.kept = self.kept.saturating_sub(index.size());
         put_at(&mut self.indexes, front, index)

@@ -10,19 +10,21 @@ ghost use Rattle.ux_outputs.specs.Rendering.{skip as skip_of};
 ghost use Rattle.ux_closure.specs.Taking.{TellsSpace};
 ghost use Rattle.ux_walk.specs.Leads.{Stack as TheStack};
 ghost use Rattle.ux_walk.specs.Settings.{Setting};
-ghost use Rattle.ux_automaton.specs.Caches.{IsClosed, IsNumbered, IsTransition, TakeSingly};
+ghost use Rattle.ux_apply.specs.Accepting.{IsAlone};
+ghost use Rattle.ux_automaton.specs.Caches.{HasValue, IsClosed, IsNumbered, IsTransition, TakeSingly};
 ghost use Rattle.ux_automaton.specs.FrontIndexes.{AreFrontsIndexed};
 ghost use Rattle.ux_automaton.specs.Fronts.{BeginsNothing, HoldsIn, IsFrontIn};
 ghost use Rattle.ux_automaton.specs.Kept.{AreIndexed, AreMarked, AreRight, BelongIn, Grows, IsFirst, IsSound, known_in, setting_in, store_of};
 ghost use Rattle.ux_automaton.specs.Onwards.{IsOnward, LeadNowhere, LeadOnlyTo};
 ghost use Rattle.ux_automaton.specs.Steps.{IsStep};
-ghost use Rattle.ux_automaton.specs.Targets.{HaveNoMask};
+ghost use Rattle.ux_automaton.specs.Targets.{HaveNoMask, TakeNoToken};
 
 use crate::closed::{Closed, Closures, close};
 use crate::front_indexes::FrontIndexes;
 use crate::fronts::Fronts;
 use crate::given::Given;
 use crate::onward::{Onward, onward_anew, over_token};
+use crate::slots::{give, value_of};
 use crate::step::Step;
 use crate::transitions::{Transition, Transitions};
 use std::alloc::Global;
@@ -45,6 +47,8 @@ pub struct Kept {
     closures: Closures,
     /// Transitions from closed fronts.
     transitions: Transitions,
+    /// The kind of the tokens of a number with which nothing begins.
+    barred: Vec<Option<Kind>>,
 }
 
 impl Kept {
@@ -63,6 +67,7 @@ impl Kept {
             first,
             closures: Closures::new(alloc),
             transitions: Transitions::new(alloc, different)?,
+            barred: Vec::new(alloc),
         })
     }
 
@@ -80,29 +85,117 @@ impl Kept {
     }
 
     /// Whether anything may be derived from a start at which no space stands, as far as is known.
-    /// Takes a look at what is known of two fronts, and at two transitions.
-    pub fn may_begin(&self, given: &Given, marks: &[bool], start: usize) -> bool
+    /// Takes a look at what is known of the token's number, and mostly no more. Else it takes one at
+    /// what is known of each front that is met over two tokens, and at the transitions.
+    pub fn may_begin(
+        &self,
+        given: &Given,
+        front_indexes: &FrontIndexes,
+        marks: &[bool],
+        start: usize,
+    ) -> bool
         requires right { AreRight (setting_in given.now) self.now }
         requires belongs { BelongIn given.now }
+        requires fronts { AreFrontsIndexed given.now (store_of self.now.fronts) front_indexes.now }
         requires marked { AreMarked (setting_in given.now) marks.now }
         requires inside { start < length given.now.text.now }
         ensures { result ≡ false → (IsSpaceAt given.now.text.now start → ⊥) →
             BeginsNothing (setting_in given.now) start }
     {
         given.text.len();
+        if self.is_barred(given, marks, start) {
+            return false;
+        }
         let Some(closed) = self.closures.get(self.first, false) else {
             return true;
         };
-        let Some(next) = self.next_known(given, marks, closed, start) else {
+        let Some(next) = self.next_known(given, front_indexes, marks, closed, start) else {
             return true;
         };
-        !self.leads_nowhere(given, marks, next, start + 1)
+        !self.leads_nowhere(given, front_indexes, marks, next, start + 1)
+    }
+
+    /// Whether it is known that nothing begins with the token at a start at which no space stands.
+    fn is_barred(&self, given: &Given, marks: &[bool], start: usize) -> bool
+        requires right { AreRight (setting_in given.now) self.now }
+        requires marked { AreMarked (setting_in given.now) marks.now }
+        requires inside { start < length given.now.text.now }
+        ensures { IsTrue result → (IsSpaceAt given.now.text.now start → ⊥) →
+            BeginsNothing (setting_in given.now) start }
+    {
+        if may_span_at(marks, start) {
+            return false;
+        }
+        let number = given.text.number(start);
+        let kind = given.text.kind(start);
+        self.bars(given, number, kind, start)
+    }
+
+    /// Whether it is known that nothing begins with a token of this number and kind, at a start where
+    /// no space stands and no span of several tokens begins.
+    fn bars(&self, given: &Given, number: u32, kind: Kind, start: usize) -> bool
+        requires right { AreRight (setting_in given.now) self.now }
+        requires numbered { IsNumbered given.now.text.now start number kind }
+        requires alone { IsAlone given.now.text.now given.now.applied.now start }
+        ensures { IsTrue result → (IsSpaceAt given.now.text.now start → ⊥) →
+            BeginsNothing (setting_in given.now) start }
+    {
+        match self.barred_kind(number) {
+            Some(barred) => is_same(barred, kind),
+            None => false,
+        }
+    }
+
+    /// The kind of the tokens of this number with which nothing begins, where it is known.
+    fn barred_kind(&self, number: u32) -> Option<Kind>
+        ensures { IfSome result (HasValue self.now.barred.items number) }
+    {
+        value_of(&self.barred, number as usize)
     }
 
     /// Whether it is known that no walk leads anywhere from a front at a position.
-    fn leads_nowhere(&self, given: &Given, marks: &[bool], front: usize, at: usize) -> bool
+    fn leads_nowhere(
+        &self,
+        given: &Given,
+        front_indexes: &FrontIndexes,
+        marks: &[bool],
+        front: usize,
+        at: usize,
+    ) -> bool
         requires right { AreRight (setting_in given.now) self.now }
         requires belongs { BelongIn given.now }
+        requires fronts { AreFrontsIndexed given.now (store_of self.now.fronts) front_indexes.now }
+        requires marked { AreMarked (setting_in given.now) marks.now }
+        requires within { at ≤ length given.now.text.now }
+        ensures { IsTrue result → LeadNowhere (setting_in given.now)
+            (HoldsIn (store_of self.now.fronts) front) at }
+    {
+        if front == 0 {
+            return true;
+        }
+        given.text.len();
+        let Some(closed) = self.closures.get(front, is_space(given.text, at)) else {
+            return false;
+        };
+        if !self.is_stuck(given, front_indexes, marks, closed, at) {
+            return false;
+        }
+        self.leads_nowhere_at_once(given, front_indexes, marks, closed.over_space, at + 1)
+    }
+
+    /// Whether it is known that no walk leads anywhere from a front at a position, not over a space
+    /// there either.
+    fn leads_nowhere_at_once(
+        &self,
+        given: &Given,
+        front_indexes: &FrontIndexes,
+        marks: &[bool],
+        front: usize,
+        at: usize,
+    ) -> bool
+        requires right { AreRight (setting_in given.now) self.now }
+        requires belongs { BelongIn given.now }
+        requires fronts { AreFrontsIndexed given.now (store_of self.now.fronts) front_indexes.now }
         requires marked { AreMarked (setting_in given.now) marks.now }
         ensures { IsTrue result → LeadNowhere (setting_in given.now)
             (HoldsIn (store_of self.now.fronts) front) at }
@@ -110,29 +203,41 @@ impl Kept {
         if front == 0 {
             return true;
         }
-        match self.closures.get(front, is_space(given.text, at)) {
-            Some(closed) => self.is_stuck(given, marks, closed, at),
-            None => false,
+        let Some(closed) = self.closures.get(front, is_space(given.text, at)) else {
+            return false;
+        };
+        if !is_nothing(closed.over_space) {
+            return false;
         }
+        self.is_stuck(given, front_indexes, marks, closed, at)
     }
 
     /// Whether it is known of a closed front that no walk ends there at a position, and that none
-    /// goes on.
-    fn is_stuck(&self, given: &Given, marks: &[bool], closed: Closed, at: usize) -> bool
+    /// goes on over a token.
+    fn is_stuck(
+        &self,
+        given: &Given,
+        front_indexes: &FrontIndexes,
+        marks: &[bool],
+        closed: Closed,
+        at: usize,
+    ) -> bool
         requires right { AreRight (setting_in given.now) self.now }
         requires belongs { BelongIn given.now }
+        requires fronts { AreFrontsIndexed given.now (store_of self.now.fronts) front_indexes.now }
         requires marked { AreMarked (setting_in given.now) marks.now }
         requires masks { closed.has_masks ≡ false →
             HaveNoMask given.now.net.now (HoldsIn (store_of self.now.fronts) closed.front) }
+        requires tokens { closed.takes_tokens ≡ false →
+            TakeNoToken given.now.net.now (HoldsIn (store_of self.now.fronts) closed.front) }
         ensures ends { IsTrue result → closed.ends ≡ false }
-        ensures space { IsTrue result → closed.over_space ≡ 0 }
         ensures only { IsTrue result → LeadOnlyTo (setting_in given.now) (store_of self.now.fronts)
             (HoldsIn (store_of self.now.fronts) closed.front) at 0 }
     {
-        if closed.ends || closed.over_space != 0 {
+        if closed.ends {
             return false;
         }
-        match self.next_known(given, marks, closed, at) {
+        match self.next_known(given, front_indexes, marks, closed, at) {
             Some(next) => next == 0,
             None => false,
         }
@@ -140,15 +245,28 @@ impl Kept {
 
     /// The front behind the token at a position, which may stand after a space, where it is known
     /// and no mask accepts a span of several there. At the end of the text it is front 0.
-    fn next_known(&self, given: &Given, marks: &[bool], closed: Closed, at: usize) -> Option<usize>
+    fn next_known(
+        &self,
+        given: &Given,
+        front_indexes: &FrontIndexes,
+        marks: &[bool],
+        closed: Closed,
+        at: usize,
+    ) -> Option<usize>
         requires right { AreRight (setting_in given.now) self.now }
         requires belongs { BelongIn given.now }
+        requires fronts { AreFrontsIndexed given.now (store_of self.now.fronts) front_indexes.now }
         requires marked { AreMarked (setting_in given.now) marks.now }
         requires masks { closed.has_masks ≡ false →
             HaveNoMask given.now.net.now (HoldsIn (store_of self.now.fronts) closed.front) }
+        requires tokens { closed.takes_tokens ≡ false →
+            TakeNoToken given.now.net.now (HoldsIn (store_of self.now.fronts) closed.front) }
         ensures { IfSome result (LeadOnlyTo (setting_in given.now) (store_of self.now.fronts)
             (HoldsIn (store_of self.now.fronts) closed.front) at) }
     {
+        if !closed.takes_tokens {
+            return Some(0);
+        }
         let place = skip(given.text, at);
         if given.text.len() <= place {
             return Some(0);
@@ -158,7 +276,7 @@ impl Kept {
         }
         let number = given.text.number(place);
         let kind = given.text.kind(place);
-        self.next_singly(given, closed.front, number, kind, at)
+        self.next_singly(given, front_indexes, closed.front, number, kind, at)
     }
 
     /// The front behind a token of this number and kind, where it is known, and no mask there
@@ -166,6 +284,7 @@ impl Kept {
     fn next_singly(
         &self,
         given: &Given,
+        front_indexes: &FrontIndexes,
         front: usize,
         number: u32,
         kind: Kind,
@@ -173,13 +292,48 @@ impl Kept {
     ) -> Option<usize>
         requires right { AreRight (setting_in given.now) self.now }
         requires belongs { BelongIn given.now }
+        requires fronts { AreFrontsIndexed given.now (store_of self.now.fronts) front_indexes.now }
         requires numbered { IsNumbered given.now.text.now (skip_of given.now.text.now at) number kind }
         requires singly { TakeSingly (setting_in given.now) (HoldsIn (store_of self.now.fronts) front)
             (skip_of given.now.text.now at) }
         ensures { IfSome result (LeadOnlyTo (setting_in given.now) (store_of self.now.fronts)
             (HoldsIn (store_of self.now.fronts) front) at) }
     {
-        self.transitions.next(front, number, kind)
+        if let Some(next) = self.transitions.next(front, number, kind) {
+            return Some(next);
+        }
+        if front_indexes.has_none(front, number) {
+            Some(0)
+        } else {
+            None
+        }
+    }
+
+    /// Notes, where walks begin, that nothing begins with the token at a start, if that is known.
+    fn note(&mut self, given: &Given, front: usize, start: usize) -> Mem<()>
+        requires right { AreRight (setting_in given.now) self.now }
+        requires belongs { BelongIn given.now }
+        ensures right { OnOk result (AreRight (setting_in given.now) self.new) }
+        ensures same { OnOk result (self.new.fronts ≡ self.old.fronts) }
+    {
+        if front != self.first {
+            return Ok(());
+        }
+        if given.text.len() <= start {
+            return Ok(());
+        }
+        let Some(closed) = self.closures.get(self.first, false) else {
+            return Ok(());
+        };
+        let number = given.text.number(start);
+        let kind = given.text.kind(start);
+        let Some(next) = self.transitions.next(closed.front, number, kind) else {
+            return Ok(());
+        };
+        if !is_nothing(next) {
+            return Ok(());
+        }
+        give(&mut self.barred, number as usize, kind)
     }
 
     /// The front of the stacks of both.
@@ -214,12 +368,54 @@ impl Kept {
         requires right { AreRight (setting_in given.now) self.now }
         requires belongs { BelongIn given.now }
         requires indexed { AreIndexed given.now look_ups.now }
-        requires fronts { AreFrontsIndexed given.now front_indexes.now }
+        requires fronts { AreFrontsIndexed given.now (store_of self.now.fronts) front_indexes.now }
         requires marked { AreMarked (setting_in given.now) marks.now }
         requires there { IsFrontIn (store_of self.now.fronts) front }
         requires inside { at ≤ length given.now.text.now }
         ensures indexed { OnOk result (AreIndexed given.now look_ups.new) }
-        ensures fronts { OnOk result (AreFrontsIndexed given.now front_indexes.new) }
+        ensures fronts { OnOk result
+            (AreFrontsIndexed given.now (store_of self.new.fronts) front_indexes.new) }
+        ensures right { OnOk result (AreRight (setting_in given.now) self.new) }
+        ensures grows { OnOk result (Grows (store_of self.old.fronts) (store_of self.new.fronts)) }
+        ensures step { IfOk result (IsStep (known_in given.now self.old) (known_in given.now self.new)
+            front at) }
+    {
+        let step = self.go_on(
+            alloc,
+            given,
+            look_ups,
+            front_indexes,
+            marks,
+            front,
+            at,
+            steps,
+        )?;
+        self.note(given, front, at)?;
+        Ok(step)
+    }
+
+    /// The same, with nothing noted of the token with which a walk begins.
+    fn go_on<'t, L: Ledger>(
+        &mut self,
+        alloc: Global,
+        given: &Given<'t>,
+        look_ups: &mut LookUps<'t>,
+        front_indexes: &mut FrontIndexes<'t>,
+        marks: &[bool],
+        front: usize,
+        at: usize,
+        steps: &mut Steps<L>,
+    ) -> Mem<Step>
+        requires right { AreRight (setting_in given.now) self.now }
+        requires belongs { BelongIn given.now }
+        requires indexed { AreIndexed given.now look_ups.now }
+        requires fronts { AreFrontsIndexed given.now (store_of self.now.fronts) front_indexes.now }
+        requires marked { AreMarked (setting_in given.now) marks.now }
+        requires there { IsFrontIn (store_of self.now.fronts) front }
+        requires inside { at ≤ length given.now.text.now }
+        ensures indexed { OnOk result (AreIndexed given.now look_ups.new) }
+        ensures fronts { OnOk result
+            (AreFrontsIndexed given.now (store_of self.new.fronts) front_indexes.new) }
         ensures right { OnOk result (AreRight (setting_in given.now) self.new) }
         ensures grows { OnOk result (Grows (store_of self.old.fronts) (store_of self.new.fronts)) }
         ensures step { IfOk result (IsStep (known_in given.now self.old) (known_in given.now self.new)
@@ -299,18 +495,27 @@ impl Kept {
         requires right { AreRight (setting_in given.now) self.now }
         requires belongs { BelongIn given.now }
         requires indexed { AreIndexed given.now look_ups.now }
-        requires fronts { AreFrontsIndexed given.now front_indexes.now }
+        requires fronts { AreFrontsIndexed given.now (store_of self.now.fronts) front_indexes.now }
         requires marked { AreMarked (setting_in given.now) marks.now }
         requires there { IsFrontIn (store_of self.now.fronts) closed.front }
         requires masks { closed.has_masks ≡ false →
             HaveNoMask given.now.net.now (HoldsIn (store_of self.now.fronts) closed.front) }
+        requires tokens { closed.takes_tokens ≡ false →
+            TakeNoToken given.now.net.now (HoldsIn (store_of self.now.fronts) closed.front) }
         ensures indexed { OnOk result (AreIndexed given.now look_ups.new) }
-        ensures fronts { OnOk result (AreFrontsIndexed given.now front_indexes.new) }
+        ensures fronts { OnOk result
+            (AreFrontsIndexed given.now (store_of self.new.fronts) front_indexes.new) }
         ensures right { OnOk result (AreRight (setting_in given.now) self.new) }
         ensures grows { OnOk result (Grows (store_of self.old.fronts) (store_of self.new.fronts)) }
         ensures onward { IfOk result (IsOnward (setting_in given.now) (store_of self.new.fronts)
             (HoldsIn (store_of self.old.fronts) closed.front) at) }
     {
+        if !closed.takes_tokens {
+            return Ok(Onward {
+                over_token: 0,
+                landings: Vec::new(alloc),
+            });
+        }
         let place = skip(given.text, at);
         if given.text.len() <= place {
             return Ok(Onward {
@@ -361,13 +566,14 @@ impl Kept {
         requires right { AreRight (setting_in given.now) self.now }
         requires belongs { BelongIn given.now }
         requires indexed { AreIndexed given.now look_ups.now }
-        requires fronts { AreFrontsIndexed given.now front_indexes.now }
+        requires fronts { AreFrontsIndexed given.now (store_of self.now.fronts) front_indexes.now }
         requires there { IsFrontIn (store_of self.now.fronts) front }
         requires numbered { IsNumbered given.now.text.now (skip_of given.now.text.now at) number kind }
         requires singly { TakeSingly (setting_in given.now) (HoldsIn (store_of self.now.fronts) front)
             (skip_of given.now.text.now at) }
         ensures indexed { OnOk result (AreIndexed given.now look_ups.new) }
-        ensures fronts { OnOk result (AreFrontsIndexed given.now front_indexes.new) }
+        ensures fronts { OnOk result
+            (AreFrontsIndexed given.now (store_of self.new.fronts) front_indexes.new) }
         ensures right { OnOk result (AreRight (setting_in given.now) self.new) }
         ensures grows { OnOk result (Grows (store_of self.old.fronts) (store_of self.new.fronts)) }
         ensures onward { IfOk result (IsOnward (setting_in given.now) (store_of self.new.fronts)
@@ -406,13 +612,14 @@ impl Kept {
         requires right { AreRight (setting_in given.now) self.now }
         requires belongs { BelongIn given.now }
         requires indexed { AreIndexed given.now look_ups.now }
-        requires fronts { AreFrontsIndexed given.now front_indexes.now }
+        requires fronts { AreFrontsIndexed given.now (store_of self.now.fronts) front_indexes.now }
         requires there { IsFrontIn (store_of self.now.fronts) front }
         requires numbered { IsNumbered given.now.text.now (skip_of given.now.text.now at) number kind }
         requires singly { TakeSingly (setting_in given.now) (HoldsIn (store_of self.now.fronts) front)
             (skip_of given.now.text.now at) }
         ensures indexed { OnOk result (AreIndexed given.now look_ups.new) }
-        ensures fronts { OnOk result (AreFrontsIndexed given.now front_indexes.new) }
+        ensures fronts { OnOk result
+            (AreFrontsIndexed given.now (store_of self.new.fronts) front_indexes.new) }
         ensures right { OnOk result (AreRight (setting_in given.now) self.new) }
         ensures grows { OnOk result (Grows (store_of self.old.fronts) (store_of self.new.fronts)) }
         ensures transition { IfOk result (λ next. IsTransition (setting_in given.now)
@@ -446,9 +653,27 @@ impl Kept {
 fn may_land(closed: Closed, marks: &[bool], place: usize) -> bool
     ensures { result ≡ false → (closed.has_masks ≡ false) ⊎ (slice_get marks.now place ≡ Some false) }
 {
-    if !closed.has_masks {
-        return false;
-    }
+    closed.has_masks && may_span_at(marks, place)
+}
+
+/// Whether it is front 0, which has no stack.
+fn is_nothing(front: usize) -> bool
+    ensures { IsTrue result → front ≡ 0 }
+{
+    front == 0
+}
+
+/// Whether both kinds are the same.
+fn is_same(one: Kind, other: Kind) -> bool
+    ensures { IsTrue result → one ≡ other }
+{
+    one == other
+}
+
+/// Whether a span of several tokens may begin at the place.
+fn may_span_at(marks: &[bool], place: usize) -> bool
+    ensures { result ≡ false → slice_get marks.now place ≡ Some false }
+{
     match marks.get(place) {
         Some(may_span) => *may_span,
         None => true,

@@ -38,6 +38,7 @@ mod marks;
 mod onward;
 mod slots;
 pub mod step;
+mod takers;
 mod taking;
 mod target;
 mod targets;

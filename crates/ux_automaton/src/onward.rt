@@ -44,11 +44,12 @@ pub fn over_token<'t, L: Ledger>(
     requires sound { IsSound (store_of fronts.now) }
     requires belongs { BelongIn given.now }
     requires indexed { AreIndexed given.now look_ups.now }
-    requires fronts { AreFrontsIndexed given.now front_indexes.now }
+    requires fronts { AreFrontsIndexed given.now (store_of fronts.now) front_indexes.now }
     requires there { IsFrontIn (store_of fronts.now) front }
     requires within { skip_of given.now.text.now at < length given.now.text.now }
     ensures indexed { OnOk result (AreIndexed given.now look_ups.new) }
-    ensures fronts { OnOk result (AreFrontsIndexed given.now front_indexes.new) }
+    ensures fronts { OnOk result
+        (AreFrontsIndexed given.now (store_of fronts.new) front_indexes.new) }
     ensures grows { OnOk result (Grows (store_of fronts.old) (store_of fronts.new)) }
     ensures there { IfOk result (IsFrontIn (store_of fronts.new)) }
     ensures over { IfOk result (λ next. (stack : TheStack) → HoldsIn (store_of fronts.new) next stack
@@ -57,9 +58,8 @@ pub fn over_token<'t, L: Ledger>(
 {
     given.text.len();
     let place = skip(given.text, at);
-    let stands = fronts.stands(alloc, front)?;
     let number = given.text.number(place);
-    let few = front_indexes.likely(alloc, given, front, stands, number)?;
+    let few = front_indexes.likely(alloc, given, fronts, front, number)?;
     let targets = targets_of(alloc, given, look_ups, few.as_slice(), at, steps)?;
     front_at(alloc, fronts, targets.as_slice(), place + 1)
 }

@@ -1,13 +1,16 @@
 -- A walk from some stacks ends at once, or goes on by taking a token from a stack that they reach.
 -- Public: the proofs of the automaton cite it.
-use Rattle.std.proofs.Common.{◌≡◌, ℕ, List, [], ◌∷◌, ◌⊎◌, inl, inr, refl, sym, ◌∙◌, ap, subst, Bool, true, false}
+use Rattle.std.proofs.Common.{◌≡◌, ℕ, List, [], ◌∷◌, ◌++◌, ◌⊎◌, inl, inr, refl, sym, ◌∙◌, ap, subst, Bool, true, false, reverse}
 use Rattle.std.specs.Prelude.{IsTrue}
 use Rattle.ux_net.specs.declared.label.Label.{Label}
 use Rattle.ux_net.specs.declared.label.Label.TheVariants as label
+use Rattle.ux_net.specs.declared.state.Edge.{Edge}
+use Rattle.ux_outputs.specs.declared.event.Event.{Event}
+use Rattle.ux_outputs.specs.declared.event.Event.TheVariants as event
 use Rattle.ux_meaning.specs.Texts.{IsSpaceAt}
 use Rattle.ux_walk.specs.declared.lists.Link.{Link}
 use Rattle.ux_walk.specs.declared.config.Frame.{Frame}
-use Rattle.ux_walk.specs.Courses.{Course, Passes, TakesPlainly}
+use Rattle.ux_walk.specs.Courses.{Course, Passes, TakesPlainly, passing, put_events}
 use Rattle.ux_walk.specs.Leads.{Stack, LeadsTo, ended, goes}
 use Rattle.ux_walk.specs.Settings.{Setting}
 use Rattle.ux_closure.specs.declared.closing.Closure.{Closure}
@@ -15,10 +18,16 @@ use Rattle.ux_closure.specs.Passing.{LetsPass, PassesOn, Reaches, stays, passes,
 use Rattle.ux_closure.specs.Holding.{Holds, IsClosure}
 use Rattle.ux_closure.specs.Taking.{TakesOn, TellsSpace, Parts}
 
+-- the events of an edge's output, latest first
+abbrev put_before : Edge → List Event
+put_before edge = reverse (put_events edge.output) ++ []
+
 module _ (setting : Setting) (at : ℕ) (is_spaced : Bool) (tells : TellsSpace setting at is_spaced)
   where
     passes_lets : (x : Label) → Passes setting.tokens x at → LetsPass is_spaced x
     passes_lets label.Empty p = tt
+    passes_lets (label.Begin name) p = tt
+    passes_lets (label.End name) p = tt
     passes_lets label.Glue p = go is_spaced tells.0
       where
         go : (b : Bool) → (IsTrue b → IsSpaceAt setting.tokens at) → b ≡ false
@@ -28,6 +37,8 @@ module _ (setting : Setting) (at : ℕ) (is_spaced : Bool) (tells : TellsSpace s
 
     lets_passes : (x : Label) → LetsPass is_spaced x → Passes setting.tokens x at
     lets_passes label.Empty l = tt
+    lets_passes (label.Begin name) l = tt
+    lets_passes (label.End name) l = tt
     lets_passes label.Glue l = λ space. let yes = tells.1 space in cc
     lets_passes _ l = absurd l
 
@@ -103,13 +114,17 @@ module _ (setting : Setting) (at : ℕ) (is_spaced : Bool) (tells : TellsSpace s
         (subst (λ (s : Stack). LeadsTo setting s at end) is leads)
     step_back (f ∷ fs) next end (state, found, inl (edge, inside, inl (lets, is))) leads =
         let behind : Frame = record { graph = f.graph; state = edge.target } in
-        goes (record { frames = behind ∷ fs; at = at; before = [] })
+        goes (record {
+          frames = behind ∷ fs;
+          at = at;
+          before = passing edge.label ++ put_before edge;
+        })
         (state, found, inl (edge, inside, inr (inl (lets_passes edge.label lets, refl))))
         (subst (λ (s : Stack). LeadsTo setting s at end) is leads)
     step_back (f ∷ fs) next end (state, found, inl (edge, inside, inr (h, calls, is))) leads =
         let behind : Frame = record { graph = f.graph; state = edge.target } in
         let start : Frame = record { graph = h; state = 0 } in
-        goes (record { frames = start ∷ behind ∷ fs; at = at; before = [] })
+        goes (record { frames = start ∷ behind ∷ fs; at = at; before = put_before edge })
         (state, found, inl (edge, inside, inr (inr (h, calls, refl))))
         (subst (λ (s : Stack). LeadsTo setting s at end) is leads)
 
@@ -126,7 +141,7 @@ module _ (setting : Setting) (at : ℕ) (is_spaced : Bool) (tells : TellsSpace s
         goes (record {
           frames = record { graph = f.graph; state = edge.target } ∷ fs;
           at = k;
-          before = record { from = at; to = k } ∷ [];
+          before = event.Take at k ∷ put_before edge;
         }) (state, found, inl (edge, inside, inl (k, takes, refl))) leads
 
     module _ (given : Stack → Type 0) where

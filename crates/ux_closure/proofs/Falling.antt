@@ -14,6 +14,8 @@ module _ (net : List NetGraph) (is_spaced : Bool) (measured : IsMeasured net) wh
       IsLower net g from to
   lower_of g from to label.Empty falls lets = falls
   lower_of g from to label.Glue falls lets = falls
+  lower_of g from to (label.Begin name) falls lets = falls
+  lower_of g from to (label.End name) falls lets = falls
   lower_of g from to _ falls lets = absurd lets
 
   pub passes_lighter : (s t : Stack) → PassesOn net is_spaced s t →

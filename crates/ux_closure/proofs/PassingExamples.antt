@@ -18,7 +18,7 @@ abbrev at : (graph state : ℕ) → Frame
 at graph state = record { graph = graph; state = state }
 
 abbrev to : Label → ℕ → Edge
-to label target = record { label = label; target = target }
+to label target = record { label = label; output = []; target = target }
 
 -- a state with one edge, and one where words end
 abbrev before : Edge → State

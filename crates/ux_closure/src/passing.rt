@@ -163,15 +163,13 @@ fn lets_pass(label: &Label, is_spaced: bool) -> bool
     ensures { IsTrue result ↔ LetsPass is_spaced label.now }
 {
     match label {
-        Label::Empty => true,
+        Label::Empty | Label::Begin(_) | Label::End(_) => true,
         Label::Glue => !is_spaced,
         Label::Fold(_)
         | Label::Exact(_)
         | Label::Mask(_)
         | Label::Brace(_)
         | Label::Space
-        | Label::Begin(_)
-        | Label::End(_)
         | Label::Positive
         | Label::Negative
         | Label::ContextEnd

@@ -57,15 +57,15 @@ fits_less alphabet front more entry (fitting, zip, (rest, is)) =
     (split.0, split.3, (split.1 ++ rest, whole))
 
 -- no parts go on as none
-pub GoOn-none : (alphabet : Letters) (letters : List ℕ) (c : ℕ) (parts next : List Part) →
-    parts ≡ [] → next ≡ [] → GoOn alphabet letters c parts next
-GoOn-none alphabet letters c parts next is also front all spelled fit =
+pub GoOn-none : (alphabet : Letters) (letters more : List ℕ) (parts next : List Part) →
+    parts ≡ [] → next ≡ [] → GoOn alphabet letters more parts next
+GoOn-none alphabet letters more parts next is also front all spelled fit =
     let P = BeginsFittingAll alphabet front in
     let whole = subst (λ (p : List Part). IsChosen P all (entries_of p)) is fit.whole in
-    subst (AreFittingParts alphabet (front ++ c ∷ []) all) (sym also) (record {
+    subst (AreFittingParts alphabet (front ++ more) all) (sym also) (record {
       whole = chosen-again (BeginsFittingAll alphabet front)
-          (BeginsFittingAll alphabet (front ++ c ∷ [])) (fits_less alphabet front (c ∷ [])) whole none;
-      each = All-nil (IsFittingPart alphabet (front ++ c ∷ []));
+          (BeginsFittingAll alphabet (front ++ more)) (fits_less alphabet front more) whole none;
+      each = All-nil (IsFittingPart alphabet (front ++ more));
     })
 
 module _ (alphabet : Letters) (all candidates front : List ℕ) (c : ℕ)
@@ -179,17 +179,17 @@ some_entry (first ∷ parts) (suc i) part lt at some =
     omega (arith, size, later)
 
 -- what holds of the parts alone holds of all entries
-pub GoOn-from : (alphabet : Letters) (letters : List ℕ) (c : ℕ) (parts next : List Part) →
+pub GoOn-from : (alphabet : Letters) (letters more : List ℕ) (parts next : List Part) →
     ((front : List ℕ) → All (IsFittingPart alphabet front) parts →
     All (IsSpelled letters) (entries_of parts) →
-    AreFittingParts alphabet (front ++ c ∷ []) (entries_of parts) next) →
-    GoOn alphabet letters c parts next
-GoOn-from alphabet letters c parts next goes front all spelled fit =
+    AreFittingParts alphabet (front ++ more) (entries_of parts) next) →
+    GoOn alphabet letters more parts next
+GoOn-from alphabet letters more parts next goes front all spelled fit =
     let P = BeginsFittingAll alphabet front in
     let step = goes front fit.each (chosen-within P (IsSpelled letters) fit.whole spelled) in
     record {
-      whole = chosen-again P (BeginsFittingAll alphabet (front ++ c ∷ [])) (fits_less alphabet front (c ∷ []))
-          fit.whole step.whole;
+      whole = chosen-again P (BeginsFittingAll alphabet (front ++ more))
+          (fits_less alphabet front more) fit.whole step.whole;
       each = step.each;
     }
 

@@ -13,4 +13,5 @@ pub mod KeyLemmas
 pub mod NearLemmas
 pub mod RunLemmas
 pub mod CodesLemmas
+pub mod ReachedLemmas
 pub mod ReadLemmas

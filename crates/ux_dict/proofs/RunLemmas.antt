@@ -107,6 +107,13 @@ GoOnAlone-none more parts is alphabet front all alone fit =
     subst (λ (l : List ℕ). AreFittingParts alphabet l all parts)
     (sym (append-nil front) ∙ ap (λ (l : List ℕ). front ++ l) (sym is)) fit
 
+-- characters that no others fit are gone on with alike by any alphabet that says so
+pub GoOn-alone : (alphabet : Letters) (letters more : List ℕ) (parts next : List Part) →
+    All (FitsAlone alphabet) more → GoOnAlone more parts next →
+    GoOn alphabet letters more parts next
+GoOn-alone alphabet letters more parts next alone goes front all spelled fit =
+    goes alphabet front all alone fit
+
 -- the parts fit the front of a text, but for a run of characters at its end that no others fit
 pub record AreFittingBut (alphabet : Letters) (front run : List ℕ) (all : List Entry)
     (parts : List Part) : Type 0 where
@@ -115,50 +122,62 @@ pub record AreFittingBut (alphabet : Letters) (front run : List ℕ) (all : List
   pub alone : All (FitsAlone alphabet) run
   pub fit : AreFittingParts alphabet done all parts
 
-module _ (alphabet : Letters) (all : List Entry) where
+-- where some parts fit the front of a text, the next ones fit it and these characters, but for such
+-- a run
+abbrev pub GoOnBut : Letters → (letters more run : List ℕ) (parts next : List Part) → Type 0
+GoOnBut alphabet letters more run parts next = (front : List ℕ) (all : List Entry) →
+    All (IsSpelled letters) all → AreFittingParts alphabet front all parts →
+    AreFittingBut alphabet (front ++ more) run all next
+
+module _ (alphabet : Letters) (letters : List ℕ) (parts : List Part) where
   -- no character yet
-  pub but_start : (run : List ℕ) (parts : List Part) → run ≡ [] →
-      AreFittingParts alphabet [] all parts → AreFittingBut alphabet [] run all parts
-  but_start run parts none fit = record {
-    done = [];
-    is = sym none;
+  pub but_start : (run : List ℕ) (next : List Part) → run ≡ [] → next ≡ parts →
+      GoOnBut alphabet letters [] run parts next
+  but_start run next none same front all spelled fit = record {
+    done = front;
+    is = ap (λ (l : List ℕ). front ++ l) (sym none);
     alone = subst (All (FitsAlone alphabet)) (sym none) (All-nil (FitsAlone alphabet));
-    fit = fit;
+    fit = subst (AreFittingParts alphabet front all) (sym same) fit;
   }
 
   -- one more that no other fits
-  pub but_longer : (front run new : List ℕ) (c : ℕ) (parts : List Part) →
-      AreFittingBut alphabet front run all parts → FitsAlone alphabet c → new ≡ run ++ c ∷ [] →
-      AreFittingBut alphabet (front ++ c ∷ []) new all parts
-  but_longer front run new c parts but alone is = record {
-    done = but.done;
-    is = ap (λ (l : List ℕ). l ++ c ∷ []) but.is ∙ append_assoc but.done run (c ∷ [])
-        ∙ ap (λ (l : List ℕ). but.done ++ l) (sym is);
-    alone = subst (All (FitsAlone alphabet)) (sym is)
-        (All-push (FitsAlone alphabet) run c but.alone alone);
-    fit = but.fit;
-  }
+  pub but_longer : (more run new : List ℕ) (c : ℕ) (next : List Part) →
+      GoOnBut alphabet letters more run parts next → FitsAlone alphabet c → new ≡ run ++ c ∷ [] →
+      GoOnBut alphabet letters (more ++ c ∷ []) new parts next
+  but_longer more run new c next so_far alone is front all spelled fit =
+      let but = so_far front all spelled fit in record {
+        done = but.done;
+        is = sym (append_assoc front more (c ∷ []))
+            ∙ ap (λ (l : List ℕ). l ++ c ∷ []) but.is ∙ append_assoc but.done run (c ∷ [])
+            ∙ ap (λ (l : List ℕ). but.done ++ l) (sym is);
+        alone = subst (All (FitsAlone alphabet)) (sym is)
+            (All-push (FitsAlone alphabet) run c but.alone alone);
+        fit = but.fit;
+      }
 
   -- all characters so far
-  pub but_end : (front run : List ℕ) (parts next : List Part) →
-      AreFittingBut alphabet front run all parts → GoOnAlone run parts next →
-      AreFittingParts alphabet front all next
-  but_end front run parts next but goes =
-      subst (λ (l : List ℕ). AreFittingParts alphabet l all next) (sym but.is)
+  pub but_end : (more run : List ℕ) (next last : List Part) →
+      GoOnBut alphabet letters more run parts next → GoOnAlone run next last →
+      GoOn alphabet letters more parts last
+  but_end more run next last so_far goes front all spelled fit =
+      let but = so_far front all spelled fit in
+      subst (λ (l : List ℕ). AreFittingParts alphabet l all last) (sym but.is)
       (goes alphabet but.done all but.alone but.fit)
 
   -- one more that others fit
-  pub but_other : (letters front run new : List ℕ) (c : ℕ) (parts behind next : List Part) →
-      AreFittingBut alphabet front run all parts → GoOnAlone run parts behind →
-      GoOn alphabet letters c behind next → All (IsSpelled letters) all → new ≡ [] →
-      AreFittingBut alphabet (front ++ c ∷ []) new all next
-  but_other letters front run new c parts behind next but goes on spelled none = record {
-    done = front ++ c ∷ [];
-    is = sym (append-nil (front ++ c ∷ []))
-        ∙ ap (λ (l : List ℕ). (front ++ c ∷ []) ++ l) (sym none);
-    alone = subst (All (FitsAlone alphabet)) (sym none) (All-nil (FitsAlone alphabet));
-    fit = on front all spelled (but_end front run parts behind but goes);
-  }
+  pub but_other : (more run new : List ℕ) (c : ℕ) (next behind last : List Part) →
+      GoOnBut alphabet letters more run parts next → GoOnAlone run next behind →
+      GoOn alphabet letters (c ∷ []) behind last → new ≡ [] →
+      GoOnBut alphabet letters (more ++ c ∷ []) new parts last
+  but_other more run new c next behind last so_far goes on none front all spelled fit =
+      let longer = front ++ more ++ c ∷ [] in record {
+        done = longer;
+        is = sym (append_assoc front more (c ∷ [])) ∙ sym (append-nil longer)
+            ∙ ap (λ (l : List ℕ). longer ++ l) (sym none);
+        alone = subst (All (FitsAlone alphabet)) (sym none) (All-nil (FitsAlone alphabet));
+        fit = on (front ++ more) all spelled
+            (but_end more run next behind so_far goes front all spelled fit);
+      }
 
 -- the characters of a text behind which one was put
 pub chars-pushed : (old new : List ℕ) (c : ℕ) → IsUtf8 old → IsUtf8 new → new ≡ old ++ encode c →

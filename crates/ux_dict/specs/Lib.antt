@@ -5,5 +5,6 @@ pub mod Forms
 pub mod Keys
 pub mod Kept
 pub mod Parts
+pub mod Reached
 pub mod Any
 pub mod Stored

@@ -1,5 +1,6 @@
 -- Parts of a dictionary: entries whose forms begin with the same characters, which fit the front of
--- a text. Inner: the crate's own functions alone speak of it.
+-- a text. Inner: the crate's own functions alone speak of it, and `Reached`, which says by it where
+-- a text leads.
 use Rattle.std.specs.Prelude.{◌≡◌, ◌==◌, ℕ, List, [], ◌∷◌, ◌++◌, Bool, nat_le, All, AllPairs, Contains, IsUtf8, length, take, drop, map, filter, flat_map, encode_utf8_all}
 use Rattle.std.specs.List.{AllZip}
 use Rattle.std.specs.List.Sorted.{IsStrictlyIncreasing}
@@ -111,11 +112,11 @@ GoOnAlone more parts next = (alphabet : Letters) (front : List ℕ) (all : List 
     All (FitsAlone alphabet) more → AreFittingParts alphabet front all parts →
     AreFittingParts alphabet (front ++ more) all next
 
--- where the parts fit the front of a text, the next ones fit one character more
-abbrev pub GoOn : Letters → (letters : List ℕ) (c : ℕ) (parts next : List Part) → Type 0
-GoOn alphabet letters c parts next = (front : List ℕ) (all : List Entry) →
+-- where the parts fit the front of a text, the next ones fit these characters as well
+abbrev pub GoOn : Letters → (letters more : List ℕ) (parts next : List Part) → Type 0
+GoOn alphabet letters more parts next = (front : List ℕ) (all : List Entry) →
     All (IsSpelled letters) all → AreFittingParts alphabet front all parts →
-    AreFittingParts alphabet (front ++ c ∷ []) all next
+    AreFittingParts alphabet (front ++ more) all next
 
 -- where the parts fit a text, the entries are those whose whole forms do
 abbrev pub AreWhole : (parts : List Part) (found : List Entry) → Type 0

@@ -2,6 +2,7 @@
 
 use crate::lexicon::Lexicon;
 use crate::list_lexicon::ListLexicon;
+use crate::reached::Reached;
 use std::alloc::Global;
 use ux_alphabet::Alphabet;
 use ux_base::Mem;
@@ -18,6 +19,12 @@ impl Lexicon for AnyLexicon {
     ghost use Rattle.ux_dict.specs.Any.{content_of};
 
     ghost content = { content_of };
+
+    fn begin(&self, alloc: Global) -> Mem<Reached<'_>> {
+        match self {
+            AnyLexicon::List(lexicon) => lexicon.begin(alloc),
+        }
+    }
 
     fn fitting(&self, alloc: Global, text: &str, alphabet: &Alphabet) -> Mem<Vec<Entry>> {
         match self {

@@ -1,36 +1,66 @@
 //! How parts go on with the next character of a text.
 
-ghost use Rattle.std.specs.Prelude.{◌≡◌, ℕ, List, All, OnOk, IfOk, [], ◌∷◌};
+ghost use Rattle.std.specs.Prelude.{◌≡◌, ℕ, List, All, IsTrue, OnOk, IfOk, [], ◌∷◌};
 ghost use Rattle.std.specs.List.Sorted.{IsStrictlyIncreasing};
 ghost use Rattle.std.specs.Str.{chars};
-ghost use Rattle.ux_alphabet.specs.Letters.{Letters};
-ghost use Rattle.ux_dict.specs.Kept.{IsSpelled};
-ghost use Rattle.ux_dict.specs.Parts.{AreCandidates, AreFittingParts, GoOn, GoOnAlone, IsContinued, IsFollowed, IsPart};
+ghost use Rattle.ux_alphabet.specs.Letters.{Letters, FitsAlone};
+ghost use Rattle.ux_dict.specs.Parts.{AreCandidates, GoOn, GoOnAlone, IsContinued, IsFollowed, IsPart};
 
 use crate::candidates::fitting_letters;
 use crate::parts::{Part, form_len, going_on};
 use std::alloc::{AllocError, Global};
 use ux_alphabet::Alphabet;
 
-/// The parts whose forms begin with characters that fit the text. Characters next to each other that
-/// no others fit are gone on with at once, so that most texts take a few binary searches. Another
-/// character takes a step for each different character of all forms, and a few binary searches for
-/// each part, of which there are as many as ways to write the front of the text with lower-case
-/// letters.
-pub(crate) fn fitting_parts<'a>(
+/// The parts whose forms go on with characters that fit the text. Most texts have characters alone
+/// that no others fit, and take a few binary searches for each part.
+pub(crate) fn gone_on<'a>(
     alloc: Global,
-    whole: Part<'a>,
+    parts: &[Part<'a>],
     letters: &[char],
     text: &str,
     alphabet: &Alphabet,
 ) -> Result<Vec<Part<'a>>, AllocError>
-    requires spelled { All (IsSpelled letters.now) whole.entries.now }
-    requires part { IsPart [] whole }
-    requires increasing { IsStrictlyIncreasing letters.now }
-    ensures { IfOk result (λ parts.
-        AreFittingParts alphabet.now (chars text.now) whole.entry.entries.now parts.items) }
+    requires { IsStrictlyIncreasing letters.now }
+    ensures { IfOk result (λ next.
+        GoOn alphabet.now letters.now (chars text.now) parts.now next.items) }
 {
-    let mut parts = one(alloc, whole)?;
+    if parts.is_empty() {
+        return Ok(Vec::new(alloc));
+    }
+    if fit_alone(text, alphabet) {
+        return followed(alloc, parts, text);
+    }
+    gone_on_by_runs(alloc, parts, letters, text, alphabet)
+}
+
+/// Whether no other character fits one of the text.
+fn fit_alone(text: &str, alphabet: &Alphabet) -> bool
+    ensures { IsTrue result → All (FitsAlone alphabet.now) (chars text.now) }
+{
+    for c in text.chars() {
+        if !alphabet.fits_alone(c) {
+            return false;
+        }
+    }
+    true
+}
+
+/// The parts whose forms go on with characters that fit the text. Characters next to each other that
+/// no others fit are gone on with at once. Another character takes a step for each different
+/// character of all forms, and a few binary searches for each part, of which there are as many as
+/// ways to write the front of the text with lower-case letters.
+fn gone_on_by_runs<'a>(
+    alloc: Global,
+    parts: &[Part<'a>],
+    letters: &[char],
+    text: &str,
+    alphabet: &Alphabet,
+) -> Result<Vec<Part<'a>>, AllocError>
+    requires { IsStrictlyIncreasing letters.now }
+    ensures { IfOk result (λ next.
+        GoOn alphabet.now letters.now (chars text.now) parts.now next.items) }
+{
+    let mut next = Vec::from_slice(alloc, parts)?;
     // The characters behind those that the parts fit.
     let mut run = String::with_capacity(alloc, text.len())?;
     for c in text.chars() {
@@ -38,14 +68,15 @@ pub(crate) fn fitting_parts<'a>(
             run.push(c)?;
             continue;
         }
-        let behind = behind_run(alloc, parts, run.as_str())?;
-        parts = next_parts(alloc, &behind, letters, c, alphabet)?;
+        let behind = behind_run(alloc, next, run.as_str())?;
+        next = next_parts(alloc, &behind, letters, c, alphabet)?;
         run.clear();
     }
-    behind_run(alloc, parts, run.as_str())
+    behind_run(alloc, next, run.as_str())
 }
 
-fn one<'a>(alloc: Global, part: Part<'a>) -> Result<Vec<Part<'a>>, AllocError>
+/// One part alone.
+pub(crate) fn one<'a>(alloc: Global, part: Part<'a>) -> Result<Vec<Part<'a>>, AllocError>
     ensures { IfOk result (λ parts. parts.items ≡ part.entry ∷ []) }
 {
     let mut parts = Vec::new(alloc);
@@ -87,7 +118,7 @@ fn next_parts<'a>(
     alphabet: &Alphabet,
 ) -> Result<Vec<Part<'a>>, AllocError>
     requires { IsStrictlyIncreasing letters.now }
-    ensures { IfOk result (λ next. GoOn alphabet.now letters.now c parts.now next.items) }
+    ensures { IfOk result (λ next. GoOn alphabet.now letters.now (c ∷ []) parts.now next.items) }
 {
     if parts.is_empty() {
         return Ok(Vec::new(alloc));
@@ -104,7 +135,8 @@ fn continued<'a>(
 ) -> Result<Vec<Part<'a>>, AllocError>
     requires { IsStrictlyIncreasing letters.now }
     ensures { IfOk result (λ next. (alphabet : Letters) (all : List ℕ) (c : ℕ) →
-        AreCandidates alphabet all c letters.now → GoOn alphabet all c parts.now next.items) }
+        AreCandidates alphabet all c letters.now →
+        GoOn alphabet all (c ∷ []) parts.now next.items) }
 {
     let mut next = Vec::new(alloc);
     for part in parts {

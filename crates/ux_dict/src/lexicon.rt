@@ -4,11 +4,14 @@
 //! are given as they stand: an upper-case letter of the text is fitted by the lower-case one of the
 //! form, by the alphabet, and a lower-case letter of the text by itself alone.
 
-ghost use Rattle.std.specs.Prelude.{◌≡◌, ◌↔◌, ◌<◌, IsTrue, IfOk, MatchOption, All, length};
+ghost use Rattle.std.specs.Prelude.{◌≡◌, ◌↔◌, ◌<◌, [], IsTrue, IfOk, MatchOption, All, length};
+ghost use Rattle.ux_alphabet.specs.Letters.{Letters};
 ghost use Rattle.ux_dela.specs.Sound.{IsSound};
 ghost use Rattle.ux_dict.specs.Content.{IsDictionary};
 ghost use Rattle.ux_dict.specs.Forms.{IsFitting, MayBegin, count_of, longest_of};
+ghost use Rattle.ux_dict.specs.Reached.{IsReachedBy};
 
+use crate::reached::Reached;
 use std::alloc::Global;
 use ux_alphabet::Alphabet;
 use ux_base::Mem;
@@ -20,6 +23,11 @@ pub trait Lexicon {
     ghost use Rattle.ux_dela.specs.declared.entry.Entry.{Entry};
 
     ghost content: { Self → List Entry };
+
+    /// Where the empty text leads. `Reached` goes on from there by the text itself.
+    fn begin(&self, alloc: Global) -> Mem<Reached<'_>>
+        ensures { IfOk result (λ reached. (alphabet : Letters) →
+            IsReachedBy alphabet (content self.now) [] reached) };
 
     /// The entries whose form fits the text character by character, in the order of the content.
     fn fitting(&self, alloc: Global, text: &str, alphabet: &Alphabet) -> Mem<Vec<Entry>>

@@ -3,17 +3,20 @@
 //! The entries stand in order of form, so that those of a form, and those whose forms begin alike,
 //! are found by binary searches.
 
-ghost use Rattle.std.specs.Prelude.{◌≡◌, ◌↔◌, ◌<◌, ◌++◌, All, IsTrue, IfOk, OnOk, [], length};
+ghost use Rattle.std.specs.Prelude.{◌≡◌, ◌++◌, ℕ, List, All, IfOk, []};
 ghost use Rattle.std.specs.Str.{chars};
 ghost use Rattle.ux_dela.specs.Sound.{IsSound};
 ghost use Rattle.ux_dict.specs.Content.{IsContent, IsDictionary};
-ghost use Rattle.ux_dict.specs.Parts.{AreFittingParts, AreWhole, IsPart, entries_of};
+ghost use Rattle.ux_dict.specs.Parts.{AreFittingParts, IsPart};
+ghost use Rattle.ux_dict.specs.Reached.{IsReachedBy};
 
-use crate::continuing::fitting_parts;
+use crate::continuing::{gone_on, one};
 use crate::keys::keys_of;
 use crate::lexicon::Lexicon;
+use crate::list_reached::ListReached;
 use crate::measures::{letters_of, longest_form};
-use crate::parts::{Part, ending, of_form};
+use crate::parts::{Part, of_form};
+use crate::reached::Reached;
 use crate::sorting::sort_by_form;
 use crate::stored::Stored;
 use crate::stored_table::first_stored;
@@ -76,23 +79,35 @@ impl ListLexicon {
         })
     }
 
-    fn parts(
-        &self,
+    /// The parts that fit the text so far with this one behind it, by those that fit the text so
+    /// far.
+    pub(crate) fn parts_on<'a>(
+        &'a self,
         alloc: Global,
+        parts: &[Part<'a>],
         text: &str,
         alphabet: &Alphabet,
-    ) -> Result<Vec<Part<'_>>, AllocError>
-        ensures fit { IfOk result (λ parts.
-            AreFittingParts alphabet.now (chars text.now) self.now parts.items) }
-        ensures dictionary { IsDictionary self.now }
+    ) -> Result<Vec<Part<'a>>, AllocError>
+        ensures { IfOk result (λ next. (front : List ℕ) →
+            AreFittingParts alphabet.now front self.now parts.now →
+            AreFittingParts alphabet.now (front ++ chars text.now) self.now next.items) }
     {
-        fitting_parts(alloc, self.whole(), &self.letters, text, alphabet)
+        gone_on(alloc, parts, &self.letters, text, alphabet)
+    }
+
+    /// Where the text leads.
+    fn reached(&self, alloc: Global, text: &str, alphabet: &Alphabet) -> Mem<Reached<'_>>
+        ensures { IfOk result (λ reached. IsReachedBy alphabet.now self.now text.now reached) }
+    {
+        let start = self.begin(alloc)?;
+        start.go_on(alloc, text, alphabet)
     }
 
     /// All entries as one part, whose forms begin with no character.
     fn whole(&self) -> Part<'_>
         ensures entries { result.entries.now ≡ self.now }
         ensures part { IsPart [] result }
+        ensures sound { All IsSound self.now }
     {
         Part {
             entries: &self.entries,
@@ -114,18 +129,26 @@ fn content_of(alloc: Global, entries: Vec<Entry>) -> Result<Vec<Stored>, AllocEr
 impl Lexicon for ListLexicon {
     ghost content = { λ lexicon. lexicon };
 
+    /// Where the empty text leads: to all entries.
+    fn begin(&self, alloc: Global) -> Mem<Reached<'_>> {
+        let parts = one(alloc, self.whole())?;
+        Ok(Reached::List(ListReached {
+            lexicon: self,
+            parts,
+        }))
+    }
+
     /// The entries whose form fits the text. Takes a copy of each, and a few binary searches for
     /// each character and each way to write the text with lower-case letters.
     fn fitting(&self, alloc: Global, text: &str, alphabet: &Alphabet) -> Mem<Vec<Entry>> {
-        let parts = self.parts(alloc, text, alphabet)?;
-        Ok(whole_forms(alloc, &parts)?)
+        self.reached(alloc, text, alphabet)?.ending(alloc)
     }
 
     /// Whether some form begins with characters that fit the text. Takes a few binary searches for
     /// each character and each way to write the text with lower-case letters.
     fn may_begin(&self, alloc: Global, text: &str, alphabet: &Alphabet) -> Mem<bool> {
-        let parts = self.parts(alloc, text, alphabet)?;
-        Ok(has_entry(&parts))
+        let reached = self.reached(alloc, text, alphabet)?;
+        Ok(reached.may_go_on())
     }
 
     /// The number of entries of exactly this form. Takes two binary searches.
@@ -145,41 +168,4 @@ impl Lexicon for ListLexicon {
     fn count(&self) -> usize {
         self.entries.len()
     }
-}
-
-/// Copies of the entries whose forms end where the bytes do that they have in common.
-fn whole_forms(alloc: Global, parts: &[Part<'_>]) -> Result<Vec<Entry>, AllocError>
-    ensures { IfOk result (λ found. AreWhole parts.now found.items) }
-{
-    let mut found = Vec::new(alloc);
-    for part in parts {
-        push_copies(&mut found, ending(part.entries, part.len))?;
-    }
-    Ok(found)
-}
-
-/// Puts copies of the entries last. The first ones take no more room than they need, since mostly
-/// no others come.
-fn push_copies(found: &mut Vec<Entry>, entries: &[Stored]) -> Result<(), AllocError>
-    ensures { OnOk result (found.new.items ≡ found.old.items ++ entries.now) }
-{
-    if found.is_empty() {
-        found.reserve_exact(entries.len())?;
-    }
-    for entry in entries {
-        found.push(entry.to_entry()?)?;
-    }
-    Ok(())
-}
-
-/// Whether some part has an entry.
-fn has_entry(parts: &[Part<'_>]) -> bool
-    ensures { IsTrue result ↔ (0 < length (entries_of parts.now)) }
-{
-    for part in parts {
-        if !part.entries.is_empty() {
-            return true;
-        }
-    }
-    false
 }

@@ -1,7 +1,7 @@
 -- Worked examples of the definitions.
 use Rattle.std.proofs.Common.{◌≡◌, [], ◌∷◌, ◌++◌, refl, Some, None, true, false}
 use Rattle.std.specs.Prelude.{codes}
-use Rattle.ux_grf.specs.declared.item.Item.TheVariants.{Literal, Mask, Empty, Call, Begin}
+use Rattle.ux_grf.specs.declared.item.Item.TheVariants.{Literal, Mask, Empty, Call, Begin, End}
 use Rattle.ux_grf.specs.declared.item.Piece.TheVariants.{Chars, Value}
 use Rattle.ux_grf.specs.declared.words.Gap.TheVariants.{Spaces}
 use Rattle.ux_grf.specs.Words.{words_of}
@@ -65,6 +65,12 @@ a_call = refl
 a_variable : marked_item (codes "$x( ") ≡ Some (Begin (codes "x"))
 a_variable = refl
 
+an_output_ends : marked_item (codes "$|x)") ≡ Some (End (codes "|x"))
+an_output_ends = refl
+
+a_bar_alone : marked_item (codes "$|(") ≡ None
+a_bar_alone = refl
+
 no_form : marked_item (codes "$x") ≡ None
 no_form = refl
 
@@ -83,6 +89,14 @@ no_items = last_line (of_items refl (item_then refl (line_over refl)))
 a_value : ArePieces (codes "[$x$]")
     (Chars (codes "[") ∷ Value (codes "x") ∷ Chars (codes "]") ∷ [])
 a_value = value_then refl (chars_only refl)
+
+-- `$x.UNSET$`
+a_test : ArePieces (codes "$x.UNSET$") (Value (codes "x.UNSET") ∷ [])
+a_test = value_then refl (chars_only refl)
+
+-- `$x.SET`
+no_test : ArePieces (codes "$x.SET") (Chars (codes "$x.SET") ∷ [])
+no_test = chars_only refl
 
 -- from box 0 by box 2 to box 1
 the_end_is_reached : Reached (ways_of ((2 ∷ []) ∷ [] ∷ (1 ∷ []) ∷ [])) 1

@@ -11,7 +11,7 @@ use Rattle.ux_grf.specs.declared.item.Item.TheVariants.{Empty, Call, Begin, End}
 use Rattle.ux_grf.specs.declared.words.Gap.TheVariants.{Blanks}
 use Rattle.ux_grf.specs.Words.{is_gap}
 use Rattle.ux_grf.specs.Items.{PLUS, SLASH}
-use Rattle.ux_grf.specs.Lines.{COLON, without_front, without_back, put_front, without_ending, is_name, is_name_byte, is_no_name_sign, call_of, bound_of, dollar_item, is_marked, marked_item, line_end, own_text, after_line, or_empty, IsLine, of_items, of_mark, AreLines, last_line, line_with_output, line_then}
+use Rattle.ux_grf.specs.Lines.{COLON, BAR, without_front, without_back, put_front, without_ending, without_bar, is_name, is_bound_name, is_name_byte, is_no_name_sign, call_of, bound_of, dollar_item, is_marked, marked_item, line_end, own_text, after_line, or_empty, IsLine, of_items, of_mark, AreLines, last_line, line_with_output, line_then}
 use Rattle.ux_grf.specs.WellFormed.{HasText, IsFilled}
 use Rattle.ux_grf.specs.Size.{size_of_item, size_of_line}
 use Rattle.ux_grf.proofs.NumbersLemmas.{and_left}
@@ -63,15 +63,24 @@ good_call name n le = by (ltb 0 (length name) && not (list_any is_no_name_sign n
     )
     by false is = tt
 
+without_bar-length : (text : List ℕ) → length (without_bar text) ≤ length text
+without_bar-length text = by (eqb (get_or text 0 0) BAR)
+  where
+    by : (t : Bool) → length (cond t (drop 1 text) text) ≤ length text
+    by true = omega (arith, length-drop 1 text)
+    by false = omega arith
+
 good_bound : (name : List ℕ) (sign n : ℕ) → 1 + length name ≤ n →
     HasGoodText n (bound_of name sign)
-good_bound name sign n le = by (is_name name) refl
+good_bound name sign n le = by (is_bound_name name) refl
   where
-    by : (t : Bool) → is_name name ≡ t → HasGoodText n (cond (not t) None
+    by : (t : Bool) → is_bound_name name ≡ t → HasGoodText n (cond (not t) None
         (cond (eqb sign 40) (Some (Begin name)) (cond (eqb sign 41) (Some (End name)) None)))
     by true is =
-        let some = ltb-true 0 (length name) (and_left (ltb 0 (length name))
-        (list_all is_name_byte name) is) in
+        let bare = without_bar name in
+        let inside : 0 < length bare = ltb-true 0 (length bare) (and_left (ltb 0 (length bare))
+        (list_all is_name_byte bare) is) in
+        let some : 0 < length name = omega (arith, inside, without_bar-length name) in
         either n (eqb sign 40) (Some (Begin name)) (cond (eqb sign 41) (Some (End name)) None)
         (some, le) (either n (eqb sign 41) (Some (End name)) None (some, le) tt)
     by false is = tt

@@ -10,7 +10,7 @@ use Rattle.ux_grf.specs.declared.item.Piece.TheVariants.{Value}
 use Rattle.ux_grf.specs.Protection.{ends_open}
 use Rattle.ux_grf.specs.Items.{PLUS, SLASH, no_more, part, fault, with_first, Reads, line_over, item_then, Fails, fault_here, fault_later}
 use Rattle.ux_grf.specs.Lines.{IsLine, of_items, of_mark, IsBadLine, in_items, at_mark, AreLines, last_line, line_with_output, line_then, IsBadIn, in_first, in_rest, or_empty}
-use Rattle.ux_grf.specs.Output.{ArePieces, chars_only, value_then, IsOutput, nothing_put, pieces_put, chars_in, name_len}
+use Rattle.ux_grf.specs.Output.{ArePieces, chars_only, value_then, IsOutput, nothing_put, pieces_put, chars_in, value_len}
 use Rattle.ux_grf.specs.Content.{IsContent, IsFault, IsBadAt}
 
 -- the items of a line
@@ -151,11 +151,11 @@ IsBadIn-once {text} {left} {other} (in_rest {rest = rest} is bad) (in_rest {rest
 
 -- an output
 abbrev after_at : List ℕ → ℕ → List ℕ
-after_at text k = drop (name_len (drop (k + 1) text) + 1) (drop (k + 1) text)
+after_at text k = drop (value_len (drop (k + 1) text) + 1) (drop (k + 1) text)
 
 abbrev pieces_at : List ℕ → ℕ → List Piece → List Piece
 pieces_at text k later = chars_in (take k text)
-    ++ Value (take (name_len (drop (k + 1) text)) (drop (k + 1) text)) ∷ later
+    ++ Value (take (value_len (drop (k + 1) text)) (drop (k + 1) text)) ∷ later
 
 pub ArePieces-once : {text : List ℕ} {xs ys : List Piece} → ArePieces text xs → ArePieces text ys →
     xs ≡ ys

@@ -46,6 +46,18 @@ is_name_byte b =
 abbrev pub is_name : List ℕ → Bool
 is_name text = nat_lt 0 (length text) && list_all is_name_byte text
 
+-- the sign before the name of an output's variable
+abbrev pub BAR : ℕ
+BAR = 124
+
+abbrev pub without_bar : List ℕ → List ℕ
+without_bar text = if slice_index text 0 == BAR then drop 1 text else text
+
+-- what stands in front of the last sign of a begin or an end: the name of a variable, after a bar
+-- where an output is meant
+abbrev pub is_bound_name : List ℕ → Bool
+is_bound_name text = is_name (without_bar text)
+
 -- the text without one such ending
 abbrev pub without_ending : (ending text : List ℕ) → List ℕ
 without_ending ending text =
@@ -68,7 +80,7 @@ call_item text = call_of (without_ending (codes ".grf") (without_back (without_f
 -- a variable's beginning or end, by the last sign
 abbrev pub bound_of : List ℕ → ℕ → Option Item
 bound_of name sign =
-    if not (is_name name) then None
+    if not (is_bound_name name) then None
     else if sign == 40 then Some (Begin name)
     else if sign == 41 then Some (End name)
     else None

@@ -1,5 +1,8 @@
 //! What stands in a box: the items of its lines and the pieces of its output.
 
+ghost use Rattle.std.specs.Prelude.{◌≡◌, IfOk};
+
+use std::alloc::AllocError;
 use ux_base::Txt;
 
 /// One item of a line. The manual, on graphs.
@@ -19,9 +22,9 @@ pub enum Item {
     Empty,
     /// `:name`: a word of the graph of this name.
     Call(Txt),
-    /// `$name(`: a variable begins.
+    /// `$name(`: a variable begins; `$|name(`, where its text has the bar: an output's variable.
     Begin(Txt),
-    /// `$name)`: a variable ends.
+    /// `$name)`: a variable ends; `$|name)`, with the bar: an output's variable.
     End(Txt),
     /// `$[`: a context that has to follow.
     Positive,
@@ -34,10 +37,19 @@ pub enum Item {
 }
 
 /// A piece of a box's output.
-#[derive(Drop)]
+#[derive(Clone, Drop)]
 pub enum Piece {
     /// Characters that are put as they stand.
     Chars(Txt),
-    /// The value of a variable.
+    /// The value of a variable: its name, or a test of it, `name.SET` or `name.UNSET`.
     Value(Txt),
+}
+
+impl Piece {
+    /// A copy.
+    pub fn copy(&self) -> Result<Piece, AllocError>
+        ensures { IfOk result (λ piece. piece ≡ self.now) }
+    {
+        self.clone()
+    }
 }

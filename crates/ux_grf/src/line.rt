@@ -199,7 +199,8 @@ fn read_items<'a>(alloc: Global, text: &'a str) -> Result<Line<'a>, Fault<'a>>
     ensures shorter { IfOk result (λ line. length line.after.now ≤ length text.now) }
     ensures bad { IfErr result (StopsItems text.now) }
 {
-    let mut items = Vec::new(alloc);
+    // Most lines have one item: room for four, given back later, leaves a hole for each line.
+    let mut items = Vec::with_capacity(alloc, 1)?;
     let mut rest = text;
     loop {
         match read_start(alloc, rest)? {

@@ -7,7 +7,7 @@ ghost use Rattle.std.specs.Str.{bytes_eq};
 ghost use Rattle.std.specs.List.{list_all, list_any};
 ghost use Rattle.ux_grf.specs.Words.{is_gap};
 ghost use Rattle.ux_grf.specs.declared.words.Gap.TheVariants.{Blanks};
-ghost use Rattle.ux_grf.specs.Lines.{without_front, without_back, without_ending, begins_blank, ends_blank, is_name, is_name_byte, is_no_name_sign, call_of, call_item, bound_of, dollar_item, is_marked, marked_item};
+ghost use Rattle.ux_grf.specs.Lines.{without_front, without_back, without_ending, begins_blank, ends_blank, is_name, is_name_byte, is_bound_name, without_bar as without_bar_of, is_no_name_sign, call_of, call_item, bound_of, dollar_item, is_marked, marked_item};
 
 use crate::item::Item;
 use crate::words::{Gap, after, before, is_gap_byte};
@@ -87,7 +87,7 @@ fn bound(alloc: Global, text: &str) -> Result<Option<Item>, AllocError>
 fn begin(alloc: Global, name: &str) -> Result<Option<Item>, AllocError>
     ensures { IfOk result (λ item. item ≡ bound_of name.now 40) }
 {
-    if !is_variable(name) {
+    if !is_bound(name) {
         return Ok(None);
     }
     Ok(Some(Item::Begin(Txt::from_str(alloc, name)?)))
@@ -97,10 +97,28 @@ fn begin(alloc: Global, name: &str) -> Result<Option<Item>, AllocError>
 fn end(alloc: Global, name: &str) -> Result<Option<Item>, AllocError>
     ensures { IfOk result (λ item. item ≡ bound_of name.now 41) }
 {
-    if !is_variable(name) {
+    if !is_bound(name) {
         return Ok(None);
     }
     Ok(Some(Item::End(Txt::from_str(alloc, name)?)))
+}
+
+/// Whether a variable, or an output's variable after a bar, may have this name.
+fn is_bound(name: &str) -> bool
+    ensures { result ≡ is_bound_name name.now }
+{
+    is_variable(without_bar(name))
+}
+
+/// The text without a bar in front.
+fn without_bar(text: &str) -> &str
+    ensures { result.now ≡ without_bar_of text.now }
+{
+    if text.as_bytes().first() == Some(&b'|') {
+        after(text, 0)
+    } else {
+        text
+    }
 }
 
 /// Whether a variable may have this name.

@@ -1,11 +1,11 @@
-//! The output of a box: characters and the values of variables.
+//! The output of a box: characters, the values of variables and tests of them.
 //!
 //! `specs/Output.antt` has the definitions. A `$` that begins no value is a character.
 
-ghost use Rattle.std.specs.Prelude.{◌≡◌, ◌+◌, ◌<◌, ◌++◌, ◌∷◌, [], length, take, drop, slice_index, false, true, IfOk, IfSome, OnOk};
+ghost use Rattle.std.specs.Prelude.{◌≡◌, ◌≤◌, ◌+◌, ◌<◌, ◌++◌, ◌∷◌, [], length, take, drop, slice_index, false, true, IfOk, IfSome, OnOk};
 ghost use Rattle.ux_grf.specs.declared.item.Piece.TheVariants.{Value};
 ghost use Rattle.ux_grf.specs.Lines.{DOLLAR};
-ghost use Rattle.ux_grf.specs.Output.{IsOutput, ArePieces, chars_in, first_value, names_value, name_len};
+ghost use Rattle.ux_grf.specs.Output.{IsOutput, ArePieces, chars_in, first_value, names_value, name_len, test_len, value_len};
 
 use crate::item::Piece;
 use crate::marked::is_name_sign;
@@ -34,7 +34,7 @@ fn read_pieces(alloc: Global, text: &str) -> Result<Vec<Piece>, AllocError>
         put_chars(alloc, &mut pieces, before(rest, place))?;
         let inside = after(rest, place);
         put_value(alloc, &mut pieces, inside)?;
-        rest = after_name(inside);
+        rest = after_value(inside);
     }
     put_chars(alloc, &mut pieces, rest)?;
     Ok(pieces)
@@ -51,23 +51,23 @@ fn put_chars(alloc: Global, pieces: &mut Vec<Piece>, text: &str) -> Result<(), A
     Ok(())
 }
 
-/// Puts the value whose name begins the text after the pieces.
+/// Puts the value that begins the text after the pieces.
 fn put_value(alloc: Global, pieces: &mut Vec<Piece>, text: &str) -> Result<(), AllocError>
     requires { names_value text.now ≡ true }
     ensures { OnOk result (pieces.new.items
-        ≡ pieces.old.items ++ Value (take (name_len text.now) text.now) ∷ []) }
+        ≡ pieces.old.items ++ Value (take (value_len text.now) text.now) ∷ []) }
 {
-    let name = Txt::from_str(alloc, before(text, name_length(text.as_bytes())))?;
+    let name = Txt::from_str(alloc, before(text, value_length(text.as_bytes())))?;
     pieces.push(Piece::Value(name))?;
     Ok(())
 }
 
-/// What stands after the value whose name begins the text.
-fn after_name(text: &str) -> &str
+/// What stands after the value that begins the text.
+fn after_value(text: &str) -> &str
     requires { names_value text.now ≡ true }
-    ensures { result.now ≡ drop (name_len text.now + 1) text.now }
+    ensures { result.now ≡ drop (value_len text.now + 1) text.now }
 {
-    after(text, name_length(text.as_bytes()))
+    after(text, value_length(text.as_bytes()))
 }
 
 /// The place of the first `$` that begins a value and isn't protected.
@@ -88,17 +88,39 @@ fn find_value(text: &str) -> Option<usize>
     None
 }
 
-/// Whether a name and a `$` begin the text.
+/// Whether a name, or a test of one, and a `$` begin the text.
 fn begins_value(text: &[u8]) -> bool
     ensures { result ≡ names_value text.now }
 {
-    let len = name_length(text);
-    0 < len && text.get(len) == Some(&b'$')
+    0 < name_length(text) && text.get(value_length(text)) == Some(&b'$')
+}
+
+/// How many bytes of a value begin the text: a name, and a test of it where one follows.
+fn value_length(text: &[u8]) -> usize
+    ensures { result ≡ value_len text.now }
+{
+    let name = name_length(text);
+    name + test_length(&text[name..])
+}
+
+/// How many bytes of a test begin the text.
+fn test_length(text: &[u8]) -> usize
+    ensures len { result ≡ test_len text.now }
+    ensures within { result ≤ length text.now }
+{
+    if text.starts_with(b".SET") {
+        4
+    } else if text.starts_with(b".UNSET") {
+        6
+    } else {
+        0
+    }
 }
 
 /// How many bytes of a name begin the text.
 fn name_length(text: &[u8]) -> usize
-    ensures { result ≡ name_len text.now }
+    ensures len { result ≡ name_len text.now }
+    ensures within { result ≤ length text.now }
 {
     for (place, byte) in text.iter().enumerate() {
         if !is_name_sign(*byte) {

@@ -1,6 +1,6 @@
 -- The parts of compiling fit together: what each gives is what the next one asks for.
-use Rattle.std.proofs.Common.{arith, ◌≡◌, ℕ, zero, suc, ◌+◌, ◌-◌, ◌<◌, ◌≤◌, List, [], ◌∷◌, ◌++◌, refl, sym, ◌∙◌, ap, subst, Bool, true, false, ◌||◌, inl, inr, length, length-append, get_or, map, take, Some, String, Global}
-use Rattle.std.specs.Prelude.{All, Contains, slice_get, string_bytes, nat_lt}
+use Rattle.std.proofs.Common.{arith, ◌≡◌, ℕ, zero, suc, ◌+◌, ◌-◌, ◌<◌, ◌≤◌, List, [], ◌∷◌, ◌++◌, refl, sym, ◌∙◌, ap, subst, Bool, true, false, inl, inr, length, length-append, get_or, map, take, Some, String, Global}
+use Rattle.std.specs.Prelude.{All, Contains, slice_get, string_bytes}
 use Rattle.std.specs.List.{AllZip, list_any}
 use Rattle.std.specs.Option.{option_map}
 use Rattle.std.proofs.lemmas.List.{take_all, map-append, get_or_default}
@@ -170,8 +170,8 @@ splittable names item.Empty b masks there = tt
 splittable names (item.Call name) b masks there = there name refl
 splittable names (item.Mask text) b masks there = masks 0 text (omega arith)
 splittable names (item.Brace text) b masks there = tt
-splittable names (item.Begin name) b masks there = cc
-splittable names (item.End name) b masks there = cc
+splittable names (item.Begin name) b masks there = tt
+splittable names (item.End name) b masks there = tt
 splittable names item.Positive b masks there = cc
 splittable names item.Negative b masks there = cc
 splittable names item.ContextEnd b masks there = cc
@@ -188,11 +188,6 @@ none_passes p xs x none (k, lt, is) = by (p x) refl
         let some : list_any p xs ≡ true =
         list_any_at p xs k x lt (ap p is ∙ e) in
         absurd cc
-
--- of two tests neither of which passes, the first doesn't
-pub first_fails : (a b : Bool) → (a || b) ≡ false → a ≡ false
-first_fails false b h = refl
-first_fails true b h = cc
 
 all_in : {A : Type 0} (P : A → Type 0) (xs : List A) → ((x : A) → Contains xs x → P x) → All P xs
 all_in P xs each i d lt = each (get_or xs i d) (Contains-get_or xs i d lt)
@@ -218,9 +213,8 @@ module _ (graphs : List Given) (whole : AreWhole (drawn graphs))
           splittable names x
           (none_passes is_beyond line x
           (none_passes has_beyond_line box.lines line
-          (first_fails (list_any has_beyond_line box.lines) (nat_lt 0 (length box.output))
           (All-contains (λ (b : GrfBox). has_beyond b ≡ false) graph.1.boxes box
-          here of_graph)) of_box) of_line)
+          here of_graph) of_box) of_line)
           (item_masks box line x (All-contains (λ (b : GrfBox). AreMasks (mask_texts_of b))
           graph.1.boxes box masks_here of_graph) of_box of_line)
           (λ name call. whole n name

@@ -1,5 +1,5 @@
 -- The states that are made of places say the same as the places, and their edges stay inside.
-use Rattle.std.proofs.Common.{arith, ◌≡◌, ◌≢◌, ℕ, zero, suc, ◌+◌, ◌-◌, ◌<◌, ◌≤◌, List, [], ◌∷◌, ◌++◌, refl, sym, ◌∙◌, ap, subst, ◌⊎◌, inl, inr, length, append-nil, get_or, drop, drop-cons, Bool, true, false, cond, add-one, rules}
+use Rattle.std.proofs.Common.{arith, ◌≡◌, ◌≢◌, ℕ, zero, suc, ◌+◌, ◌-◌, ◌<◌, ◌≤◌, List, [], ◌∷◌, ◌++◌, refl, sym, ◌∙◌, ap, subst, ◌⊎◌, inl, inr, length, append_assoc, append-nil, get_or, drop, drop-cons, Bool, true, false, cond, add-one, rules}
 use Rattle.std.specs.Prelude.{Some, slice_get, Contains, ltb, nat_eq, ◌||◌, map, All}
 use Rattle.std.specs.List.{range_with_len, list_any, flat_map}
 use Rattle.std.proofs.lemmas.Option.{same_Some, slice_get_within, slice_get-get_or}
@@ -11,10 +11,10 @@ use Rattle.ux_net.specs.declared.label.Label.TheVariants.{Empty}
 use Rattle.ux_net.specs.declared.place.Place.{Place}
 use Rattle.ux_net.specs.declared.state.Edge.{Edge}
 use Rattle.ux_net.specs.declared.state.State.{State}
-use Rattle.ux_net.specs.Words.{Step, StepGraph, Letter, piece, ordinary, mark_of, letter_of, letters, Run, stop, along}
-use Rattle.ux_net.specs.Places.{label_lines, place_targets, is_reached, places_of, IsPlaceStep, IsEndPlace, place_grammar}
+use Rattle.ux_net.specs.Words.{Step, StepGraph, Letter, piece, ordinary, mark_of, letter_of, letters, put_by, Run, stop, along}
+use Rattle.ux_net.specs.Places.{label_lines, place_output, place_targets, is_reached, places_of, IsPlaceStep, IsEndPlace, place_grammar}
 use Rattle.ux_net.specs.Nets.{IsNetStep, IsNetEnd, net_graph, IsPlain}
-use Rattle.ux_net.specs.Construct.{labels_in, has_state, number, labels_at, chain_len, first_chain, target_of, edge_of, edges_to, place_state, chain_state, at_place, along_lines, by_state, states_of, AreFit, AreTargetsInside}
+use Rattle.ux_net.specs.Construct.{labels_in, has_state, number, labels_at, chain_len, first_chain, target_of, output_before, edge_of, edges_to, place_state, chain_state, at_place, along_lines, by_state, states_of, AreFit, AreTargetsInside}
 use Rattle.ux_net.proofs.JoinedLemmas.{less_or, nothing_in, first_or_later, contains_first, contains_later, contains_joined, contained_joined, contains_mapped, contained_mapped, contains_range, contained_range}
 use Rattle.ux_net.proofs.FreeLemmas.{plain_ordinary}
 use Rattle.ux_net.proofs.RefineLemmas.{letters_along, IsSame, Refines, refined_same}
@@ -153,20 +153,32 @@ module _ (places : List Place) (fit : AreFit places) where
   -- a step along label k of a line
   record AlongLabel (t : Step) (b l k : ℕ) : Type 0 where
     to : t.to ≡ target_of places b l k
-    output : t.output ≡ []
+    output : t.output ≡ output_before places b k
     labels : t.labels ≡ label b l k ∷ []
 
-  no_output : (t : Step) → t.output ≡ [] → letters_along t ≡ letters t.labels
-  no_output t none = ap (λ (o : List Piece). map piece o ++ letters t.labels) none
+  -- the letters of a line from label k on, with what is put out before that label
+  abbrev letters_from : (b l k : ℕ) → List Letter
+  letters_from b l k =
+      map piece (output_before places b k) ++ letters (drop k (labels_at places b l))
+
+  -- nothing is put out before a later label
+  later_letters : (b l k : ℕ) →
+      letters_from b l (k + 1) ≡ letters (drop (k + 1) (labels_at places b l))
+  later_letters b l k =
+      ap (λ n. map piece (output_before places b n)
+      ++ letters (drop (k + 1) (labels_at places b l))) (add-one k)
 
   step_letters : (t : Step) (b l k : ℕ) → AlongLabel t b l k → k < length (labels_at places b l) →
-      letters (drop k (labels_at places b l))
-      ≡ letters_along t ++ letters (drop (k + 1) (labels_at places b l))
+      letters_from b l k ≡ letters_along t ++ letters (drop (k + 1) (labels_at places b l))
   step_letters t b l k step lt =
+      let later = letters (drop (k + 1) (labels_at places b l)) in
+      let line : letters (drop k (labels_at places b l)) ≡ letters t.labels ++ later =
       letters_more (labels_at places b l) k lt
-      ∙ ap (λ x. x ++ letters (drop (k + 1) (labels_at places b l)))
-      (sym (no_output t step.output
-      ∙ (ap letters step.labels ∙ append-nil (letter_of (label b l k)))))
+      ∙ ap (λ x. x ++ later)
+      (sym (ap letters step.labels ∙ append-nil (letter_of (label b l k)))) in
+      ap (λ x. map piece (output_before places b k) ++ x) line
+      ∙ (ap (λ (o : List Piece). map piece o ++ (letters t.labels ++ later)) (sym step.output)
+      ∙ sym (append_assoc (put_by t) (letters t.labels) later))
 
   step_behind : (t : Step) (b l k : ℕ) → AlongLabel t b l k → l < length (lines_of b) →
       k < length (labels_at places b l) →
@@ -176,10 +188,11 @@ module _ (places : List Place) (fit : AreFit places) where
       (behind b l k at lt)
 
   along_edge : (t : Step) (b l k : ℕ) (edge : Edge) → edge_of places b l k ≡ edge →
-      t.to ≡ edge.target → t.output ≡ [] → t.labels ≡ edge.label ∷ [] → AlongLabel t b l k
+      t.to ≡ edge.target → t.output ≡ edge.output → t.labels ≡ edge.label ∷ [] →
+      AlongLabel t b l k
   along_edge t b l k edge is to output labels = record {
     to = to ∙ ap (λ (e : Edge). e.target) (sym is);
-    output = output;
+    output = output ∙ ap (λ (e : Edge). e.output) (sym is);
     labels = labels ∙ ap (λ (e : Edge). e.label ∷ []) (sym is);
   }
 
@@ -219,14 +232,22 @@ module _ (places : List Place) (fit : AreFit places) where
       ∙ get_chain places (place_state places) (chain_state places) b l k
       (place_inside places b (has_line b l at)) at lt))
 
+  -- the step along label k of a line, from a state
+  abbrev step_at : (b l k n : ℕ) → Step
+  step_at b l k n = record {
+    from = n;
+    to = target_of places b l k;
+    output = output_before places b k;
+    labels = label b l k ∷ [];
+  }
+
   -- from where the edge of label k begins, the letters from there lead to the place
   edge_run : (g m b l k n : ℕ) (state : State) → l < length (lines_of b) →
       k + 1 + m ≡ length (labels_at places b l) → slice_get (states_of places) n ≡ Some state →
       Contains state.edges (edge_of places b l k) →
-      Run g new n (number places b) (letters (drop k (labels_at places b l)))
+      Run g new n (number places b) (letters_from b l k)
   edge_run g zero b l k n state at e found inside =
-      let t : Step =
-      record { from = n; to = target_of places b l k; output = []; labels = label b l k ∷ [] } in
+      let t : Step = step_at b l k n in
       let along_label : AlongLabel t b l k =
       record { to = refl; output = refl; labels = refl } in
       let step : IsNetStep (states_of places) t = record {
@@ -244,14 +265,13 @@ module _ (places : List Place) (fit : AreFit places) where
       (number places b) (omega arith) in
       let none : letters (drop (k + 1) (labels_at places b l)) ≡ [] =
       ap letters (drop_whole (labels_at places b l) (k + 1) (omega arith)) in
-      let word : letters t.labels ++ [] ≡ letters (drop k (labels_at places b l)) =
-      ap (λ x. letters t.labels ++ x) (sym none)
+      let word : letters_along t ++ [] ≡ letters_from b l k =
+      ap (λ x. letters_along t ++ x) (sym none)
       ∙ sym (step_letters t b l k along_label (omega arith)) in
       subst (λ w. Run g new n (number places b) w) word
       (along t step mark (subst (λ m. Run g new m (number places b) []) (sym to) stop))
   edge_run g (suc m) b l k n state at e found inside =
-      let t : Step =
-      record { from = n; to = target_of places b l k; output = []; labels = label b l k ∷ [] } in
+      let t : Step = step_at b l k n in
       let along_label : AlongLabel t b l k =
       record { to = refl; output = refl; labels = refl } in
       let step : IsNetStep (states_of places) t = record {
@@ -271,8 +291,10 @@ module _ (places : List Place) (fit : AreFit places) where
       (place_inside places b (has_line b l at)) at (omega arith) in
       let later : Run g new (first_chain places b l + k) (number places b)
       (letters (drop (k + 1) (labels_at places b l))) =
-      edge_run g m b l (k + 1) (first_chain places b l + k) (chain_state places b l k) at
-      (omega arith) there (contains_first (edge_of places b l (k + 1)) []) in
+      subst (λ w. Run g new (first_chain places b l + k) (number places b) w)
+      (later_letters b l k)
+      (edge_run g m b l (k + 1) (first_chain places b l + k) (chain_state places b l k) at
+      (omega arith) there (contains_first (edge_of places b l (k + 1)) [])) in
       subst (λ w. Run g new n (number places b) w)
       (sym (step_letters t b l k along_label (omega arith)))
       (along t step mark (subst (λ i. Run g new i (number places b)
@@ -284,7 +306,8 @@ module _ (places : List Place) (fit : AreFit places) where
       let l = line_number places s.to s.labels step.line in
       let some = line_some places fit s.to l.0 l.1 in
       subst (λ w. Run g new (number places s.from) (number places s.to) w)
-      (ap letters l.2 ∙ sym (no_output s step.puts))
+      (ap (λ (line : List Label). map piece (place_output places s.to) ++ letters line) l.2
+      ∙ ap (λ (o : List Piece). map piece o ++ letters s.labels) (sym step.puts))
       (edge_run g (length (labels_at places s.to l.0) - 1) s.to l.0 0 (number places s.from)
       (place_state places s.from) l.1 (omega arith)
       (get_place places (place_state places) (chain_state places) s.from has)
@@ -304,8 +327,12 @@ module _ (places : List Place) (fit : AreFit places) where
       (subst (λ (x : State). Contains x.edges step.edge) same step.inside) in
       let label = along_edge t e.0 e.2 0 step.edge e.4 step.to step.puts step.label in
       let some = line_some places fit e.0 e.2 e.3 in
-      let s : Step =
-      record { from = a; to = e.0; output = []; labels = labels_at places e.0 e.2 } in
+      let s : Step = record {
+        from = a;
+        to = e.0;
+        output = place_output places e.0;
+        labels = labels_at places e.0 e.2;
+      } in
       let old : IsPlaceStep places s = record {
         before_end = not_end a has;
         leads = e.1;
@@ -334,7 +361,7 @@ module _ (places : List Place) (fit : AreFit places) where
       inl (
         letters (drop ((c.k + 1) + 1) (labels_at places b c.line)),
         step_behind t b c.line (c.k + 1) label c.inside lt,
-        c.rest ∙ step_letters t b c.line (c.k + 1) label lt,
+        c.rest ∙ (sym (later_letters b c.line c.k) ∙ step_letters t b c.line (c.k + 1) label lt),
       )
 
   ending : (n b : ℕ) (u : List Letter) → Ahead n b u → IsNetEnd (states_of places) n →

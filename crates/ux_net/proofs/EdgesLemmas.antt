@@ -13,7 +13,7 @@ use Rattle.ux_net.specs.Places.{places_of, place_grammar, IsPlaceStep}
 use Rattle.ux_net.specs.Fit.{IsFit}
 use Rattle.ux_net.specs.Admissible.{IsFree}
 use Rattle.ux_net.specs.Numbers.{number_of, all_places}
-use Rattle.ux_net.specs.Ways.{CallsAt, IsWay, AreWays, AreFreeMarks, IsOpen, IsFreeEdge, IsEntryEdge, way_at}
+use Rattle.ux_net.specs.Ways.{CallsAt, IsWay, AreWays, AreFreeMarks, IsOpen, IsFreeEdge, IsEntryEdge, step_along, way_at}
 use Rattle.ux_net.specs.Cycles.{IsLoopStep, IsEntryStep, AreFreeEdges, AreAllEdges}
 use Rattle.ux_net.specs.Gains.{Gains, SoOfOne}
 use Rattle.ux_net.specs.Spots.{IsFreePair, IsEntryPair, IsLoopSpot, IsEntrySpot}
@@ -23,8 +23,8 @@ use Rattle.ux_net.proofs.NumbersLemmas.{number_below}
 use Rattle.ux_net.proofs.GainsLemmas.{gains_all}
 use Rattle.ux_net.proofs.MarksLemmas.{is_way, line_free, nullable_ends}
 
-way_step : (way : Way) → List Label → Step
-way_step way line = record { from = way.source; to = way.target; output = []; labels = line }
+way_step : (graphs : List (List Place)) (way : Way) → List Label → Step
+way_step graphs way line = step_along graphs way line
 
 -- the start of the graph that a line calls is the one that is called
 calls_start : (graphs : List (List Place)) (called : Option ℕ) (line : List Label) (start : ℕ) →
@@ -43,7 +43,7 @@ module _ (graphs : List (List Place)) (fit : All (IsFit (length graphs)) graphs)
         IsFree (place_grammar graphs) (letters w.line)
     unfolding way_step
     open_free way w opened = line_free graphs fit way.called w.line w.along.calls (λ h l c.
-        let start = start_inside graphs fit way.graph h (way_step way w.line) w.step l in
+        let start = start_inside graphs fit way.graph h (way_step graphs way w.line) w.step l in
         (marked.marked h 0 start).0 (subst (λ o. IsOpen marks o) c opened))
 
     -- a step that may take nothing is an open way
@@ -70,7 +70,7 @@ module _ (graphs : List (List Place)) (fit : All (IsFit (length graphs)) graphs)
           let w = (are.exact way).0 s.1 in
           record {
             graph = way.graph;
-            step = way_step way w.line;
+            step = way_step graphs way w.line;
             of_graph = w.step;
             free = open_free way w s.2.0;
             from = sym (ap (λ (p : ℕ × ℕ). p.0) s.2.1) ∙ w.along.from;
@@ -98,7 +98,7 @@ module _ (graphs : List (List Place)) (fit : All (IsFit (length graphs)) graphs)
           let way = s.0 in
           let w = (are.exact way).0 s.1 in
           subst (λ (z : Spot). IsLoopStep graphs numbers z.graph z.node) s.2.2 (record {
-            step = way_step way w.line;
+            step = way_step graphs way w.line;
             of_graph = w.step;
             begins = refl;
             free = open_free way w s.2.0;
@@ -123,7 +123,7 @@ module _ (graphs : List (List Place)) (fit : All (IsFit (length graphs)) graphs)
         let c = calls_start graphs way.called w.line s.2.0 w.along.calls s.2.1 in
         record {
           graph = way.graph;
-          step = way_step way w.line;
+          step = way_step graphs way w.line;
           of_graph = w.step;
           called = c.0;
           calls = c.1;
@@ -154,7 +154,7 @@ module _ (graphs : List (List Place)) (fit : All (IsFit (length graphs)) graphs)
         let w = (are.exact way).0 s.1 in
         let c = calls_start graphs way.called w.line s.2.0 w.along.calls s.2.1 in
         subst (λ (z : Spot). IsEntryStep graphs numbers z.graph z.node) s.2.3 (record {
-          step = way_step way w.line;
+          step = way_step graphs way w.line;
           of_graph = w.step;
           to_node = refl;
           called = c.0;

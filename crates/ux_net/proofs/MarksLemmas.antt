@@ -15,11 +15,11 @@ use Rattle.ux_net.specs.Construct.{is_call}
 use Rattle.ux_net.specs.Admissible.{IsSilent, IsFree, none, silent, call, IsNullable}
 use Rattle.ux_net.specs.Numbers.{number_of, all_places}
 use Rattle.ux_net.specs.Silent.{are_silent}
-use Rattle.ux_net.specs.Ways.{CallsAt, IsWay, EndsFreely, way_at, rule_of, AreFreeRules, AreEnds, AreWays}
+use Rattle.ux_net.specs.Ways.{CallsAt, IsWay, EndsFreely, step_along, way_at, rule_of, AreFreeRules, AreEnds, AreWays}
 use Rattle.ux_net.proofs.MapLemmas.{map_exactly}
 use Rattle.ux_net.proofs.NumbersLemmas.{place_so, number_below}
-use Rattle.ux_net.proofs.FreeLemmas.{free_append, silent_free, nullable_call}
-use Rattle.ux_net.proofs.StepsLemmas.{bare_step, step_inside, step_cases, step_plain, start_inside, target_from}
+use Rattle.ux_net.proofs.FreeLemmas.{free_append, along_free, silent_free, nullable_call}
+use Rattle.ux_net.proofs.StepsLemmas.{put_step, step_inside, step_cases, step_plain, start_inside, target_from}
 
 module _ (graphs : List (List Place)) (fit : All (IsFit (length graphs)) graphs) where
   -- a step has a way
@@ -27,7 +27,7 @@ module _ (graphs : List (List Place)) (fit : All (IsFit (length graphs)) graphs)
       CallsAt graphs called s.labels → IsWay graphs (way_at graphs g s.from s.to called)
   is_way g s i called c = record {
     line = s.labels;
-    step = bare_step (places_of graphs g) s i;
+    step = put_step (places_of graphs g) s i;
     along = record {
       graph = refl;
       source = refl;
@@ -78,8 +78,7 @@ module _ (graphs : List (List Place)) (fit : All (IsFit (length graphs)) graphs)
         let f = (by_ways r).0 h in
         let way = f.0 in
         let is = f.1 in
-        let s : Step =
-        record { from = way.source; to = way.target; output = []; labels = is.line } in
+        let s : Step = step_along graphs way is.line in
         let inside = step_inside (places_of graphs way.graph) s is.step in
         let here = sound first way.graph way.target inside.1
         (sym (ap (λ (q : Rule). q.first) f.2) ∙ is.along.to) in
@@ -89,10 +88,11 @@ module _ (graphs : List (List Place)) (fit : All (IsFit (length graphs)) graphs)
         place_so graphs (EndsFreely graphs) g way.graph a way.source i inside.0
         (sym e ∙ (sym (ap (λ (q : Rule). q.place) f.2) ∙ is.along.from)) (record {
           last = here.last;
-          word = letters is.line ++ here.word;
+          word = (put_by s ++ letters is.line) ++ here.word;
           ends = here.ends;
           run = along s is.step (step_plain graphs fit way.graph s is.step) here.run;
-          free = free_append (place_grammar graphs) free here.free;
+          free =
+              free_append (place_grammar graphs) (along_free (place_grammar graphs) s free) here.free;
         })
 
     -- a letter that takes nothing: what it calls has a marked start
@@ -196,8 +196,7 @@ module _ (graphs : List (List Place)) (fit : All (IsFit (length graphs)) graphs)
           let f = (by_ways r).0 h in
           let way = f.0 in
           let is = f.1 in
-          let s : Step =
-          record { from = way.source; to = way.target; output = []; labels = is.line } in
+          let s : Step = step_along graphs way is.line in
           let inside = step_inside (places_of graphs way.graph) s is.step in
           let from = number_below graphs way.graph way.source inside.0 in
           let to = number_below graphs way.graph way.target inside.1 in

@@ -15,7 +15,7 @@ use Rattle.ux_net.specs.declared.net_graph.Rank.{Rank}
 use Rattle.ux_net.specs.declared.state.Edge.{Edge}
 use Rattle.ux_net.specs.declared.state.State.{State}
 use Rattle.ux_net.specs.Words.{Step}
-use Rattle.ux_net.specs.Places.{label_lines, place_targets, IsPlaceStep, places_of}
+use Rattle.ux_net.specs.Places.{label_lines, place_output, place_targets, IsPlaceStep, places_of}
 use Rattle.ux_net.specs.Nets.{graph_at, states_in, IsCalled, AreInside, ArePlain}
 use Rattle.ux_net.specs.Nets.{states_of as net_states}
 use Rattle.ux_net.specs.Measured.{width_of, weigh, rank_in, rank_of, frees_in, must, IsLower, Falls, IsMeasured}
@@ -282,7 +282,12 @@ module _ (graphs : List (List Place)) (ranks : List (List ℕ)) (free : List (Li
 
   -- the step of the places along a line of a target
   abbrev step_of : ℕ → ℕ → ℕ → ℕ → Step
-  step_of g a b l = record { from = a; to = b; output = []; labels = labels g b l }
+  step_of g a b l = record {
+    from = a;
+    to = b;
+    output = place_output (places g) b;
+    labels = labels g b l;
+  }
 
   is_step : (g a b l : ℕ) → AreFit (places g) → has_state (places g) a ≡ true →
       Contains (place_targets (places g) a) b → l < length (label_lines (places g) b) →

@@ -11,8 +11,8 @@ use Rattle.ux_grf.specs.declared.item.Item.{Item}
 use Rattle.ux_net.proofs.SplittingLemmas.{take-next}
 use Rattle.ux_net.specs.declared.label.Label.{Label}
 use Rattle.ux_net.specs.declared.place.Place.{Place}
-use Rattle.ux_net.specs.Boxes.{box_lines_in, box_targets_in, box_reached_in, lines_at, targets_at}
-use Rattle.ux_net.specs.Places.{lines_in, targets_in, reached_in, is_reached, label_lines, place_targets, ArePlaces}
+use Rattle.ux_net.specs.Boxes.{box_lines_in, box_targets_in, box_reached_in, lines_at, output_in, output_at, targets_at}
+use Rattle.ux_net.specs.Places.{lines_in, output_in_place, targets_in, reached_in, is_reached, label_lines, place_output, place_targets, ArePlaces}
 use Rattle.ux_net.specs.Splitting.{AreSplitLines, start_line, IsPlaceOf}
 
 -- at a place of a list with one more element stands one of the old elements, or the new one
@@ -117,6 +117,20 @@ module _ (alphabet : Letters) (names : List (List ℕ)) where
   reached_same boxes places n (neither past no_box no_place) =
       ap reached_in no_place ∙ sym (ap box_reached_in no_box)
 
+  outputs_same : (boxes : List GrfBox) (places : List Place) (n : ℕ) → At boxes places n →
+      place_output places n ≡ output_at boxes n
+  outputs_same boxes places zero (both grf_box place at_box at_place is) =
+      ap output_in_place at_place ∙ is.output
+  outputs_same boxes places (suc zero) (both grf_box place at_box at_place is) =
+      ap output_in_place at_place ∙ is.output
+  outputs_same boxes places (suc (suc n)) (both grf_box place at_box at_place is) =
+      ap output_in_place at_place ∙ (is.output ∙ sym (ap output_in at_box))
+  outputs_same boxes places zero (neither past no_box no_place) = ap output_in_place no_place
+  outputs_same boxes places (suc zero) (neither past no_box no_place) =
+      ap output_in_place no_place
+  outputs_same boxes places (suc (suc n)) (neither past no_box no_place) =
+      ap output_in_place no_place ∙ sym (ap output_in no_box)
+
   -- lists that are the same as two that are split
   split_same : (lines lines' : List (List Item)) (split split' : List (List Label)) →
       lines' ≡ lines → split' ≡ split → AreSplitLines alphabet names lines split →
@@ -146,5 +160,6 @@ module _ (alphabet : Letters) (names : List (List ℕ)) where
     len = all.count;
     reached = λ n. reached_same boxes places n (at_number boxes places n all);
     targets = λ n. targets_same boxes places n (at_number boxes places n all);
+    outputs = λ n. outputs_same boxes places n (at_number boxes places n all);
     lines = λ n. lines_same boxes places n some (at_number boxes places n all);
   }

@@ -1,7 +1,6 @@
--- Boxes that are compiled have no output, and what is made of their lines are plain labels.
-use Rattle.std.proofs.Common.{arith, ◌≡◌, ℕ, zero, suc, ◌+◌, ◌<◌, ◌≤◌, List, [], ◌∷◌, refl, sym, ◌∙◌, ap, subst, Bool, true, false, ◌||◌, ◌⊎◌, inl, inr, length, get_or, map, None, Some, rules}
-use Rattle.std.specs.Prelude.{All, Contains, slice_get, nat_lt}
-use Rattle.std.specs.List.{list_any}
+-- What is made of the lines of boxes that are compiled are plain labels.
+use Rattle.std.proofs.Common.{arith, ◌≡◌, ℕ, zero, suc, ◌+◌, ◌<◌, ◌≤◌, List, [], ◌∷◌, sym, ap, subst, false, ◌⊎◌, inl, inr, length, get_or, map, None, Some}
+use Rattle.std.specs.Prelude.{All, Contains, slice_get}
 use Rattle.std.proofs.lemmas.List.Elements.{All-nil, All-cons, All-append, Contains-get_or}
 use Rattle.std.proofs.lemmas.Option.{slice_get_cases}
 use Rattle.ux_alphabet.specs.Letters.{Letters}
@@ -10,50 +9,24 @@ use Rattle.ux_tokens.specs.declared.kind.Kind.TheVariants as kind
 use Rattle.ux_tokens.specs.Tokens.{Token}
 use Rattle.ux_grf.specs.declared.graph.GrfBox.{GrfBox}
 use Rattle.ux_grf.specs.declared.item.Item.{Item}
-use Rattle.ux_grf.specs.declared.item.Piece.{Piece}
 use Rattle.ux_grf.specs.declared.item.Item.TheVariants as item
 use Rattle.ux_net.specs.declared.label.Label.{Label}
-use Rattle.ux_net.specs.declared.label.Label.TheVariants.{Empty, Mask, Brace, Glue, Call}
+use Rattle.ux_net.specs.declared.label.Label.TheVariants.{Empty, Mask, Brace, Glue, Begin, End, Call}
 use Rattle.ux_net.specs.declared.place.Place.{Place}
-use Rattle.ux_net.specs.Boxes.{fold_label, exact_label, IsSplit, IsSplitLine, box_lines_in, lines_at, output_in, output_at}
+use Rattle.ux_net.specs.Boxes.{fold_label, exact_label, IsSplit, IsSplitLine, box_lines_in, lines_at}
 use Rattle.ux_net.specs.Nets.{IsPlain}
 use Rattle.ux_net.specs.Places.{label_lines, ArePlaces}
 use Rattle.ux_net.specs.Refusing.{is_beyond, has_beyond_line, has_beyond, HasNoBeyond}
-use Rattle.ux_net.proofs.CompileLemmas.{none_passes, first_fails}
+use Rattle.ux_net.proofs.CompileLemmas.{none_passes}
 use Rattle.ux_net.proofs.JoinedLemmas.{contains_first, contains_later}
 use Rattle.ux_net.proofs.SameGraph.{partner_back}
 
--- the boxes that are there have lines and outputs that are compiled
-none_more : (parts : List Piece) → nat_lt 0 (length parts) ≡ false → parts ≡ []
-none_more [] h = refl
-none_more (part ∷ parts) h =
-    let e : nat_lt 0 (length (part ∷ parts)) ≡ true = search (rules, arith) in absurd cc
-
-second_fails : (a b : Bool) → (a || b) ≡ false → b ≡ false
-second_fails false b h = h
-second_fails true b h = cc
-
+-- the boxes that are there have lines that are compiled
 module _ (boxes : List GrfBox) (compiled : HasNoBeyond boxes) where
   box_compiled : (n : ℕ) (box : GrfBox) → n < length boxes → get_or boxes n box ≡ box →
       has_beyond box ≡ false
   box_compiled n box lt is =
       subst (λ (b : GrfBox). has_beyond b ≡ false) is (compiled n box lt)
-
-  -- no box has an output
-  pub no_output : (n : ℕ) → output_at boxes n ≡ []
-  no_output zero = refl
-  no_output (suc zero) = refl
-  no_output (suc (suc n)) = by (slice_get_cases boxes (suc (suc n))).1
-    where
-      by : ((b : GrfBox) × (suc (suc n) < length boxes)
-          × (slice_get boxes (suc (suc n)) ≡ Some b) × (get_or boxes (suc (suc n)) b ≡ b))
-          ⊎ ((length boxes ≤ suc (suc n)) × (slice_get boxes (suc (suc n)) ≡ None)) →
-          output_in (slice_get boxes (suc (suc n))) ≡ []
-      by (inl h) =
-          ap output_in h.2
-          ∙ none_more h.0.output (second_fails (list_any has_beyond_line h.0.lines)
-          (nat_lt 0 (length h.0.output)) (box_compiled (suc (suc n)) h.0 h.1 h.3))
-      by (inr past) = ap output_in past.1
 
   -- an item of a line is compiled
   item_compiled : (n : ℕ) (line : List Item) (x : Item) → Contains (lines_at boxes n) line →
@@ -79,9 +52,7 @@ module _ (boxes : List GrfBox) (compiled : HasNoBeyond boxes) where
           is_beyond x ≡ false
       by (inl h) =
           none_passes is_beyond line x
-          (none_passes has_beyond_line h.0.lines line
-          (first_fails (list_any has_beyond_line h.0.lines) (nat_lt 0 (length h.0.output))
-          (box_compiled (suc (suc n)) h.0 h.1 h.3))
+          (none_passes has_beyond_line h.0.lines line (box_compiled (suc (suc n)) h.0 h.1 h.3)
           (subst (λ (l : List (List Item)). Contains l line) (ap box_lines_in h.2) of_box)) of_line
       by (inr past) =
           none_there (subst (λ (l : List (List Item)). Contains l line) (ap box_lines_in past.1) of_box)
@@ -131,8 +102,8 @@ module _ (alphabet : Letters) (names : List (List ℕ)) where
   item_plain (item.Mask text) labels b s =
       subst (All IsPlain) (sym s.2) (one_plain (Mask s.0) tt)
   item_plain (item.Brace text) labels b s = subst (All IsPlain) (sym s) (one_plain (Brace text) tt)
-  item_plain (item.Begin name) labels b s = cc
-  item_plain (item.End name) labels b s = cc
+  item_plain (item.Begin name) labels b s = subst (All IsPlain) (sym s) (one_plain (Begin name) tt)
+  item_plain (item.End name) labels b s = subst (All IsPlain) (sym s) (one_plain (End name) tt)
   item_plain item.Positive labels b s = cc
   item_plain item.Negative labels b s = cc
   item_plain item.ContextEnd labels b s = cc

@@ -1,4 +1,4 @@
--- A graph's boxes and the places made of them have the same steps, where no box has an output.
+-- A graph's boxes and the places made of them have the same steps.
 use Rattle.std.proofs.Common.{arith, ◌≡◌, ℕ, zero, suc, ◌+◌, List, [], ◌∷◌, ◌++◌, refl, sym, ◌∙◌, ap, subst, map}
 use Rattle.std.specs.Prelude.{Contains}
 use Rattle.std.specs.List.{AllZip}
@@ -16,7 +16,7 @@ use Rattle.ux_net.specs.declared.label.Label.TheVariants as label
 use Rattle.ux_base.specs.Distinct.{StandOnce}
 use Rattle.ux_net.specs.Words.{Step}
 use Rattle.ux_tokens.specs.declared.kind.Kind.{Kind}
-use Rattle.ux_net.specs.Boxes.{fold_label, exact_label, IsCut, IsSplit, IsSplitLine, lines_at, output_at, IsBoxStep}
+use Rattle.ux_net.specs.Boxes.{fold_label, exact_label, IsCut, IsSplit, IsSplitLine, lines_at, IsBoxStep}
 use Rattle.ux_net.specs.Places.{label_lines, ArePlaces, IsPlaceStep}
 
 module _ {A B : Type 0} (R : A → B → Type 0) where
@@ -75,8 +75,8 @@ module _ (alphabet : Letters) (names : List (List ℕ)) (once : StandOnce names)
       ∙ (ap (λ x. b.0 ++ x) (split_line_same items a.1 b.1 a.3 b.3) ∙ sym b.4))
 
 module _ (alphabet : Letters) (names : List (List ℕ)) (boxes : List GrfBox)
-    (places : List Place) (once : StandOnce names) (are : ArePlaces alphabet names boxes places)
-    (bare : (n : ℕ) → output_at boxes n ≡ []) where
+    (places : List Place) (once : StandOnce names)
+    (are : ArePlaces alphabet names boxes places) where
   pub place_step : (s : Step) → IsBoxStep alphabet names boxes s → IsPlaceStep places s
   place_step s b =
       let p = partner (IsSplitLine alphabet names) (lines_at boxes s.to) (label_lines places s.to)
@@ -86,7 +86,7 @@ module _ (alphabet : Letters) (names : List (List ℕ)) (boxes : List GrfBox)
         leads = subst (λ targets. Contains targets s.to) (sym (are.targets s.from)) b.leads;
         line = subst (λ v. Contains (label_lines places s.to) v)
             (split_line_same alphabet names once b.line p.0 s.labels p.2 b.splits) p.1;
-        puts = b.puts ∙ bare s.to;
+        puts = b.puts ∙ sym (are.outputs s.to);
       }
 
   pub box_step : (s : Step) → IsPlaceStep places s → IsBoxStep alphabet names boxes s
@@ -98,6 +98,6 @@ module _ (alphabet : Letters) (names : List (List ℕ)) (boxes : List GrfBox)
         leads = subst (λ targets. Contains targets s.to) (are.targets s.from) p.leads;
         line = b.0;
         of_box = b.1;
-        puts = p.puts ∙ sym (bare s.to);
+        puts = p.puts ∙ are.outputs s.to;
         splits = b.2;
       }

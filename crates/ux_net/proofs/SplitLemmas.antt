@@ -1,7 +1,7 @@
 -- The grammar of the boxes and that of the places have the same steps.
 use Rattle.std.proofs.Common.{arith, ◌≡◌, ℕ, zero, suc, ◌<◌, List, [], refl, sym, ◌∙◌, ap, subst, inl, inr, length, true}
 use Rattle.std.specs.Prelude.{Contains, slice_get}
-use Rattle.std.proofs.lemmas.Option.{slice_get_past, slice_get-get_or}
+use Rattle.std.proofs.lemmas.Option.{slice_get_past}
 use Rattle.ux_alphabet.specs.Letters.{Letters}
 use Rattle.ux_grf.specs.declared.graph.GrfBox.{GrfBox}
 use Rattle.ux_base.specs.Distinct.{StandOnce}
@@ -12,10 +12,9 @@ use Rattle.ux_net.specs.Admissible.{IsOnEmptyLoop, IsLeftRecursive, IsAdmissible
 use Rattle.ux_net.specs.Boxes.{Drawn, boxes_in, boxes_of, names_of, box_reached_in, box_targets_in, targets_at, box_graph, box_grammar}
 use Rattle.ux_net.specs.Places.{ArePlaces, places_in, places_of, is_reached, reached_in, place_graph, place_grammar}
 use Rattle.ux_net.specs.Compiling.{AreSplit, RefusesPlaces}
-use Rattle.ux_net.specs.Refusing.{AreWhole, AreMasked, AreCompiled, HasNoBeyond, Refuses}
+use Rattle.ux_net.specs.Refusing.{AreWhole, AreMasked, AreCompiled, Refuses}
 use Rattle.ux_net.proofs.JoinedLemmas.{less_or, nothing_in}
 use Rattle.ux_net.proofs.StepsLemmas.{step_inside, target_from}
-use Rattle.ux_net.proofs.PlainLemmas.{no_output}
 use Rattle.ux_net.proofs.SameGraph.{place_step, box_step}
 use Rattle.ux_net.proofs.SameGrammar.{IsWithin, loop_within, recursion_within, first_so, admissible_within}
 
@@ -57,40 +56,34 @@ module _ (alphabet : Letters) (names : List (List ℕ)) (boxes : List GrfBox)
     steps = λ s i. absurd (none_there places s.from none (step_inside places s i).0);
   }
 
-  some_to_places : StandOnce names → ArePlaces alphabet names boxes places → HasNoBeyond boxes →
+  some_to_places : StandOnce names → ArePlaces alphabet names boxes places →
       IsWithin (box_graph alphabet names boxes) (place_graph places)
-  some_to_places once are compiled = record {
+  some_to_places once are = record {
     start = refl;
     places = λ n p. (p.0, are.reached n ∙ p.1);
     ends = λ n e. (e.0, subst (λ (l : List ℕ). Contains l 1) (sym (are.targets n)) e.1);
-    steps = place_step alphabet names boxes places once are (no_output boxes compiled);
+    steps = place_step alphabet names boxes places once are;
   }
 
-  some_to_boxes : StandOnce names → ArePlaces alphabet names boxes places → HasNoBeyond boxes →
+  some_to_boxes : StandOnce names → ArePlaces alphabet names boxes places →
       IsWithin (place_graph places) (box_graph alphabet names boxes)
-  some_to_boxes once are compiled = record {
+  some_to_boxes once are = record {
     start = refl;
     places = λ n p. (p.0, sym (are.reached n) ∙ p.1);
     ends = λ n e. (e.0, subst (λ (l : List ℕ). Contains l 1) (are.targets n) e.1);
-    steps = box_step alphabet names boxes places once are (no_output boxes compiled);
+    steps = box_step alphabet names boxes places once are;
   }
 
 module _ (alphabet : Letters) (graphs : List Drawn) (places : List (List Place))
     (once : StandOnce (names_of graphs)) (are : AreSplit alphabet graphs places)
     (all_compiled : AreCompiled graphs) where
-  compiled_at : (n : ℕ) → n < length graphs → HasNoBeyond (boxes_of graphs (suc n))
-  compiled_at n lt =
-      let d : Drawn = record { name = []; boxes = [] } in
-      subst (λ o. HasNoBeyond (boxes_in o)) (sym (slice_get-get_or graphs n d lt))
-      (all_compiled n d lt)
-
   pub to_places : (g : ℕ) → IsWithin
       (box_graph alphabet (names_of graphs) (boxes_of graphs g)) (place_graph (places_of places g))
   to_places zero = none_to_places alphabet (names_of graphs) [] [] refl
   to_places (suc n) = elim (less_or n (length graphs)) [
     | inl lt ↦
         some_to_places alphabet (names_of graphs) (boxes_of graphs (suc n))
-        (places_of places (suc n)) once (are.each n lt) (compiled_at n lt)
+        (places_of places (suc n)) once (are.each n lt)
     | inr past ↦
         none_to_places alphabet (names_of graphs) (boxes_of graphs (suc n))
         (places_of places (suc n)) (ap boxes_in (slice_get_past graphs n past))
@@ -102,7 +95,7 @@ module _ (alphabet : Letters) (graphs : List Drawn) (places : List (List Place))
   to_boxes (suc n) = elim (less_or n (length graphs)) [
     | inl lt ↦
         some_to_boxes alphabet (names_of graphs) (boxes_of graphs (suc n))
-        (places_of places (suc n)) once (are.each n lt) (compiled_at n lt)
+        (places_of places (suc n)) once (are.each n lt)
     | inr past ↦
         none_to_boxes alphabet (names_of graphs) (boxes_of graphs (suc n))
         (places_of places (suc n))

@@ -10,7 +10,7 @@ use Rattle.ux_net.specs.declared.label.Label.{Label}
 use Rattle.ux_net.specs.declared.label.Label.TheVariants.{Empty, Fold, Exact, Mask, Brace, Space, Glue, Begin, End, Positive, Negative, ContextEnd, Cut, Call}
 use Rattle.ux_net.specs.declared.place.Place.{Place}
 use Rattle.ux_net.specs.Words.{Step, Letter, ordinary, mark_of, Run, stop, along, across, letters, put_by}
-use Rattle.ux_net.specs.Places.{places_of, place_graph, place_targets, targets_in, label_lines, is_reached, lines_in, IsPlaceStep}
+use Rattle.ux_net.specs.Places.{places_of, place_graph, place_output, place_targets, targets_in, label_lines, is_reached, lines_in, IsPlaceStep}
 use Rattle.ux_net.specs.Nets.{IsCalled, IsPlain}
 use Rattle.ux_net.specs.Construct.{is_call}
 use Rattle.ux_net.specs.Fit.{IsFit, IsFitLine, place_ways}
@@ -38,10 +38,11 @@ pub step_inside : (places : List Place) (s : Step) → IsPlaceStep places s →
 step_inside places s i =
     (target_from places s.from s.to i.leads, line_from places s.to s.labels i.line)
 
--- the step of places has no output
-pub bare_step : (places : List Place) (s : Step) → IsPlaceStep places s →
-    IsPlaceStep places (record { from = s.from; to = s.to; output = []; labels = s.labels })
-bare_step places s i =
+-- the step of places has the output of the place to which it leads
+pub put_step : (places : List Place) (s : Step) → IsPlaceStep places s →
+    IsPlaceStep places
+    (record { from = s.from; to = s.to; output = place_output places s.to; labels = s.labels })
+put_step places s i =
     record { before_end = i.before_end; leads = i.leads; line = i.line; puts = refl }
 
 no_call_in : (front back : List Label) (h : ℕ) →
@@ -157,7 +158,8 @@ module _ (g count : ℕ) (places : List Place) (fit : IsFit count places) where
       let inside = fit.inside u v way.1 in
       let lined = fit.lined v ((fit.reached v inside).1 (step r e)) apart in
       let line = get_or (label_lines places v) 0 [] in
-      let s : Step = record { from = u; to = v; output = []; labels = line } in
+      let s : Step =
+      record { from = u; to = v; output = place_output places v; labels = line } in
       let i : IsPlaceStep places s = record {
         before_end = way.0;
         leads = way.1;

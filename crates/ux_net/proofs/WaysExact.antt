@@ -10,7 +10,7 @@ use Rattle.ux_net.specs.Places.{places_of, place_targets, label_lines, IsEndPlac
 use Rattle.ux_net.specs.Fit.{IsFit, IsFitLine}
 use Rattle.ux_net.specs.Gains.{Gains, SoBelow, SoOfOne}
 use Rattle.ux_net.specs.Numbers.{number_of, AreOffsets}
-use Rattle.ux_net.specs.Ways.{way_at, IsWayAlong, IsWay, IsWayOf, IsWayFrom, IsEndNumber}
+use Rattle.ux_net.specs.Ways.{step_along, way_at, IsWayAlong, IsWay, IsWayOf, IsWayFrom, IsEndNumber}
 use Rattle.ux_net.proofs.GainsLemmas.{gains_as}
 use Rattle.ux_net.proofs.NumbersLemmas.{places_at, graph_inside, graph_so_at, number_below}
 use Rattle.ux_net.proofs.StepsLemmas.{step_inside, target_from, targets_inside}
@@ -109,12 +109,7 @@ module _ (graphs : List (List Place)) where
         λ w. (
           way.source,
           subst (λ h. way.source < length (places_of graphs h)) w.1
-              (step_inside (places_of graphs way.graph) (record {
-                from = way.source;
-                to = way.target;
-                output = [];
-                labels = w.0.line;
-              }) w.0.step).0,
+              (step_inside (places_of graphs way.graph) (step_along graphs way w.0.line) w.0.step).0,
           (w, refl),
         ),
       )) gains
@@ -128,12 +123,8 @@ module _ (graphs : List (List Place)) where
       (IsWay graphs) (λ way. (
         λ s. s.2.0,
         λ w.
-            let start = (step_inside (places_of graphs way.graph) (record {
-              from = way.source;
-              to = way.target;
-              output = [];
-              labels = w.line;
-            }) w.step).0 in
+            let start =
+            (step_inside (places_of graphs way.graph) (step_along graphs way w.line) w.step).0 in
             let inside = graph_inside graphs way.graph way.source start in
             let low = inside.0 in
             let high = inside.1 in

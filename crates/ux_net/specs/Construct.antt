@@ -1,15 +1,16 @@
 -- The states that are made of the places of a graph: one for each place that is reached, and then
 -- those of chains, which stand between the labels of a line. The manual, on compiled graphs.
 -- Public: the crate's public contracts speak of it.
-use Rattle.std.specs.Prelude.{◌≡◌, ℕ, ◌+◌, ◌-◌, ◌<◌, List, [], ◌∷◌, ◌++◌, map, Option, Some, None, slice_get, get_or, length, sum_by, Contains, All, Bool, true, false, cond, nat_eq, ltb}
+use Rattle.std.specs.Prelude.{◌≡◌, ℕ, zero, suc, ◌+◌, ◌-◌, ◌<◌, List, [], ◌∷◌, ◌++◌, map, Option, Some, None, slice_get, get_or, length, sum_by, Contains, All, Bool, true, false, cond, nat_eq, ltb}
 use Rattle.std.specs.List.{range_with_len, flat_map, list_any, count_by}
+use Rattle.ux_grf.specs.declared.item.Piece.{Piece}
 use Rattle.ux_net.specs.declared.label.Label.{Label}
 use Rattle.ux_net.specs.declared.label.Label.TheVariants.{Empty, Call}
 use Rattle.ux_net.specs.declared.place.Place.{Place}
 use Rattle.ux_net.specs.declared.state.Edge.{Edge}
 use Rattle.ux_net.specs.declared.state.State.{State}
 use Rattle.ux_net.specs.Nets.{IsPlain}
-use Rattle.ux_net.specs.Places.{label_lines, place_targets, is_reached}
+use Rattle.ux_net.specs.Places.{label_lines, place_output, place_targets, is_reached}
 
 -- a label that calls a graph
 abbrev pub is_call : Label → Bool
@@ -74,9 +75,18 @@ module _ (places : List Place) where
   target_of b l k =
       cond (ltb (k + 1) (length (labels_at b l))) (first_chain b l + k) (number b)
 
+  -- what is put out before label k of a line of place b: before the first, what the place puts out
+  abbrev pub output_before : ℕ → ℕ → List Piece
+  output_before b zero = place_output places b
+  output_before b (suc k) = []
+
   -- the edge of label k of line l of place b
   abbrev pub edge_of : ℕ → ℕ → ℕ → Edge
-  edge_of b l k = record { label = get_or (labels_at b l) k Empty; target = target_of b l k }
+  edge_of b l k = record {
+    label = get_or (labels_at b l) k Empty;
+    output = output_before b k;
+    target = target_of b l k;
+  }
 
   -- the edges from another place to place b: the first label of each line
   abbrev pub edges_to : ℕ → List Edge

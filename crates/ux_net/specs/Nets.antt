@@ -2,14 +2,14 @@
 -- Public: the crate's public contracts speak of it.
 use Rattle.std.specs.Prelude.{◌≡◌, ℕ, zero, suc, ◌<◌, ◌≤◌, List, [], ◌∷◌, Option, Some, None, slice_get, Contains, length, IsTrue}
 use Rattle.ux_net.specs.declared.label.Label.{Label}
-use Rattle.ux_net.specs.declared.label.Label.TheVariants.{Empty, Fold, Exact, Mask, Brace, Space, Glue, Call}
+use Rattle.ux_net.specs.declared.label.Label.TheVariants.{Empty, Fold, Exact, Mask, Brace, Space, Glue, Begin, End, Call}
 use Rattle.ux_net.specs.declared.state.Edge.{Edge}
 use Rattle.ux_net.specs.declared.state.State.{State}
 use Rattle.ux_net.specs.declared.net_graph.NetGraph.{NetGraph}
 use Rattle.ux_net.specs.Words.{Step, StepGraph, Grammar}
 
 module _ (states : List State) where
-  -- a step along an edge; no edge has an output yet
+  -- a step along an edge, with the edge's output
   pub record IsNetStep (step : Step) : Type 0 where
     pub state : State
     pub found : slice_get states step.from ≡ Some state
@@ -17,7 +17,7 @@ module _ (states : List State) where
     pub inside : Contains state.edges edge
     pub to : step.to ≡ edge.target
     pub label : step.labels ≡ edge.label ∷ []
-    pub puts : step.output ≡ []
+    pub puts : step.output ≡ edge.output
 
   -- the state is final
   pub record IsNetEnd (n : ℕ) : Type 0 where
@@ -60,8 +60,8 @@ abbrev pub IsCalled : ℕ → Label → Type 0
 IsCalled count (Call graph) = (1 ≤ graph) × (graph ≤ count)
 IsCalled count other = Unit {0}
 
--- a label that is compiled as yet: a text, a mask, a mark in braces, a space, `#`, the empty word or
--- a call
+-- a label that is compiled as yet: a text, a mask, a mark in braces, a space, `#`, the empty word, a
+-- variable's begin or end, or a call
 abbrev pub IsPlain : Label → Type 0
 IsPlain Empty = Unit {0}
 IsPlain (Fold text) = Unit {0}
@@ -70,6 +70,8 @@ IsPlain (Mask mask) = Unit {0}
 IsPlain (Brace text) = Unit {0}
 IsPlain Space = Unit {0}
 IsPlain Glue = Unit {0}
+IsPlain (Begin name) = Unit {0}
+IsPlain (End name) = Unit {0}
 IsPlain (Call graph) = Unit {0}
 IsPlain other = ⊥
 

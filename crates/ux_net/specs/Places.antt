@@ -5,10 +5,11 @@ use Rattle.std.specs.Option.{option_map_or}
 use Rattle.std.specs.List.{AllZip}
 use Rattle.ux_alphabet.specs.Letters.{Letters}
 use Rattle.ux_grf.specs.declared.graph.GrfBox.{GrfBox}
+use Rattle.ux_grf.specs.declared.item.Piece.{Piece}
 use Rattle.ux_net.specs.declared.label.Label.{Label}
 use Rattle.ux_net.specs.declared.place.Place.{Place}
 use Rattle.ux_net.specs.Words.{Step, StepGraph, Grammar}
-use Rattle.ux_net.specs.Boxes.{box_reached_in, lines_at, targets_at, IsSplitLine}
+use Rattle.ux_net.specs.Boxes.{box_reached_in, lines_at, output_at, targets_at, IsSplitLine}
 
 -- the lines of a place, where there is one
 abbrev pub lines_in : Option Place → List (List Label)
@@ -18,9 +19,17 @@ lines_in place = option_map_or (λ (p : Place). p.lines) place []
 abbrev pub targets_in : Option Place → List ℕ
 targets_in place = option_map_or (λ (p : Place). p.targets) place []
 
+-- what a place puts out, where there is one
+abbrev pub output_in_place : Option Place → List Piece
+output_in_place place = option_map_or (λ (p : Place). p.output) place []
+
 -- the lines of the place of this number
 abbrev pub label_lines : List Place → ℕ → List (List Label)
 label_lines places n = lines_in (slice_get places n)
+
+-- what the place of this number puts out
+abbrev pub place_output : List Place → ℕ → List Piece
+place_output places n = output_in_place (slice_get places n)
 
 -- the targets of the place of this number
 abbrev pub place_targets : List Place → ℕ → List ℕ
@@ -39,15 +48,16 @@ pub record ArePlaces (alphabet : Letters) (names : List (List ℕ)) (boxes : Lis
   pub len : length places ≡ length boxes
   pub reached : (n : ℕ) → is_reached places n ≡ box_reached_in (slice_get boxes n)
   pub targets : (n : ℕ) → place_targets places n ≡ targets_at boxes n
+  pub outputs : (n : ℕ) → place_output places n ≡ output_at boxes n
   pub lines : (n : ℕ) →
       AllZip (IsSplitLine alphabet names) (lines_at boxes n) (label_lines places n)
 
--- a step into a target, along one of its lines; outputs aren't made into places yet
+-- a step into a target, with its output and along one of its lines
 pub record IsPlaceStep (places : List Place) (step : Step) : Type 0 where
   pub before_end : step.from ≢ 1
   pub leads : Contains (place_targets places step.from) step.to
   pub line : Contains (label_lines places step.to) step.labels
-  pub puts : step.output ≡ []
+  pub puts : step.output ≡ place_output places step.to
 
 -- a run may end at the place
 abbrev pub IsEndPlace : List Place → ℕ → Type 0

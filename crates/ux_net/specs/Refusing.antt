@@ -1,5 +1,5 @@
 -- Why a list of graphs isn't compiled. Public: the crate's public contracts speak of it.
-use Rattle.std.specs.Prelude.{◌≡◌, ℕ, zero, suc, ◌<◌, Bool, true, false, ◌||◌, nat_lt, List, [], length, map, Option, Some, None, slice_get, string_bytes, String, Contains, All}
+use Rattle.std.specs.Prelude.{◌≡◌, ℕ, zero, suc, ◌<◌, Bool, true, false, List, [], map, Option, Some, None, slice_get, string_bytes, String, Contains, All}
 use Rattle.std.specs.declared.alloc.Global.{Global}
 use Rattle.std.specs.List.{flat_map, list_any}
 use Rattle.ux_alphabet.specs.Letters.{Letters}
@@ -21,7 +21,7 @@ drawn_of graph = record { name = string_bytes graph.0; boxes = graph.1.boxes }
 abbrev pub drawn : List (String Global × Graph) → List Drawn
 drawn graphs = map drawn_of graphs
 
--- the item isn't compiled yet
+-- the item isn't compiled yet: it opens or closes a context, or cuts
 abbrev pub is_beyond : Item → Bool
 is_beyond (item.Literal text) = false
 is_beyond (item.Quoted text) = false
@@ -30,8 +30,8 @@ is_beyond item.Empty = false
 is_beyond (item.Call name) = false
 is_beyond (item.Mask text) = false
 is_beyond (item.Brace text) = false
-is_beyond (item.Begin name) = true
-is_beyond (item.End name) = true
+is_beyond (item.Begin name) = false
+is_beyond (item.End name) = false
 is_beyond item.Positive = true
 is_beyond item.Negative = true
 is_beyond item.ContextEnd = true
@@ -40,9 +40,9 @@ is_beyond item.Cut = true
 abbrev pub has_beyond_line : List Item → Bool
 has_beyond_line line = list_any is_beyond line
 
--- the box has such an item, or an output
+-- the box has such an item
 abbrev pub has_beyond : GrfBox → Bool
-has_beyond box = list_any has_beyond_line box.lines || nat_lt 0 (length box.output)
+has_beyond box = list_any has_beyond_line box.lines
 
 abbrev pub HasNoBeyond : List GrfBox → Type 0
 HasNoBeyond boxes = All (λ (b : GrfBox). has_beyond b ≡ false) boxes

@@ -6,6 +6,7 @@ use Rattle.ux_alphabet.specs.Letters.{Letters}
 use Rattle.ux_tokens.specs.declared.kind.Kind.{Kind}
 use Rattle.ux_grf.specs.declared.graph.GrfBox.{GrfBox}
 use Rattle.ux_grf.specs.declared.item.Item.{Item}
+use Rattle.ux_grf.specs.declared.item.Piece.{Piece}
 use Rattle.ux_grf.specs.declared.item.Item.TheVariants as item
 use Rattle.ux_masks.specs.Texts.{IsMaskText}
 use Rattle.ux_masks.specs.declared.mask.Mask.{Mask}
@@ -27,7 +28,7 @@ text_label Folded text = label.Fold text
 text_label Exact text = label.Exact text
 
 -- the item has labels already: it is a text, a mask, a mark in braces, a call of a graph that is
--- there, `#` or empty
+-- there, a variable's begin or end, `#` or empty
 abbrev pub IsSplittable : List (List ℕ) → Item → Type 0
 IsSplittable names (item.Literal text) = Unit {0}
 IsSplittable names (item.Quoted text) = Unit {0}
@@ -36,8 +37,8 @@ IsSplittable names item.Empty = Unit {0}
 IsSplittable names (item.Call name) = Contains names name
 IsSplittable names (item.Mask text) = IsMask text
 IsSplittable names (item.Brace text) = Unit {0}
-IsSplittable names (item.Begin name) = ⊥
-IsSplittable names (item.End name) = ⊥
+IsSplittable names (item.Begin name) = Unit {0}
+IsSplittable names (item.End name) = Unit {0}
 IsSplittable names item.Positive = ⊥
 IsSplittable names item.Negative = ⊥
 IsSplittable names item.ContextEnd = ⊥
@@ -86,9 +87,16 @@ numbered_lines zero grf_box = start_line ∷ []
 numbered_lines (suc zero) grf_box = []
 numbered_lines (suc (suc n)) grf_box = grf_box.lines
 
+-- what a box of this number puts out
+abbrev pub numbered_output : ℕ → GrfBox → List Piece
+numbered_output zero grf_box = []
+numbered_output (suc zero) grf_box = []
+numbered_output (suc (suc n)) grf_box = grf_box.output
+
 module _ (alphabet : Letters) (names : List (List ℕ)) where
   -- the place of a box of this number
   pub record IsPlaceOf (number : ℕ) (grf_box : GrfBox) (place : Place) : Type 0 where
     pub reached : place.reached ≡ grf_box.reached
     pub targets : place.targets ≡ grf_box.targets
+    pub output : place.output ≡ numbered_output number grf_box
     pub lines : AreSplitLines alphabet names (numbered_lines number grf_box) place.lines

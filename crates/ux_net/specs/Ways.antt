@@ -7,7 +7,7 @@ use Rattle.ux_net.specs.declared.label.Label.TheVariants.{Call}
 use Rattle.ux_net.specs.declared.place.Place.{Place}
 use Rattle.ux_net.specs.declared.way.Way.{Way}
 use Rattle.ux_net.specs.Words.{Step, Letter, Run, letters}
-use Rattle.ux_net.specs.Places.{places_of, place_graph, place_grammar, IsPlaceStep, IsEndPlace}
+use Rattle.ux_net.specs.Places.{places_of, place_output, place_graph, place_grammar, IsPlaceStep, IsEndPlace}
 use Rattle.ux_net.specs.Silent.{are_silent}
 use Rattle.ux_net.specs.Admissible.{IsFree}
 use Rattle.ux_net.specs.Numbers.{number_of, all_places}
@@ -39,11 +39,19 @@ pub record IsWayAlong (graphs : List (List Place)) (g a b : ℕ) (line : List La
   pub to : way.to ≡ number_of graphs g b
   pub calls : CallsAt graphs way.called line
 
+-- the step of its graph from a way's source to its target, along a line of the target
+abbrev pub step_along : List (List Place) → Way → List Label → Step
+step_along graphs way line = record {
+  from = way.source;
+  to = way.target;
+  output = place_output (places_of graphs way.graph) way.target;
+  labels = line;
+}
+
 -- the way of a step of its graph
 pub record IsWay (graphs : List (List Place)) (way : Way) : Type 0 where
   pub line : List Label
-  pub step : IsPlaceStep (places_of graphs way.graph)
-      (record { from = way.source; to = way.target; output = []; labels = line })
+  pub step : IsPlaceStep (places_of graphs way.graph) (step_along graphs way line)
   pub along : IsWayAlong graphs way.graph way.source way.target line way
 
 -- a way of this graph

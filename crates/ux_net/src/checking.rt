@@ -1,6 +1,6 @@
 //! The tests of a list of graphs that come before its places are looked at.
 
-ghost use Rattle.std.specs.Prelude.{◌≡◌, ◌≤◌, ◌⊎◌, IfErr, MatchOption, OnOk, length, nat_lt, All};
+ghost use Rattle.std.specs.Prelude.{◌≡◌, ◌≤◌, ◌⊎◌, IfErr, MatchOption, OnOk, length, All};
 ghost use Rattle.ux_net.specs.declared.error.NetError.TheVariants.{NoMemory};
 ghost use Rattle.std.specs.List.{list_any};
 ghost use Rattle.ux_net.specs.Refusing.{drawn, is_beyond as is_beyond_of, has_beyond_line as has_beyond_line_of, has_beyond as has_beyond_of, HasNoBeyond, IsFirstBeyond, HasFirstBeyond, AreCompiled};
@@ -10,7 +10,7 @@ use std::alloc::Global;
 use ux_base::{Lst, Txt};
 use ux_grf::{Graph, GrfBox, Item};
 
-/// Refuses the first box that has an item or an output that isn't compiled yet.
+/// Refuses the first box that has an item that isn't compiled yet.
 pub fn refuse_beyond(alloc: Global, graphs: &[(String, Graph)]) -> Result<(), NetError>
     requires few { All (λ graph. length graph.1.boxes ≤ 65535) graphs.now }
     ensures ok { OnOk result (AreCompiled (drawn graphs.now)) }
@@ -27,25 +27,18 @@ pub fn refuse_beyond(alloc: Global, graphs: &[(String, Graph)]) -> Result<(), Ne
     Ok(())
 }
 
-/// The first box that has an item or an output that isn't compiled yet.
+/// The first box that has an item that isn't compiled yet.
 fn first_beyond(boxes: &[GrfBox]) -> Option<usize>
     ensures { MatchOption result (HasNoBeyond boxes.now) (IsFirstBeyond boxes.now) }
 {
     boxes.iter().position(has_beyond)
 }
 
-/// Whether the box has an item or an output that isn't compiled yet.
+/// Whether the box has an item that isn't compiled yet.
 fn has_beyond(grf_box: &GrfBox) -> bool
     ensures { result ≡ has_beyond_of grf_box.now }
 {
-    have_beyond(grf_box.lines.as_slice()) || has_output(grf_box)
-}
-
-/// Whether the box has an output.
-fn has_output(grf_box: &GrfBox) -> bool
-    ensures { result ≡ nat_lt 0 (length grf_box.now.output) }
-{
-    !grf_box.output.as_slice().is_empty()
+    have_beyond(grf_box.lines.as_slice())
 }
 
 /// Whether a line has an item that isn't compiled yet.
@@ -72,12 +65,9 @@ fn is_beyond(item: &Item) -> bool
         | Item::Brace(_)
         | Item::Glue
         | Item::Empty
-        | Item::Call(_) => false,
-        Item::Begin(_)
-        | Item::End(_)
-        | Item::Positive
-        | Item::Negative
-        | Item::ContextEnd
-        | Item::Cut => true,
+        | Item::Call(_)
+        | Item::Begin(_)
+        | Item::End(_) => false,
+        Item::Positive | Item::Negative | Item::ContextEnd | Item::Cut => true,
     }
 }

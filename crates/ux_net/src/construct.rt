@@ -10,18 +10,21 @@
 //! state 0 --c--> state 1
 //! ```
 //!
-//! where state 1 is that of place 2, and state 2 a chain state.
+//! where state 1 is that of place 2, and state 2 a chain state. What place 2 puts out stands on the
+//! two edges that leave state 0, and so before each of its lines, also before one that is a call.
 
 ghost use Rattle.std.specs.Prelude.{◌≡◌, ◌+◌, ◌-◌, ◌<◌, ◌++◌, length, IfOk, OnOk, cond, ltb};
 ghost use Rattle.std.specs.List.{range_with_len, flat_map};
-ghost use Rattle.ux_net.specs.Places.{place_targets};
-ghost use Rattle.ux_net.specs.Construct.{AreFit, number as number_of, labels_at, chain_len as chain_len_of, chain_start, first_chain, edge_of, edges_to, place_state as place_state_of, chain_state as chain_state_of, along_line, along_lines, at_place, states_of, table_of, AreTargetsInside};
+ghost use Rattle.ux_net.specs.Places.{place_output as place_output_of, place_targets};
+ghost use Rattle.ux_net.specs.Construct.{AreFit, number as number_of, labels_at, output_before as output_before_of, chain_len as chain_len_of, chain_start, first_chain, edge_of, edges_to, place_state as place_state_of, chain_state as chain_state_of, along_line, along_lines, at_place, states_of, table_of, AreTargetsInside};
 
 use crate::numbering::{chain_len, has_state, labels, line_count, numbers, starts};
+use crate::output::copied;
 use crate::place::Place;
 use crate::state::{Edge, State};
 use std::alloc::Global;
 use ux_base::{Lst, Mem};
+use ux_grf::Piece;
 
 /// The states that are made of the places of a graph.
 pub fn states(alloc: Global, places: &[Place]) -> Mem<Vec<State>>
@@ -92,7 +95,7 @@ fn place_state(
     let targets = targets(places, place);
     let mut edges = Vec::new(alloc);
     for target in targets {
-        push_edges(places, numbers, starts, *target as usize, &mut edges)?;
+        push_edges(alloc, places, numbers, starts, *target as usize, &mut edges)?;
     }
     Ok(State {
         is_final: targets.contains(&1),
@@ -112,6 +115,7 @@ pub(crate) fn targets(places: &[Place], place: usize) -> &[u32]
 
 /// Adds the edges to a place.
 fn push_edges(
+    alloc: Global,
     places: &[Place],
     numbers: &[u32],
     starts: &[u32],
@@ -128,7 +132,7 @@ fn push_edges(
     let mut first = starts[place];
     edges.reserve(line_count(places, place))?;
     for line in 0..line_count(places, place) {
-        edges.push(edge(places, number, place, line, first, 0)?)?;
+        edges.push(edge(alloc, places, number, place, line, first, 0)?)?;
         first += chain_len(places, place, line) as u32;
     }
     Ok(())
@@ -219,7 +223,7 @@ fn chain_state(
     ensures { IfOk result (λ state. state ≡ chain_state_of places.now place line k) }
 {
     let mut edges = Vec::with_capacity(alloc, 1)?;
-    edges.push(edge(places, number, place, line, first, k + 1)?)?;
+    edges.push(edge(alloc, places, number, place, line, first, k + 1)?)?;
     Ok(State {
         is_final: false,
         edges: Lst::new(edges),
@@ -227,7 +231,15 @@ fn chain_state(
 }
 
 /// The edge of label `k` of a line.
-fn edge(places: &[Place], number: u32, place: usize, line: usize, first: u32, k: usize) -> Mem<Edge>
+fn edge(
+    alloc: Global,
+    places: &[Place],
+    number: u32,
+    place: usize,
+    line: usize,
+    first: u32,
+    k: usize,
+) -> Mem<Edge>
     requires number { number ≡ number_of places.now place }
     requires first { first ≡ first_chain places.now place line }
     requires fits { first + chain_len_of places.now place line < 4294967296 }
@@ -238,8 +250,30 @@ fn edge(places: &[Place], number: u32, place: usize, line: usize, first: u32, k:
     let target = target(first, k, labels.len(), number);
     Ok(Edge {
         label: labels[k].copy()?,
+        output: output_before(alloc, places, place, k)?,
         target,
     })
+}
+
+/// What is put out before label `k` of a line of the place: before the first, what the place puts
+/// out.
+fn output_before(alloc: Global, places: &[Place], place: usize, k: usize) -> Mem<Lst<Piece>>
+    ensures { IfOk result (λ output. output ≡ output_before_of places.now place k) }
+{
+    match k {
+        0 => copied(alloc, place_output(places, place)),
+        _ => Ok(Lst::new(Vec::new(alloc))),
+    }
+}
+
+/// What the place puts out.
+fn place_output(places: &[Place], place: usize) -> &[Piece]
+    ensures { result.now ≡ place_output_of places.now place }
+{
+    match places.get(place) {
+        Some(found) => found.output.as_slice(),
+        None => &[],
+    }
 }
 
 /// Where label `k` of a line of `len` labels leads.

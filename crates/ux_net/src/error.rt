@@ -18,7 +18,7 @@ pub enum NetError {
     /// meant, and the place is that of `Mask::read`.
     #[error("bad mask at place {place}: box {node} of graph {graph:?}")]
     BadMask { graph: Txt, node: u32, place: usize },
-    /// The box has an item or an output that isn't compiled yet.
+    /// The box has an item that isn't compiled yet: one that opens or closes a context, or cuts.
     #[error("not yet: box {node} of graph {graph:?}")]
     NotYet { graph: Txt, node: u32 },
     /// The box lies on a loop that takes no token.

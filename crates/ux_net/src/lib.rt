@@ -33,6 +33,7 @@ pub mod net;
 pub mod net_graph;
 pub mod numbering;
 pub mod offsets;
+pub mod output;
 pub mod place;
 pub mod ranks;
 pub mod rows;

@@ -1,24 +1,26 @@
 //! A graph's boxes with their lines split into labels.
 //!
 //! A literal, or a text between quotation marks, is cut as a corpus is cut into tokens, so that
-//! each label finds one token. A mask text becomes its mask, and a call the number of its graph.
+//! each label finds one token. A mask text becomes its mask, and a call the number of its graph. What
+//! the box puts out is copied as it is.
 
 ghost use Rattle.std.specs.Prelude.{◌≡◌, ◌<◌, ◌≤◌, [], ◌∷◌, ◌++◌, IfOk, IfSome, OnOk, All, Contains, length};
 ghost use Rattle.ux_tokens.specs.Numbers.{texts_in};
-ghost use Rattle.ux_net.specs.declared.label.Label.TheVariants.{Brace, Empty};
+ghost use Rattle.ux_net.specs.declared.label.Label.TheVariants.{Begin, Brace, Empty, End};
 ghost use Rattle.ux_masks.specs.Texts.{IsMaskText};
 ghost use Rattle.ux_net.specs.Boxes.{IsSplitLine};
 ghost use Rattle.ux_net.specs.MaskTexts.{IsMask};
 ghost use Rattle.ux_net.specs.Places.{ArePlaces};
-ghost use Rattle.ux_net.specs.Splitting.{AreSplitLines, IsBehind, IsCutBehind, IsMaskBehind, IsNumberOf, IsNumbered, IsPlaceOf, IsSplittable, IsSplittableBox, label_by as label_by_of, text_label as text_label_of};
+ghost use Rattle.ux_net.specs.Splitting.{AreSplitLines, IsBehind, IsCutBehind, IsMaskBehind, IsNumberOf, IsNumbered, IsPlaceOf, IsSplittable, IsSplittableBox, numbered_output, label_by as label_by_of, text_label as text_label_of};
 
 use crate::label::Label;
+use crate::output::copied;
 use crate::place::Place;
 use indexmap::IndexSet;
 use std::alloc::{AllocError, Global};
 use ux_alphabet::Alphabet;
 use ux_base::{Lst, Mem, NoMemory, Txt};
-use ux_grf::{Graph, GrfBox, Item};
+use ux_grf::{Graph, GrfBox, Item, Piece};
 use ux_masks::{Mask, MaskError};
 use ux_tokens::{Kind, first_token, single_spaced};
 
@@ -31,7 +33,8 @@ pub enum Comparison {
     Exact,
 }
 
-/// The places of a graph's boxes, in order. Box 0 has one empty line, box 1 none.
+/// The places of a graph's boxes, in order. Box 0 has one empty line, box 1 none; neither has an
+/// output.
 pub fn split_graph(
     alloc: Global,
     alphabet: &Alphabet,
@@ -71,9 +74,20 @@ fn split_box(
     };
     Ok(Place {
         reached: grf_box.reached,
+        output: split_output(alloc, number, grf_box)?,
         lines: Lst::new(lines),
         targets: Lst::new(Vec::from_slice(alloc, grf_box.targets.as_slice())?),
     })
+}
+
+/// What the place of the box of this number puts out.
+fn split_output(alloc: Global, number: usize, grf_box: &GrfBox) -> Mem<Lst<Piece>>
+    ensures { IfOk result (λ output. output ≡ numbered_output number grf_box.now) }
+{
+    match number {
+        0 | 1 => Ok(Lst::new(Vec::new(alloc))),
+        _ => copied(alloc, grf_box.output.as_slice()),
+    }
 }
 
 /// One line of the empty word.
@@ -117,7 +131,8 @@ fn split_line(
     requires splittable { All (IsSplittable (texts_in names.now)) line.now }
     ensures { IfOk result (IsSplitLine alphabet.now (texts_in names.now) line.now) }
 {
-    let mut labels = Vec::new(alloc);
+    // Most lines have one label: room for four, given back later, leaves a hole for each line.
+    let mut labels = Vec::with_capacity(alloc, line.len())?;
     for item in line {
         split_item(alloc, alphabet, names, item, &mut labels)?;
     }
@@ -158,12 +173,9 @@ fn split_item(
         Item::Glue => return Ok(labels.push(Label::Glue)?),
         Item::Empty => return Ok(labels.push(Label::Empty)?),
         Item::Call(name) => return push_call(names, name.as_str(), labels),
-        Item::Begin(_)
-        | Item::End(_)
-        | Item::Positive
-        | Item::Negative
-        | Item::ContextEnd
-        | Item::Cut => unreachable!(),
+        Item::Begin(name) => return push_begin(alloc, name.as_str(), labels),
+        Item::End(name) => return push_end(alloc, name.as_str(), labels),
+        Item::Positive | Item::Negative | Item::ContextEnd | Item::Cut => unreachable!(),
     }
 }
 
@@ -193,6 +205,22 @@ fn push_brace(alloc: Global, text: &str, labels: &mut Vec<Label>) -> Mem<()>
     ensures { OnOk result (labels.new.items ≡ labels.old.items ++ Brace text.now ∷ []) }
 {
     labels.push(Label::Brace(Txt::from_str(alloc, text)?))?;
+    Ok(())
+}
+
+/// Adds the begin of the variable of this name.
+fn push_begin(alloc: Global, name: &str, labels: &mut Vec<Label>) -> Mem<()>
+    ensures { OnOk result (labels.new.items ≡ labels.old.items ++ Begin name.now ∷ []) }
+{
+    labels.push(Label::Begin(Txt::from_str(alloc, name)?))?;
+    Ok(())
+}
+
+/// Adds the end of the variable of this name.
+fn push_end(alloc: Global, name: &str, labels: &mut Vec<Label>) -> Mem<()>
+    ensures { OnOk result (labels.new.items ≡ labels.old.items ++ End name.now ∷ []) }
+{
+    labels.push(Label::End(Txt::from_str(alloc, name)?))?;
     Ok(())
 }
 

@@ -3,7 +3,7 @@
 use ux_base::Txt;
 
 /// A place of a text, and what is shown for it.
-#[derive(Drop)]
+#[derive(PartialEq, Eq, PartialOrd, Ord, Drop)]
 pub struct Hit {
     /// The first token taken that is no space.
     pub first: u32,

@@ -13,6 +13,8 @@ mod base;
 #[cfg(test)]
 mod comparing;
 #[cfg(test)]
+mod dawg;
+#[cfg(test)]
 mod decode;
 #[cfg(test)]
 mod dela;
@@ -24,6 +26,10 @@ mod digraph;
 mod graphs;
 #[cfg(test)]
 mod grf;
+#[cfg(test)]
+mod image;
+#[cfg(test)]
+mod image_reader;
 #[cfg(test)]
 mod net;
 #[cfg(test)]

@@ -1,7 +1,8 @@
 //! Rows of small grammars, compiled from the files of their graphs.
 //!
 //! The states of a net are shown as `t` where they are final, else `:`, and then as label and target
-//! of each edge, with a space between graphs. A label is shown as in the notation of `graphs`.
+//! of each edge, with a space between graphs. A label is shown as in the notation of `graphs`, and what
+//! an edge puts out after a `/`.
 
 use crate::comparing::compare;
 use crate::graphs::compiled;
@@ -9,6 +10,7 @@ use std::alloc::{AllocError, Global};
 use std::process::Abort;
 use std::test::Fail;
 use ux_alphabet::Alphabet;
+use ux_grf::Piece;
 use ux_net::{Edge, Label, Net, NetError, State};
 
 fn show_label(all: &mut String, label: &Label) -> Result<(), AllocError> {
@@ -19,10 +21,10 @@ fn show_label(all: &mut String, label: &Label) -> Result<(), AllocError> {
         Label::Fold(text) | Label::Exact(text) => all.push_str(text.as_str()),
         Label::Call(1) => all.push('A'),
         Label::Call(_) => all.push('B'),
+        Label::Begin(name) => put(all, "$", name.as_str(), "("),
+        Label::End(name) => put(all, "$", name.as_str(), ")"),
         Label::Mask(_)
         | Label::Brace(_)
-        | Label::Begin(_)
-        | Label::End(_)
         | Label::Positive
         | Label::Negative
         | Label::ContextEnd
@@ -30,8 +32,29 @@ fn show_label(all: &mut String, label: &Label) -> Result<(), AllocError> {
     }
 }
 
+fn put(all: &mut String, before: &str, text: &str, after: &str) -> Result<(), AllocError> {
+    all.push_str(before)?;
+    all.push_str(text)?;
+    all.push_str(after)
+}
+
+fn show_output(all: &mut String, output: &[Piece]) -> Result<(), AllocError> {
+    if output.is_empty() {
+        return Ok(());
+    }
+    all.push('/')?;
+    for piece in output {
+        match piece {
+            Piece::Chars(text) => all.push_str(text.as_str())?,
+            Piece::Value(name) => put(all, "$", name.as_str(), "$")?,
+        }
+    }
+    Ok(())
+}
+
 fn show_edge(alloc: Global, all: &mut String, edge: &Edge) -> Result<(), AllocError> {
     show_label(all, &edge.label)?;
+    show_output(all, edge.output.as_slice())?;
     let text = format!(in alloc; "{}", edge.target)?;
     all.push_str(text.as_str())
 }
@@ -155,6 +178,35 @@ fn makes_states(rt: HostRuntime) -> Result<(), Fail> {
 }
 
 #[test]
+fn an_output_stands_on_the_first_edge_of_each_line(rt: HostRuntime) -> Result<(), Fail> {
+    const ROWS: &[Row] = &[
+        ("before a word", &["E|2 | a/x|1"], ":a/x1t"),
+        (
+            "of two lines, one of two labels",
+            &["E|2 | a+bc/x|1"],
+            ":a/x1b/x2t:c1",
+        ),
+        (
+            "before a call",
+            &["E|2 | B/x|1", "E|2 | b|1"],
+            ":B/x1t :b1t",
+        ),
+        ("with a value", &["E|2 | a/x$y$|1"], ":a/x$y$1t"),
+        (
+            "of a box to which two lead",
+            &["E|23 | a|3 b/x|1"],
+            ":a1b/x2:b/x2t",
+        ),
+        (
+            "around the begin and the end of a variable",
+            &["E|2 | $v(|3 a|4 $v)/x|1"],
+            ":$v(1:a2:$v)/x3t",
+        ),
+    ];
+    compare_nets(&rt, rt.alloc(), ROWS)
+}
+
+#[test]
 fn a_literal_is_cut_by_the_alphabet(rt: HostRuntime) -> Result<(), Fail> {
     const WORDS: &[Row] = &[("a word", &["E|2 | ab|1"], ":ab1t")];
     const LETTERS: &[Row] = &[
@@ -201,6 +253,16 @@ fn names_the_first_loop_and_the_first_left_recursion(rt: HostRuntime) -> Result<
         ),
         ("two empty boxes", &["E|3 | E|3 E|12"], "loop A 2"),
         ("glue that leads to itself", &["E|2 | #|12"], "loop A 2"),
+        (
+            "a begin with an output that leads to itself",
+            &["E|2 | $v(/x|12"],
+            "loop A 2",
+        ),
+        (
+            "a call of itself after an output",
+            &["E|2 | A/x|3 a|1"],
+            "recursion A 2",
+        ),
         (
             "a call that may take nothing",
             &["E|2 | B|3 E|12", "E|2 | E|1"],

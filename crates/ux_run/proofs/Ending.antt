@@ -37,7 +37,8 @@ built_laws false asked laws = tt
 -- each command keeps them: a line a command
 laws_of : (request : Request) → AskedLaws (asked_of request)
 laws_of (Locate search) = built_laws (is_built_search search) _
-    (locate_laws search.graph search.text search.alphabet search.dics search.chars)
+    (locate_laws search.graph search.text search.alphabet search.dics search.mode search.novar
+    search.chars)
 laws_of (Tokenize text alphabet chars) = tokenize_laws text alphabet chars
 laws_of (Check false file) = built_laws (is_text file) _ (entries_laws file)
 laws_of (Check true file) = stems_laws file

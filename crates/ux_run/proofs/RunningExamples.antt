@@ -17,6 +17,16 @@ a_searched_image : IsAsked (asked_by (codes "locate" ∷ codes "g.grf" ∷ codes
     ∷ codes "d.dic" ∷ codes "e.udi" ∷ [])) → ⊥
 a_searched_image is = is
 
+-- a search is in any mode, and may drop hits for want of a value
+a_mode : IsAsked (asked_by (codes "locate" ∷ codes "--mode=replace" ∷ codes "--novar"
+    ∷ codes "g.grf" ∷ codes "t.txt" ∷ codes "a.txt" ∷ []))
+a_mode = tt
+
+-- but it keeps every hit
+a_policy : IsAsked (asked_by (codes "locate" ∷ codes "--policy" ∷ codes "longest"
+    ∷ codes "g.grf" ∷ codes "t.txt" ∷ codes "a.txt" ∷ [])) → ⊥
+a_policy is = is
+
 some_tokens : IsAsked (asked_by (codes "tokenize" ∷ codes "t.txt" ∷ codes "a.txt" ∷ []))
 some_tokens = tt
 

@@ -2,28 +2,14 @@
 -- through `Running`.
 use Rattle.std.specs.Prelude.{ℕ, ◌&&◌, nat_eq, Bool, true, false, not, List, codes}
 use Rattle.std.specs.List.{ends_with, list_all}
-use Rattle.ux_base.specs.declared.settings.Mode.{Mode}
-use Rattle.ux_base.specs.declared.settings.Mode.TheVariants.{Ignore}
-use Rattle.ux_base.specs.declared.settings.NoVar.{NoVar}
-use Rattle.ux_base.specs.declared.settings.NoVar.TheVariants.{Nothing}
 use Rattle.ux_base.specs.declared.settings.Policy.{Policy}
 use Rattle.ux_base.specs.declared.settings.Policy.TheVariants.{All}
 use Rattle.ux_words.specs.declared.request.Search.{Search}
-
--- outputs are ignored
-abbrev pub is_ignore : Mode → Bool
-is_ignore Ignore = true
-is_ignore mode = false
 
 -- every hit is kept
 abbrev pub is_all : Policy → Bool
 is_all All = true
 is_all policy = false
-
--- no hit is dropped for a variable without a value
-abbrev pub is_nothing : NoVar → Bool
-is_nothing Nothing = true
-is_nothing novar = false
 
 -- the graph is drawn, and no compiled one
 abbrev pub is_drawn : List ℕ → Bool
@@ -37,8 +23,6 @@ is_text dic = not (ends_with nat_eq dic (codes ".udi"))
 abbrev pub are_texts : List (List ℕ) → Bool
 are_texts dics = list_all is_text dics
 
--- a search in the default mode and policy, by a graph that is drawn, with dictionaries that are texts
+-- a search that keeps every hit, by a graph that is drawn, with dictionaries that are texts
 abbrev pub is_built_search : Search → Bool
-is_built_search search =
-    is_ignore search.mode && (is_all search.policy && (is_nothing search.novar
-    && (are_texts search.dics && is_drawn search.graph)))
+is_built_search search = is_all search.policy && (are_texts search.dics && is_drawn search.graph)

@@ -42,7 +42,8 @@ same_told reason = reason
 -- what a request asks for: a command where it is built
 abbrev pub asked_of : Request → Asked
 asked_of (Locate search) = only_if (is_built_search search)
-    (asks (locate search.graph search.text search.alphabet search.dics search.chars) search_told)
+    (asks (locate search.graph search.text search.alphabet search.dics search.mode search.novar
+    search.chars) search_told)
 asked_of (Tokenize text alphabet chars) = asks (tokenize text alphabet chars) tokenize_told
 asked_of (Check false file) = only_if (is_text file) (asks (check_entries file) check_told)
 asked_of (Check true file) = asks (check_stems file) check_told

@@ -1,31 +1,16 @@
 //! Which requests are built: the options that commands take today, and the kinds of files.
 
 ghost use Rattle.std.specs.Prelude.{◌≡◌};
-ghost use Rattle.ux_run.specs.Requests.{are_texts, is_all, is_built_search, is_drawn, is_ignore, is_nothing, is_text};
+ghost use Rattle.ux_run.specs.Requests.{are_texts, is_all, is_built_search, is_drawn, is_text};
 
-use ux_base::{Mode, NoVar, Policy, Txt};
+use ux_base::{Policy, Txt};
 use ux_words::Search;
 
-/// Whether the search is in the default mode and policy, by a graph that is drawn, with dictionaries
-/// that are texts.
+/// Whether the search keeps every hit, by a graph that is drawn, with dictionaries that are texts.
 pub fn is_built_search(search: &Search) -> bool
     ensures { result ≡ is_built_search search.now }
 {
-    is_ignore(search.mode)
-        && is_all(search.policy)
-        && is_nothing(search.novar)
-        && are_texts(search.dics.as_slice())
-        && is_drawn(search.graph.as_str())
-}
-
-/// Whether outputs are ignored.
-fn is_ignore(mode: Mode) -> bool
-    ensures { result ≡ is_ignore mode }
-{
-    match mode {
-        Mode::Ignore => true,
-        Mode::Merge | Mode::Replace => false,
-    }
+    is_all(search.policy) && are_texts(search.dics.as_slice()) && is_drawn(search.graph.as_str())
 }
 
 /// Whether every hit is kept.
@@ -35,16 +20,6 @@ fn is_all(policy: Policy) -> bool
     match policy {
         Policy::All => true,
         Policy::Shortest | Policy::Longest => false,
-    }
-}
-
-/// Whether no hit is dropped for a variable without a value.
-fn is_nothing(novar: NoVar) -> bool
-    ensures { result ≡ is_nothing novar }
-{
-    match novar {
-        NoVar::Nothing => true,
-        NoVar::Drop => false,
     }
 }
 

@@ -78,6 +78,8 @@ fn search_by<F: Folder>(alloc: Global, search: &Search, folder: &mut F) -> Resul
         text,
         search.alphabet.as_str(),
         search.dics.as_slice(),
+        search.mode,
+        search.novar,
         search.chars,
         folder,
     ))

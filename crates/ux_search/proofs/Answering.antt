@@ -1,6 +1,8 @@
 -- The index of a net's hits is that of the hits of the grammar from which it was compiled.
 use Rattle.std.proofs.Common.{ℕ, Bool, List, Option, ◌↔◌}
 use Rattle.ux_base.specs.Outside.{Files}
+use Rattle.ux_base.specs.declared.settings.Mode.{Mode}
+use Rattle.ux_base.specs.declared.settings.NoVar.{NoVar}
 use Rattle.ux_tokens.specs.Tokens.{Token}
 use Rattle.ux_net.specs.Boxes.{box_grammar}
 use Rattle.ux_net.specs.Nets.{net_grammar}
@@ -13,19 +15,21 @@ use Rattle.ux_walk.specs.Settings.{applied_text}
 use Rattle.ux_meaning.proofs.Renaming.{same_meaning}
 use Rattle.ux_plan.specs.Plans.{Answers}
 use Rattle.ux_alphabet.specs.Letters.{Letters}
-use Rattle.ux_search.specs.Hits.{IsHit}
-use Rattle.ux_search.specs.Index.{IsIndex}
+use Rattle.ux_locate.specs.Hits.{IsHit}
+use Rattle.ux_locate.specs.Index.{IsIndex}
+use Rattle.ux_search.specs.Indexes.{IsAppliedIndex}
 use Rattle.ux_search.specs.Locate.{AreFiles, locate, search_plan}
-use Rattle.ux_search.specs.Spans.{IsAppliedIndex}
 use Rattle.ux_apply.specs.Tables.{Tables}
 use Rattle.ux_apply.specs.declared.priority.Priority.{Priority}
 use Rattle.ux_dela.specs.declared.entry.Entry.{Entry}
 
-module _ (alphabet : Letters) (tokens : List Token) (tables : Tables) where
+module _ (alphabet : Letters) (tokens : List Token) (tables : Tables) (mode : Mode)
+    (novar : NoVar) where
   -- grammars that derive the same give the same hits
   hit_alike : (old new : Grammar) → ((i j : ℕ) (events : List Event) →
       Der (applied_text alphabet tokens tables) old 1 i j events → Der (applied_text alphabet tokens tables) new 1 i j events) →
-      (hit : Hit) → IsHit alphabet tokens tables old hit → IsHit alphabet tokens tables new hit
+      (hit : Hit) → IsHit alphabet tokens tables old mode novar hit →
+      IsHit alphabet tokens tables new mode novar hit
   hit_alike old new same hit h = record {
     start = h.start;
     starts = h.starts;
@@ -38,8 +42,8 @@ module _ (alphabet : Letters) (tokens : List Token) (tables : Tables) where
   -- and so the same index
   index_alike : (old new : Grammar) → ((i j : ℕ) (events : List Event) →
       Der (applied_text alphabet tokens tables) old 1 i j events ↔ Der (applied_text alphabet tokens tables) new 1 i j events) →
-      (text : List ℕ) → IsIndex (IsHit alphabet tokens tables old) text →
-      IsIndex (IsHit alphabet tokens tables new) text
+      (text : List ℕ) → IsIndex mode (IsHit alphabet tokens tables old mode novar) text →
+      IsIndex mode (IsHit alphabet tokens tables new mode novar) text
   index_alike old new same text index = record {
     hits = index.hits;
     listing = record {
@@ -55,22 +59,23 @@ module _ (alphabet : Letters) (tokens : List Token) (tables : Tables) where
   }
 
 -- the index of the net's hits answers the search
-pub answered : (graph text alphabet : List ℕ) (names : List (List ℕ)) (chars : Bool)
-    (told : Option Files) (letters : Letters) (net : List NetGraph) (tokens : List Token)
-    (dics : List (Priority × List Entry)) (answer : List ℕ) →
+pub answered : (graph text alphabet : List ℕ) (names : List (List ℕ)) (mode : Mode) (novar : NoVar)
+    (chars : Bool) (told : Option Files) (letters : Letters) (net : List NetGraph)
+    (tokens : List Token) (dics : List (Priority × List Entry)) (answer : List ℕ) →
     AreFiles (search_plan graph text alphabet names chars) told letters net tokens dics →
-    IsAppliedIndex letters tokens dics (net_grammar net) answer →
-    Answers (locate graph text alphabet names chars) told answer
-answered graph text alphabet names chars told letters net tokens dics answer files index = record {
-  read = record { letters = letters; graphs = files.graphs; tokens = tokens; dics = dics };
-  comes = files.comes;
-  answers = record {
-    tables = index.tables;
-    applied = index.applied;
-    is = index_alike letters tokens index.tables (net_grammar net)
-        (box_grammar letters files.graphs)
-        (λ i j events. let same = same_meaning (applied_text letters tokens index.tables)
-        (box_grammar letters files.graphs) (net_grammar net) files.compiles 1 i j events in
-        (same.1, same.0)) answer index.is;
-  };
-}
+    IsAppliedIndex letters tokens dics (net_grammar net) mode novar answer →
+    Answers (locate graph text alphabet names mode novar chars) told answer
+answered graph text alphabet names mode novar chars told letters net tokens dics answer files
+    index = record {
+      read = record { letters = letters; graphs = files.graphs; tokens = tokens; dics = dics };
+      comes = files.comes;
+      answers = record {
+        tables = index.tables;
+        applied = index.applied;
+        is = index_alike letters tokens index.tables mode novar (net_grammar net)
+            (box_grammar letters files.graphs)
+            (λ i j events. let same = same_meaning (applied_text letters tokens index.tables)
+            (box_grammar letters files.graphs) (net_grammar net) files.compiles 1 i j events in
+            (same.1, same.0)) answer index.is;
+      };
+    }

@@ -1,5 +1,2 @@
-pub mod Hits
-pub mod Index
 pub mod Locate
-pub mod Searching
-pub mod Spans
+pub mod Indexes

@@ -2,6 +2,8 @@
 -- meaning.
 use Rattle.std.specs.Prelude.{ℕ, Bool, List, Option}
 use Rattle.ux_base.specs.Outside.{Files}
+use Rattle.ux_base.specs.declared.settings.Mode.{Mode}
+use Rattle.ux_base.specs.declared.settings.NoVar.{NoVar}
 use Rattle.ux_plan.specs.Plans.{Command, Comes, Plan, each, gives, reads, then}
 use Rattle.ux_tokens.specs.Tokens.{Token}
 use Rattle.ux_apply.specs.Tables.{AreApplied, Tables}
@@ -16,8 +18,8 @@ use Rattle.ux_grammars.specs.Reading.{Compiles}
 use Rattle.ux_texts.specs.Texts.{alphabet_format, text_format}
 use Rattle.ux_search.specs.declared.reason.Reason.{Reason}
 use Rattle.ux_search.specs.declared.reason.Reason.TheVariants.{Decode, Alphabet, Grf, Net, TooManyGraphs, Dela}
-use Rattle.ux_search.specs.Hits.{IsHit}
-use Rattle.ux_search.specs.Index.{IsIndex}
+use Rattle.ux_locate.specs.Hits.{IsHit}
+use Rattle.ux_locate.specs.Index.{IsIndex}
 
 -- what a search reads: the letters, the graphs of a grammar, the tokens of a text, and the
 -- dictionaries that are applied to it
@@ -38,18 +40,20 @@ search_plan graph text alphabet dics chars =
     gives (record { letters = letters; graphs = graphs; tokens = tokens; dics = dics })))))
 
 -- the index of the grammar's hits in the text, to which the dictionaries' entries are applied
-pub record IsIndexOf (read : Searched) (answer : List ℕ) : Type 0 where
-  pub tables : Tables
-  pub applied : AreApplied read.letters read.dics read.tokens tables
-  pub is : IsIndex
-      (IsHit read.letters read.tokens tables (box_grammar read.letters read.graphs)) answer
+pub record IsIndexOf (mode : Mode) (novar : NoVar) (read : Searched) (answer : List ℕ) : Type 0
+  where
+    pub tables : Tables
+    pub applied : AreApplied read.letters read.dics read.tokens tables
+    pub is : IsIndex mode (IsHit read.letters read.tokens tables
+        (box_grammar read.letters read.graphs) mode novar) answer
 
-abbrev pub locate : (graph text alphabet : List ℕ) (dics : List (List ℕ)) (chars : Bool) →
-    Command Reason
-locate graph text alphabet dics chars = record {
+-- a search whose hits are rendered in this mode
+abbrev pub locate : (graph text alphabet : List ℕ) (dics : List (List ℕ)) (mode : Mode)
+    (novar : NoVar) (chars : Bool) → Command Reason
+locate graph text alphabet dics mode novar chars = record {
   Read = Searched;
   plan = search_plan graph text alphabet dics chars;
-  Answers = IsIndexOf;
+  Answers = IsIndexOf mode novar;
 }
 
 -- the files of a search are read: the net is that of the graphs

@@ -1,31 +1,31 @@
 //! The command: files in, the index of the hits out.
 
-ghost use Rattle.std.specs.Prelude.{◌≡◌, ◌<◌, IfErr, IfOk};
+ghost use Rattle.std.specs.Prelude.{◌≡◌, ◌<◌, IfErr, IfOk, string_bytes};
 ghost use Rattle.ux_base.specs.Outside.{IsLater};
 ghost use Rattle.ux_net.specs.Nets.{net_grammar};
 ghost use Rattle.ux_plan.specs.Plans.{Answers, Halts};
 ghost use Rattle.ux_apply.specs.Belonging.{Belongs};
+ghost use Rattle.ux_locate.specs.Hits.{IsHit};
+ghost use Rattle.ux_locate.specs.Index.{IsIndex};
+ghost use Rattle.ux_search.specs.Indexes.{IsAppliedIndex};
 ghost use Rattle.ux_search.specs.Locate.{locate as locate_command};
-ghost use Rattle.ux_search.specs.Searching.{ListsSpans};
-ghost use Rattle.ux_search.specs.Spans.{IsAppliedIndex, IsSpan};
 
 use crate::files::{Files, read_files};
-use crate::index::index_text;
 use crate::reason::Reason;
-use crate::searching::hits;
 use std::alloc::Global;
 use std::marker::Brand;
 use std::sync::ledger::{Blank, Ledger};
 use ux_alphabet::Alphabet;
 use ux_apply::Applied;
-use ux_base::{Folder, Mem, Steps, Txt};
+use ux_base::{Folder, Mem, Mode, NoVar, Steps, Txt};
+use ux_locate::{index_text, locate as locate_hits, locate_spans, span_index};
 use ux_net::Net;
-use ux_outputs::Span;
 use ux_plan::Stop;
 use ux_tokens::Text;
 
 /// The index of the grammar's hits in the text, to which the entries of the dictionaries are
-/// applied, or what stops the search. `chars` says that each letter is a word by itself.
+/// applied, or what stops the search. The hits are rendered in the mode. `chars` says that each letter
+/// is a word by itself.
 #[tactic(auto, using(ux_plan::proofs::PlanSteps::plan_steps, crate::proofs::Answering::answered))]
 pub fn locate<F: Folder>(
     alloc: Global,
@@ -33,26 +33,28 @@ pub fn locate<F: Folder>(
     text: &str,
     alphabet: &str,
     dics: &[Txt],
+    mode: Mode,
+    novar: NoVar,
     chars: bool,
     folder: &mut F,
 ) -> Result<Vec<u8>, Stop<Reason>>
     ensures later { IsLater (F.seen folder.old) (F.seen folder.new) }
     ensures ok { IfOk result (λ answer. Answers
-        (locate_command graph.now text.now alphabet.now dics.now chars) (F.seen folder.old).files
-        answer.items) }
+        (locate_command graph.now text.now alphabet.now dics.now mode novar chars)
+        (F.seen folder.old).files answer.items) }
     ensures err { IfErr result
-        (Halts (locate_command graph.now text.now alphabet.now dics.now chars).plan
+        (Halts (locate_command graph.now text.now alphabet.now dics.now mode novar chars).plan
         (F.seen folder.old) (F.seen folder.new)) }
 {
     let files = read_files(alloc, graph, text, alphabet, dics, chars, folder)?;
-    Ok(index_of(alloc, files)?)
+    Ok(index_of(alloc, files, mode, novar)?)
 }
 
 /// The index of the grammar's hits in the text with the entries that apply to it. The dictionaries
 /// are freed before it is searched.
-fn index_of(alloc: Global, files: Files) -> Mem<Vec<u8>>
+fn index_of(alloc: Global, files: Files, mode: Mode, novar: NoVar) -> Mem<Vec<u8>>
     ensures { IfOk result (λ index. IsAppliedIndex files.alphabet files.text files.dics.items
-        (net_grammar files.net) index.items) }
+        (net_grammar files.net) mode novar index.items) }
 {
     let Files {
         alphabet,
@@ -62,27 +64,40 @@ fn index_of(alloc: Global, files: Files) -> Mem<Vec<u8>>
     } = files;
     let applied = Applied::of(alloc, &text, &alphabet, &dics)?;
     drop(dics);
-    let hits = hits_of::<Brand>(alloc, &net, &alphabet, &text, &applied, Blank::new(1))?;
-    let index = index_text(alloc, &text, hits.as_slice())?;
+    let blank = Blank::new(1);
+    let index = hits_index::<Brand>(alloc, &net, &text, &alphabet, &applied, mode, novar, blank)?;
     Ok(index.into_bytes())
 }
 
-/// The hits, with no step taken before.
-fn hits_of<L: Ledger>(
+/// The index of the hits, with no step taken before. Where outputs are ignored no text of a hit is
+/// copied before it is written.
+fn hits_index<L: Ledger>(
     alloc: Global,
     net: &Net,
-    alphabet: &Alphabet,
     text: &Text,
+    alphabet: &Alphabet,
     applied: &Applied,
+    mode: Mode,
+    novar: NoVar,
     blank: Blank,
-) -> Mem<Vec<Span>>
+) -> Mem<String>
     requires name { blank.name ≡ L.name }
     requires parts { blank.parts ≡ L.parts }
     requires some { 0 < blank.parts }
     requires belongs { Belongs alphabet.now text.now applied.now }
-    ensures { IfOk result (λ hits. ListsSpans
-        (IsSpan alphabet.now text.now applied.now (net_grammar net.now)) hits.items) }
+    ensures { IfOk result (λ index. IsIndex mode
+        (IsHit alphabet.now text.now applied.now (net_grammar net.now) mode novar)
+        (string_bytes index)) }
 {
     let mut steps = Steps::<L>::new(blank);
-    hits(alloc, net, alphabet, text, applied, &mut steps)
+    match mode {
+        Mode::Ignore => {
+            let spans = locate_spans(alloc, net, text, alphabet, applied, &mut steps)?;
+            span_index(alloc, text, spans.as_slice())
+        }
+        Mode::Merge | Mode::Replace => {
+            let hits = locate_hits(alloc, net, text, alphabet, applied, mode, novar, &mut steps)?;
+            index_text(alloc, mode, hits.as_slice())
+        }
+    }
 }

@@ -1,18 +1,18 @@
 -- The derivations that are spelled out are those that were found, each once.
-use Rattle.std.proofs.Common.{arith, ◌≡◌, ℕ, zero, suc, ◌+◌, ◌<◌, ◌≤◌, List, [], ◌∷◌, ◌++◌, refl, sym, ◌∙◌, ap, subst, ◌↔◌, length, take, get_or, map, reverse}
+use Rattle.std.proofs.Common.{arith, ◌≡◌, ℕ, zero, suc, ◌+◌, ◌<◌, ◌≤◌, List, [], ◌∷◌, ◌++◌, refl, sym, ◌∙◌, ap, subst, ◌↔◌, length, take, get_or, reverse}
 use Rattle.std.specs.Prelude.{Some, slice_get, Contains}
 use Rattle.std.specs.List.{AllZip}
-use Rattle.std.proofs.lemmas.List.{take_more, take_all, reverse-reverse}
+use Rattle.std.proofs.lemmas.List.{take_more, take_all, reverse-append, reverse-reverse}
 use Rattle.std.proofs.lemmas.Option.{same_Some, slice_get-get_or, slice_get_within, get_or_from_slice_get}
 use Rattle.ux_outputs.specs.declared.event.Event.{Event}
-use Rattle.ux_outputs.specs.declared.event.Event.TheVariants.{Take}
 use Rattle.ux_walk.specs.declared.config.Found.{Found}
-use Rattle.ux_walk.specs.declared.config.Taken.{Taken}
+use Rattle.ux_walk.specs.declared.noted.Noted.{Noted}
 use Rattle.ux_walk.specs.declared.reached.Reached.{Reached}
-use Rattle.ux_walk.specs.Links.{Names, AreOnce}
-use Rattle.ux_walk.specs.Courses.{event_of, told}
-use Rattle.ux_walk.specs.Configurations.{IsFoundAs, IsSound, events_of}
-use Rattle.ux_walk.proofs.LinksLemmas.{one_number}
+use Rattle.ux_base.specs.Distinct.{StandOnce}
+use Rattle.ux_walk.specs.Links.{AreOnce}
+use Rattle.ux_walk.specs.Noted.{StandsFor}
+use Rattle.ux_walk.specs.Configurations.{IsFoundAs, IsSound, NamesEventsIn, events_of, texts_of}
+use Rattle.ux_walk.proofs.NotedLemmas.{one_teller}
 
 at_of : {A : Type 0} (xs : List A) (x : A) → Contains xs x → (k : ℕ) × (slice_get xs k ≡ Some x)
 at_of xs x c = (c.0, slice_get-get_or xs c.0 x c.1 ∙ ap Some c.2)
@@ -46,51 +46,11 @@ module _ {A B : Type 0} (R : A → B → Type 0) where
       (b, refl, subst (λ (z : A). R z b) (same_Some a x at) zip.0)
   zip_left (a ∷ xs) (b ∷ ys) (suc k) x zip at = zip_left xs ys k x zip.1 at
 
--- events that are the same tell of the same
-event_once : (x y : Taken) (es fs : List Event) → event_of x ∷ es ≡ event_of y ∷ fs →
-    (x ≡ y) × (es ≡ fs)
-event_once x y es fs is = (
-  ap (λ n. record { from = n; to = x.to }) from ∙ ap (λ n. record { from = y.from; to = n }) to,
-  rest,
-)
-  where
-    from : x.from ≡ y.from
-    from = once x.from x.to y.from y.to is
-      where
-        once : (a b c d : ℕ) → Take a b ∷ es ≡ Take c d ∷ fs → a ≡ c
-        once a b c d h = cc
-
-    to : x.to ≡ y.to
-    to = once x.from x.to y.from y.to is
-      where
-        once : (a b c d : ℕ) → Take a b ∷ es ≡ Take c d ∷ fs → b ≡ d
-        once a b c d h = cc
-
-    rest : es ≡ fs
-    rest = once x.from x.to y.from y.to is
-      where
-        once : (a b c d : ℕ) → Take a b ∷ es ≡ Take c d ∷ fs → es ≡ fs
-        once a b c d h = cc
-
-events_once : (xs ys : List Taken) → map event_of xs ≡ map event_of ys → xs ≡ ys
-events_once [] [] is = refl
-events_once [] (y ∷ ys) is = cc
-events_once (x ∷ xs) [] is = cc
-events_once (x ∷ xs) (y ∷ ys) is =
-    let both = event_once x y (map event_of xs) (map event_of ys) is in
-    ap (λ (t : Taken). t ∷ xs) both.0 ∙ ap (λ (l : List Taken). y ∷ l) (events_once xs ys both.1)
-
-told_once : (xs ys : List Taken) → told xs ≡ told ys → xs ≡ ys
-told_once xs ys is = sym (reverse-reverse xs)
-    ∙ (ap (λ (l : List Taken). reverse l) (events_once (reverse xs) (reverse ys) is)
-    ∙ reverse-reverse ys)
-
 module _ (r : Reached) where
   -- the derivation has the end, and the events of the list in order
   pub record IsSpelled (f : Found) (d : ℕ × List Event) : Type 0 where
     pub end : d.0 ≡ f.end
-    pub events : (before : List Taken) → Names (events_of r) f.events before →
-        d.1 ≡ told before
+    pub events : (before : List Event) → NamesEventsIn r f.events before → d.1 ≡ reverse before
 
   pub spelled_none : (all : List Found) → AllZip IsSpelled (take 0 all) []
   spelled_none all = tt
@@ -138,19 +98,70 @@ module _ (r : Reached) where
           subst (λ (x : ℕ × List Event). Contains ds x) same (contains_at ds at.0 d.0 d.1),
     )
 
-    pub derived_once : AreOnce r.found.keys → AreOnce (events_of r) → AreOnce ds
-    derived_once found links i j d at there =
+    pub derived_once : AreOnce r.found.keys → AreOnce (events_of r) → StandOnce (texts_of r) →
+        AreOnce ds
+    derived_once found links texts i j d at there =
         let f = zip_right IsSpelled r.found.keys ds i d zip at in
         let g = zip_right IsSpelled r.found.keys ds j d zip there in
         let v = sound.found f.0 (contains_at r.found.keys i f.0 f.1) in
         let w = sound.found g.0 (contains_at r.found.keys j g.0 g.1) in
-        let lists : v.1.before ≡ w.1.before = told_once v.1.before w.1.before
-        (sym (f.2.events v.1.before v.1.events) ∙ g.2.events w.1.before w.1.events) in
-        let numbers : f.0.events ≡ g.0.events = one_number (events_of r) links w.1.before
-        f.0.events g.0.events
-        (subst (λ (l : List Taken). Names (events_of r) f.0.events l) lists v.1.events)
-        w.1.events in
+        let reversed : reverse v.1.before ≡ reverse w.1.before =
+        sym (f.2.events v.1.before v.1.events) ∙ g.2.events w.1.before w.1.events in
+        let lists : v.1.before ≡ w.1.before = sym (reverse-reverse v.1.before)
+        ∙ (ap (λ (l : List Event). reverse l) reversed ∙ reverse-reverse w.1.before) in
+        let numbers : f.0.events ≡ g.0.events = one_teller (texts_of r) texts (events_of r) links
+        f.0.events g.0.events w.1.before
+        (subst (λ (l : List Event). NamesEventsIn r f.0.events l) lists v.1.events) w.1.events in
         let ends : f.0.end ≡ g.0.end = sym f.2.end ∙ g.2.end in
         let same : f.0 ≡ g.0 = ap (λ n. record { end = n; events = f.0.events }) ends
         ∙ ap (λ n. record { end = g.0.end; events = n }) numbers in
         found i j g.0 (subst (λ (x : Found). slice_get r.found.keys i ≡ Some x) same f.1) g.1
+
+-- so far each noted event is spelled as an event that it stands for is
+module _ (texts : List (List ℕ)) where
+  abbrev pub Means : Noted → Event → Type 0
+  Means n e = (wanted : Event) → StandsFor texts n wanted → e ≡ wanted
+
+  pub means_none : (all : List Noted) → AllZip Means (take 0 all) []
+  means_none all = tt
+
+  pub means_more : (all : List Noted) (i : ℕ) (n : Noted) (es : List Event) (e : Event) →
+      i < length all → n ≡ get_or all i n → AllZip Means (take i all) es → Means n e →
+      AllZip Means (take (i + 1) all) (es ++ e ∷ [])
+  means_more all i n es e lt is zip one =
+      let more : take (i + 1) all ≡ take i all ++ n ∷ [] = take_more all i n lt
+      ∙ ap (λ y. take i all ++ y ∷ []) (sym is) in
+      subst (λ (l : List Noted). AllZip Means l (es ++ e ∷ [])) (sym more)
+      (zip_push Means (take i all) es n e zip one)
+
+  means_same : (ns : List Noted) (es wanted : List Event) → AllZip Means ns es →
+      AllZip (StandsFor texts) ns wanted → es ≡ wanted
+  means_same [] [] [] means stands = refl
+  means_same [] (e ∷ es) wanted means stands = absurd means
+  means_same [] [] (w ∷ ws) means stands = absurd stands
+  means_same (n ∷ ns) [] wanted means stands = absurd means
+  means_same (n ∷ ns) (e ∷ es) [] means stands = absurd stands
+  means_same (n ∷ ns) (e ∷ es) (w ∷ ws) means stands =
+      ap (λ (x : Event). x ∷ es) (means.0 w stands.0)
+      ∙ ap (λ (l : List Event). w ∷ l) (means_same ns es ws means.1 stands.1)
+
+  zip_reverse : (ns : List Noted) (es : List Event) → AllZip (StandsFor texts) ns es →
+      AllZip (StandsFor texts) (reverse ns) (reverse es)
+  zip_reverse [] [] zip = tt
+  zip_reverse [] (e ∷ es) zip = absurd zip
+  zip_reverse (n ∷ ns) [] zip = absurd zip
+  zip_reverse (n ∷ ns) (e ∷ es) zip =
+      subst (λ (l : List Noted). AllZip (StandsFor texts) l (reverse (e ∷ es)))
+      (sym (reverse-append (n ∷ []) ns))
+      (subst (λ (l : List Event). AllZip (StandsFor texts) (reverse ns ++ n ∷ []) l)
+      (sym (reverse-append (e ∷ []) es))
+      (zip_push (StandsFor texts) (reverse ns) (reverse es) n e (zip_reverse ns es zip.1) zip.0))
+
+  -- all are spelled, in order
+  pub means_all : (all listed : List Noted) (i : ℕ) (es before : List Event) → length all ≤ i →
+      all ≡ reverse listed → AllZip Means (take i all) es →
+      AllZip (StandsFor texts) listed before → es ≡ reverse before
+  means_all all listed i es before past is zip each =
+      means_same (reverse listed) es (reverse before)
+      (subst (λ (l : List Noted). AllZip Means l es) (take_all i all past ∙ is) zip)
+      (zip_reverse listed before each)

@@ -1,15 +1,12 @@
--- Where walks lead is where derivations end, walks lead on, and in plain nets derivations take
--- tokens alone. Crates above build on these.
+-- Where walks lead is where derivations end, and walks lead on. Crates above build on these.
 use Rattle.std.proofs.Common.{arith, ◌≡◌, ℕ, zero, suc, ◌+◌, ◌-◌, ◌<◌, ◌≤◌, List, [], ◌∷◌, ◌↔◌, refl, sym, ap, subst, inl, inr, length}
 use Rattle.ux_net.specs.Measured.{IsMeasured}
 use Rattle.ux_net.specs.Nets.{ArePlain, net_grammar}
 use Rattle.ux_outputs.specs.declared.event.Event.{Event}
-use Rattle.ux_outputs.specs.Following.{AreTakes}
 use Rattle.ux_meaning.specs.Meaning.{RefusesBy}
 use Rattle.ux_walk.specs.declared.config.Frame.{Frame}
 use Rattle.ux_walk.specs.Settings.{Setting, Derives, applied_text}
 use Rattle.ux_walk.specs.Courses.{Course, GoesOn}
-use Rattle.ux_walk.specs.Ends.{IsStraight}
 use Rattle.ux_walk.specs.Leads.{Stack, LeadsTo, ended, goes, main_stack}
 use Rattle.ux_walk.proofs.LevelsLemmas.{at_level}
 use Rattle.ux_walk.proofs.OneStep.{Through, onto, step_forth, step_back, starts_forth, starts_back}
@@ -121,58 +118,3 @@ module _ (setting : Setting) where
               ),
             ),
       )
-
-      -- a step gives no event but that it takes tokens
-      step_takes : (f : Frame) (fs : Stack) (p end : ℕ) (later : List Event) (w : Course) →
-          Steps f fs p w → AreTakes w.at end later → AreTakes p end (onto w.before later)
-      step_takes f fs p end later w (state, found, inr (final, is)) takes =
-          subst (λ (x : Course). AreTakes x.at end later → AreTakes p end (onto x.before later))
-          (sym is)
-          (λ same. same) takes
-      step_takes f fs p end later w (state, found, inl (edge, inside, inl (k, label, is))) takes =
-          let ahead = takes_forward setting.alphabet setting.tokens setting.tables forward
-          edge.label p
-          k label.1 in
-          subst (λ (x : Course). AreTakes x.at end later → AreTakes p end (onto x.before later))
-          (sym is)
-          (λ rest. (k, refl, ahead.0, rest)) takes
-      step_takes f fs p end later w (state, found, inl (edge, inside, inr (inl (passes, is))))
-          takes =
-          subst (λ (x : Course). AreTakes x.at end later → AreTakes p end (onto x.before later))
-          (sym is)
-          (λ same. same) takes
-      step_takes f fs p end later w (state, found, inl (edge, inside, inr (inr (h, label, is))))
-          takes =
-          subst (λ (x : Course). AreTakes x.at end later → AreTakes p end (onto x.before later))
-          (sym is)
-          (λ same. same) takes
-
-      -- frames are gone through by taking tokens alone
-      through_takes : (n bound : ℕ) (frames : Stack) (p end : ℕ) (events : List Event) →
-          weight p frames < bound → p ≤ length setting.tokens → GoesThrough n frames p end events →
-          AreTakes p end events
-      through_takes n zero frames p end events less inside through = absurd (omega (arith, less))
-      through_takes n (suc bound) [] p end events less inside through =
-          subst (λ (es : List Event). AreTakes p end es) (sym through.1) through.0
-      through_takes n (suc bound) (f ∷ fs) p end events less inside through =
-          let next = step_forth setting.alphabet setting.tokens setting.tables setting.net
-          (Refused n)
-          f fs p [] end events (are f.graph f.state) (events, through, refl) in
-          let lighter = next_lighter setting.net setting.alphabet setting.tokens
-          setting.tables forward
-          measured f fs p [] inside next.0 next.1 in
-          subst (λ (es : List Event). AreTakes p end es) (sym next.2.2)
-          (step_takes f fs p end next.2.0 next.0 next.1
-          (through_takes n bound next.0.frames next.0.at end next.2.0
-          (omega (arith, less, lighter.1)) lighter.0 next.2.1))
-
-      -- every derivation takes exactly the tokens up to its end, and gives no other event
-      pub plain_straight : (start : ℕ) → start ≤ length setting.tokens → IsStraight setting start
-      plain_straight start inside end events derives =
-          let all = starts_forth setting.alphabet setting.tokens setting.tables setting.net
-          (Refused derives.0) 1 start end events
-          (at_level (applied_text setting.alphabet setting.tokens setting.tables)
-          (net_grammar setting.net) 1 start end events derives) in
-          subst (λ (es : List Event). AreTakes start end es) (sym all.2)
-          (through_takes derives.0 (weight start main_stack + 1) main_stack start end all.0
-          (omega arith) inside all.1)

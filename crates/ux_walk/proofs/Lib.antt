@@ -1,6 +1,7 @@
 pub mod LinksLemmas
 pub mod SetsLemmas
 pub mod MatchingLemmas
+pub mod NotedLemmas
 pub mod Results
 pub mod Adding
 pub mod Stepping
@@ -21,3 +22,4 @@ pub mod FittedLemmas
 pub mod RaisedLemmas
 pub mod CountsLemmas
 pub mod Collecting
+mod CoursesExamples

@@ -1,5 +1,5 @@
 -- Places that are enough leave out no course, and what is kept stays right where an index is added.
-use Rattle.std.proofs.Common.{◌≡◌, ℕ, List, [], ◌∷◌, ◌⊎◌, ◌↔◌, inl, inr, refl, sym, ◌∙◌, ap, subst, Bool, true, false, cond, Bor}
+use Rattle.std.proofs.Common.{◌≡◌, ℕ, List, [], ◌∷◌, ◌++◌, ◌⊎◌, ◌↔◌, inl, inr, refl, reverse, sym, ◌∙◌, ap, subst, Bool, true, false, cond, Bor}
 use Rattle.std.specs.Prelude.{Option, Some, None, Result, Ok, Err, slice_get, Contains, IfSome, IsSomeAnd, OnOk, OnErr, option_copied}
 use Rattle.std.specs.Map.{lookup}
 use Rattle.std.proofs.lemmas.Option.{same_Some, slice_get_within, slice_get-get_or, get_or_from_slice_get}
@@ -19,11 +19,11 @@ use Rattle.ux_outputs.specs.Rendering.{skip}
 use Rattle.ux_meaning.specs.Texts.{FoldsTo}
 use Rattle.ux_walk.specs.declared.config.Frame.{Frame}
 use Rattle.ux_walk.specs.declared.config.Config.{Config}
-use Rattle.ux_walk.specs.declared.config.Taken.{Taken}
+use Rattle.ux_outputs.specs.declared.event.Event.{Event}
 use Rattle.ux_walk.specs.declared.reached.Reached.{Reached}
 use Rattle.ux_walk.specs.declared.edge_index.EdgeIndex.{EdgeIndex}
 use Rattle.ux_walk.specs.declared.look_ups.LookUps.{LookUps}
-use Rattle.ux_walk.specs.Courses.{Course, IsBehind, IsOverSome, IsOverSomeAt}
+use Rattle.ux_walk.specs.Courses.{Course, IsBehind, IsOverSome, IsOverSomeAt, put_events}
 use Rattle.ux_walk.specs.Configurations.{AddsFrom}
 use Rattle.ux_walk.specs.EdgeIndexes.{IsIndexOf}
 use Rattle.ux_walk.specs.LookUps.{Refuses, AreEnough, AreSound, IsKept}
@@ -99,51 +99,54 @@ module _ {K V : Type 0} (eq : K → K → Bool) (key : K)
       inl (subst (λ (l : List (K × V)). Contains l (k, v)) is h)
 
 module _ (alphabet : Letters) (tokens : List Token) (tables : Tables) (fs : List Frame) (i : ℕ)
-    (before : List Taken) where
-  -- a label that refuses the token's text leads nowhere
-  refused : (label : Label) (token : Token) → slice_get tokens (skip tokens i) ≡ Some token →
-      Refuses alphabet label token.text → (f : Frame) (w : Course) →
-      IsBehind alphabet tokens tables label f fs i before w → ⊥
-  refused (Fold entry) token at refuses f w b = elim b [
-    | inl t ↦ refuses.1 (subst (λ (x : Token). FoldsTo alphabet entry x)
-        (same_Some t.1.1.0 token (sym t.1.1.1 ∙ at)) t.1.1.2.1)
-    | inr o ↦ elim o [
-      | inl s ↦ s.0
-      | inr h ↦ let no : Fold entry ≡ Call h.0 = h.1 in cc
+  where
+    -- a label that refuses the token's text leads nowhere
+    refused : (before : List Event) (label : Label) (token : Token) →
+        slice_get tokens (skip tokens i) ≡ Some token →
+        Refuses alphabet label token.text → (f : Frame) (w : Course) →
+        IsBehind alphabet tokens tables label f fs i before w → ⊥
+    refused before (Fold entry) token at refuses f w b = elim b [
+      | inl t ↦ refuses.1 (subst (λ (x : Token). FoldsTo alphabet entry x)
+          (same_Some t.1.1.0 token (sym t.1.1.1 ∙ at)) t.1.1.2.1)
+      | inr o ↦ elim o [
+        | inl s ↦ s.0
+        | inr h ↦ let no : Fold entry ≡ Call h.0 = h.1 in cc
+      ]
     ]
-  ]
-  refused (Exact exact) token at refuses f w b = elim b [
-    | inl t ↦ refuses.1 (subst (λ (x : Token). x.text ≡ exact)
-        (same_Some t.1.1.0 token (sym t.1.1.1 ∙ at)) t.1.1.2.1)
-    | inr o ↦ elim o [
-      | inl s ↦ s.0
-      | inr h ↦ let no : Exact exact ≡ Call h.0 = h.1 in cc
+    refused before (Exact exact) token at refuses f w b = elim b [
+      | inl t ↦ refuses.1 (subst (λ (x : Token). x.text ≡ exact)
+          (same_Some t.1.1.0 token (sym t.1.1.1 ∙ at)) t.1.1.2.1)
+      | inr o ↦ elim o [
+        | inl s ↦ s.0
+        | inr h ↦ let no : Exact exact ≡ Call h.0 = h.1 in cc
+      ]
     ]
-  ]
-  refused other token at refuses f w b = absurd refuses.0
+    refused before other token at refuses f w b = absurd refuses.0
 
-  -- the edges at places that are enough lead where all edges lead
-  same_courses : (f : Frame) (edges : List Edge) (places : List ℕ) (token : Token) →
-      slice_get tokens (skip tokens i) ≡ Some token →
-      AreEnough alphabet token.text edges places → (w : Course) →
-      IsOverSomeAt alphabet tokens tables f fs i before edges places w
-      ↔ IsOverSome alphabet tokens tables f fs i before edges w
-  same_courses f edges places token there enough w = (
-    λ (n, inside, (edge, at, over)). (
-      edge,
-      subst (Contains edges) (get_or_from_slice_get edges n edge edge at)
-          (Contains-get_or edges n edge (slice_get_within edges n edge at)),
-      over,
-    ),
-    λ (edge, inside, over).
-        let at : slice_get edges inside.0 ≡ Some edge =
-        slice_get-get_or edges inside.0 edge inside.1 ∙ ap (λ (x : Edge). Some x) inside.2 in
-        elim (enough inside.0 edge at) [
-          | inl listed ↦ (inside.0, listed, (edge, at, over))
-          | inr refuses ↦ absurd (refused edge.label token there refuses
-              (record { graph = f.graph; state = edge.target }) w over)
-        ],
-  )
+    -- the edges at places that are enough lead where all edges lead
+    same_courses : (before : List Event) (f : Frame) (edges : List Edge) (places : List ℕ)
+        (token : Token) →
+        slice_get tokens (skip tokens i) ≡ Some token →
+        AreEnough alphabet token.text edges places → (w : Course) →
+        IsOverSomeAt alphabet tokens tables f fs i before edges places w
+        ↔ IsOverSome alphabet tokens tables f fs i before edges w
+    same_courses before f edges places token there enough w = (
+      λ (n, inside, (edge, at, over)). (
+        edge,
+        subst (Contains edges) (get_or_from_slice_get edges n edge edge at)
+            (Contains-get_or edges n edge (slice_get_within edges n edge at)),
+        over,
+      ),
+      λ (edge, inside, over).
+          let at : slice_get edges inside.0 ≡ Some edge =
+          slice_get-get_or edges inside.0 edge inside.1 ∙ ap (λ (x : Edge). Some x) inside.2 in
+          elim (enough inside.0 edge at) [
+            | inl listed ↦ (inside.0, listed, (edge, at, over))
+            | inr refuses ↦ absurd (refused (reverse (put_events edge.output) ++ before) edge.label
+                token there refuses
+                (record { graph = f.graph; state = edge.target }) w over)
+          ],
+    )
 
 module _ (alphabet : Letters) (edges : List Edge) (places : List ℕ) where
   -- a token is there, and the places are enough for its text

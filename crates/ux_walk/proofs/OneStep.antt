@@ -1,13 +1,14 @@
 -- A course completes as the courses one step on do, whatever contexts are refused.
 use Rattle.std.proofs.Common.{◌≡◌, ℕ, List, [], ◌∷◌, ◌++◌, refl, sym, ◌∙◌, ap, subst, ◌⊎◌, inl, inr, append_assoc, append-nil, reverse}
 use Rattle.std.specs.Prelude.{Some, slice_get, Contains, map}
-use Rattle.std.proofs.lemmas.List.{map-append, reverse-append}
+use Rattle.std.proofs.lemmas.List.{reverse-append, reverse-reverse}
 use Rattle.ux_alphabet.specs.Letters.{Letters}
 use Rattle.ux_tokens.specs.Tokens.{Token}
 use Rattle.ux_apply.specs.Tables.{Tables}
 use Rattle.ux_grf.specs.declared.item.Piece.{Piece}
+use Rattle.ux_grf.specs.declared.item.Piece.TheVariants.{Chars, Value}
 use Rattle.ux_net.specs.declared.label.Label.{Label}
-use Rattle.ux_net.specs.declared.label.Label.TheVariants.{Empty, Fold, Exact, Mask, Brace, Space, Glue, Call}
+use Rattle.ux_net.specs.declared.label.Label.TheVariants.{Empty, Fold, Exact, Mask, Brace, Space, Glue, Begin, End, Call}
 use Rattle.ux_net.specs.declared.state.Edge.{Edge}
 use Rattle.ux_net.specs.declared.state.State.{State}
 use Rattle.ux_net.specs.declared.net_graph.NetGraph.{NetGraph}
@@ -20,30 +21,38 @@ use Rattle.ux_meaning.specs.Texts.{Takes}
 use Rattle.ux_walk.specs.Settings.{applied_text}
 use Rattle.ux_apply.specs.Accepting.{Accepts}
 use Rattle.ux_walk.specs.declared.config.Frame.{Frame}
-use Rattle.ux_walk.specs.declared.config.Taken.{Taken}
-use Rattle.ux_walk.specs.Courses.{Course, GoesOn, Passes, TakesPlainly, event_of, from_to, told}
+use Rattle.ux_walk.specs.Courses.{Course, GoesOn, Passes, TakesPlainly, passing, put_event, put_events}
 
--- what was taken before, which is listed latest first, and the later events
-abbrev pub onto : List Taken → List Event → List Event
+-- the events before, which are listed latest first, and the later ones
+abbrev pub onto : List Event → List Event → List Event
 onto [] later = later
-onto (tokens ∷ before) later = onto before (event_of tokens ∷ later)
+onto (event ∷ before) later = onto before (event ∷ later)
 
--- what was taken last is told last
-pub told-more : (tokens : Taken) (before : List Taken) →
-    told (tokens ∷ before) ≡ told before ++ event_of tokens ∷ []
-told-more tokens before =
-    ap (λ (l : List Taken). map event_of l) (reverse-append (tokens ∷ []) before)
-    ∙ map-append event_of (reverse before) (tokens ∷ [])
+onto-reverse : (before later : List Event) → onto before later ≡ reverse before ++ later
+onto-reverse [] later = refl
+onto-reverse (event ∷ before) later =
+    onto-reverse before (event ∷ later)
+    ∙ (sym (append_assoc (reverse before) (event ∷ []) later)
+    ∙ ap (λ (l : List Event). l ++ later) (sym (reverse-append (event ∷ []) before)))
 
-onto-told : (before : List Taken) (later : List Event) → onto before later ≡ told before ++ later
-onto-told [] later = refl
-onto-told (tokens ∷ before) later =
-    onto-told before (event_of tokens ∷ later)
-    ∙ (sym (append_assoc (told before) (event_of tokens ∷ []) later)
-    ∙ ap (λ (l : List Event). l ++ later) (sym (told-more tokens before)))
+pub onto-none : (before : List Event) → onto before [] ≡ reverse before
+onto-none before = onto-reverse before [] ∙ append-nil (reverse before)
 
-pub onto-none : (before : List Taken) → onto before [] ≡ told before
-onto-none before = onto-told before [] ∙ append-nil (told before)
+-- events after those before come before the later ones
+pub onto-put : (put before later : List Event) →
+    onto (reverse put ++ before) later ≡ onto before (put ++ later)
+onto-put put before later =
+    onto-reverse (reverse put ++ before) later
+    ∙ (ap (λ (l : List Event). l ++ later) (reverse-append (reverse put) before
+    ∙ ap (λ (l : List Event). reverse before ++ l) (reverse-reverse put))
+    ∙ (append_assoc (reverse before) put later ∙ sym (onto-reverse before (put ++ later))))
+
+-- and so does what a label gives, which is one event at most
+onto-passing : (x : Label) (before later : List Event) →
+    onto (passing x ++ before) later ≡ onto before (passing x ++ later)
+onto-passing (Begin name) before later = refl
+onto-passing (End name) before later = refl
+onto-passing other before later = refl
 
 -- the labels of nets open and close no context
 plain_mark : (x : Label) → IsPlain x → mark_of (x ∷ []) ≡ ordinary
@@ -54,6 +63,8 @@ plain_mark (Mask mask) is = refl
 plain_mark (Brace text) is = refl
 plain_mark Space is = refl
 plain_mark Glue is = refl
+plain_mark (Begin name) is = refl
+plain_mark (End name) is = refl
 plain_mark (Call h) is = refl
 plain_mark other is = absurd is
 
@@ -90,7 +101,7 @@ module _ (alphabet : Letters) (tokens : List Token) (tables : Tables) (graphs : 
       × (events ≡ here ++ later)
 
   -- from this position, with these events before, latest first, all frames can be gone through
-  abbrev pub Completes : List Frame → ℕ → List Taken → ℕ → List Event → Type 0
+  abbrev pub Completes : List Frame → ℕ → List Event → ℕ → List Event → Type 0
   Completes frames i before j events =
       (later : List Event) × Through frames i j later × (events ≡ onto before later)
 
@@ -103,16 +114,21 @@ module _ (alphabet : Letters) (tokens : List Token) (tables : Tables) (graphs : 
   First x word p j events =
       ((k : ℕ) × (later : List Event) × TakesPlainly alphabet tokens tables x p k
       × Applies word k j later × (events ≡ Take p k ∷ later))
-      ⊎ ((Passes tokens x p × Applies word p j events)
+      ⊎ (((later : List Event) × Passes tokens x p × Applies word p j later
+      × (events ≡ passing x ++ later))
       ⊎ ((h k : ℕ) × (inside later : List Event) × (x ≡ Call h) × Goes h 0 p k inside
       × Applies word k j later × (events ≡ inside ++ later)))
 
-  -- of the labels of nets `#` alone stays, and gives no event
+  -- of the labels of nets `#` stays, and gives no event, and a variable begins or ends
   stays_first : (x : Label) → IsPlain x → (word : List Letter) (p j : ℕ)
       (here later : List Event) → Stays (applied_text alphabet tokens tables) (plain x) p here →
       Applies word p j later → First x word p j (here ++ later)
   stays_first Glue is word p j here later t s =
-      inr (inl (t.0, subst (λ (l : List Event). Applies word p j (l ++ later)) (sym t.1) s))
+      inr (inl (later, t.0, s, ap (λ (l : List Event). l ++ later) t.1))
+  stays_first (Begin name) is word p j here later t s =
+      inr (inl (later, tt, s, ap (λ (l : List Event). l ++ later) t))
+  stays_first (End name) is word p j here later t s =
+      inr (inl (later, tt, s, ap (λ (l : List Event). l ++ later) t))
   stays_first Empty is word p j here later t s = absurd t
   stays_first (Fold text) is word p j here later t s = absurd t
   stays_first (Exact text) is word p j here later t s = absurd t
@@ -143,7 +159,7 @@ module _ (alphabet : Letters) (tokens : List Token) (tables : Tables) (graphs : 
   -- the same of a label of an edge, of which the empty word is no letter
   first_letter : (x : Label) → IsPlain x → (word : List Letter) (p j : ℕ) (events : List Event) →
       Applies (letters (x ∷ []) ++ word) p j events → First x word p j events
-  first_letter Empty is word p j events s = inr (inl (tt, s))
+  first_letter Empty is word p j events s = inr (inl (events, tt, s, refl))
   first_letter other is word p j events s = first_of is s
 
   back_takes : (x : Label) (word : List Letter) (p j k : ℕ) (events later : List Event) →
@@ -163,10 +179,19 @@ module _ (alphabet : Letters) (tokens : List Token) (tables : Tables) (graphs : 
   letter_back : (x : Label) (word : List Letter) (p j : ℕ) (events : List Event) →
       First x word p j events → Applies (letters (x ∷ []) ++ word) p j events
   letter_back Empty word p j events (inl (k, later, t, s, is)) = absurd t.1
-  letter_back Empty word p j events (inr (inl (t, s))) = s
+  letter_back Empty word p j events (inr (inl (later, t, s, is))) =
+      subst (λ (e : List Event). Applies word p j e) (sym is) s
   letter_back Empty word p j events (inr (inr (h, k, inside, later, label, goes, s, is))) = cc
-  letter_back Glue word p j events (inr (inl (t, s))) = stays [] (t, refl) s
-  letter_back other word p j events (inr (inl (t, s))) = absurd t
+  letter_back Glue word p j events (inr (inl (later, t, s, is))) =
+      subst (λ (e : List Event). Applies (plain Glue ∷ word) p j e) (sym is)
+      (stays [] (t, refl) s)
+  letter_back (Begin name) word p j events (inr (inl (later, t, s, is))) =
+      subst (λ (e : List Event). Applies (plain (Begin name) ∷ word) p j e) (sym is)
+      (stays (passing (Begin name)) refl s)
+  letter_back (End name) word p j events (inr (inl (later, t, s, is))) =
+      subst (λ (e : List Event). Applies (plain (End name) ∷ word) p j e) (sym is)
+      (stays (passing (End name)) refl s)
+  letter_back other word p j events (inr (inl (later, t, s, is))) = absurd t
   letter_back other word p j events (inl (k, later, t, s, is)) =
       back_takes other word p j k events later t.1 s is
   letter_back other word p j events (inr (inr (h, k, inside, later, label, goes, s, is))) =
@@ -176,14 +201,53 @@ module _ (alphabet : Letters) (tokens : List Token) (tables : Tables) (graphs : 
   passes_plain : (x : Label) (p : ℕ) → Passes tokens x p → IsPlain x
   passes_plain Empty p t = tt
   passes_plain Glue p t = tt
+  passes_plain (Begin name) p t = tt
+  passes_plain (End name) p t = tt
   passes_plain other p t = absurd t
 
   first_plain : (x : Label) (word : List Letter) (p j : ℕ) (events : List Event) →
       First x word p j events → IsPlain x
   first_plain x word p j events (inl (k, later, t, s, is)) = t.0
-  first_plain x word p j events (inr (inl (t, s))) = passes_plain x p t
+  first_plain x word p j events (inr (inl (later, t, s, is))) = passes_plain x p t
   first_plain x word p j events (inr (inr (h, k, inside, later, label, goes, s, is))) =
       subst (λ (y : Label). IsPlain y) (sym label) tt
+
+  piece_event : (part : Piece) (p : ℕ) (here : List Event) →
+      Stays (applied_text alphabet tokens tables) (piece part) p here →
+      here ≡ put_event part ∷ []
+  piece_event (Chars text) p here t = t
+  piece_event (Value name) p here t = t
+
+  -- a piece of an output gives its event
+  after_piece : {part : Piece} {word : List Letter} {p j : ℕ} {events : List Event} →
+      Applies (piece part ∷ word) p j events →
+      (later : List Event) × Applies word p j later × (events ≡ put_event part ∷ later)
+  after_piece {part = part} {p = p} (stays {later = later} here t s) =
+      (later, s, ap (λ (l : List Event). l ++ later) (piece_event part p here t))
+
+  -- the letters of an output give its events, one after another
+  after_output : (output : List Piece) (word : List Letter) (p j : ℕ) (events : List Event) →
+      Applies (map piece output ++ word) p j events →
+      (later : List Event) × Applies word p j later × (events ≡ put_events output ++ later)
+  after_output [] word p j events s = (events, s, refl)
+  after_output (part ∷ output) word p j events s =
+      let first = after_piece {part = part} s in
+      let rest = after_output output word p j first.0 first.1 in (
+        rest.0,
+        rest.1,
+        first.2 ∙ ap (λ (l : List Event). put_event part ∷ l) rest.2,
+      )
+
+  stays_piece : (part : Piece) (p : ℕ) →
+      Stays (applied_text alphabet tokens tables) (piece part) p (put_event part ∷ [])
+  stays_piece (Chars text) p = refl
+  stays_piece (Value name) p = refl
+
+  output_back : (output : List Piece) (word : List Letter) (p j : ℕ) (later : List Event) →
+      Applies word p j later → Applies (map piece output ++ word) p j (put_events output ++ later)
+  output_back [] word p j later s = s
+  output_back (x ∷ output) word p j later s =
+      stays (put_event x ∷ []) (stays_piece x p) (output_back output word p j later s)
 
   -- over a label to a state, and on from there
   abbrev Onward : Label → (g n i j : ℕ) → List Event → Type 0
@@ -191,14 +255,18 @@ module _ (alphabet : Letters) (tokens : List Token) (tables : Tables) (graphs : 
       ((k : ℕ) × (later : List Event) × TakesPlainly alphabet tokens tables x i k
       × Goes g n k j later
       × (events ≡ Take i k ∷ later))
-      ⊎ ((Passes tokens x i × Goes g n i j events)
+      ⊎ (((later : List Event) × Passes tokens x i × Goes g n i j later
+      × (events ≡ passing x ++ later))
       ⊎ ((h k : ℕ) × (inside later : List Event) × (x ≡ Call h) × Goes h 0 i k inside
       × Goes g n k j later × (events ≡ inside ++ later)))
 
+  -- over an edge of the state, with its output first
   abbrev Ahead : (g n i j : ℕ) → List Event → Type 0
   Ahead g n i j events =
       (state : State) × (slice_get (states_of graphs g) n ≡ Some state)
-      × (edge : Edge) × Contains state.edges edge × Onward edge.label g edge.target i j events
+      × (edge : Edge) × Contains state.edges edge
+      × (rest : List Event) × Onward edge.label g edge.target i j rest
+      × (events ≡ put_events edge.output ++ rest)
 
   abbrev Stops : (g n i j : ℕ) → List Event → Type 0
   Stops g n i j events = IsNetEnd (states_of graphs g) n × (i ≡ j) × (events ≡ [])
@@ -217,9 +285,11 @@ module _ (alphabet : Letters) (tokens : List Token) (tables : Tables) (graphs : 
     record { last = last; ends = ends; word = word; run = run; seq = s },
     is,
   )
-  onward x g n i j events word last ends run (inr (inl (t, s))) = inr (inl (
+  onward x g n i j events word last ends run (inr (inl (later, t, s, is))) = inr (inl (
+    later,
     t,
     record { last = last; ends = ends; word = word; run = run; seq = s },
+    is,
   ))
   onward x g n i j events word last ends run
       (inr (inr (h, k, inside, later, label, goes, s, is))) = inr (inr (
@@ -244,16 +314,25 @@ module _ (alphabet : Letters) (tokens : List Token) (tables : Tables) (graphs : 
       by_run (along {b = b} {word = word} s is mark run) are ends seq =
           let edge : Edge = is.edge in
           let at : Runs g edge.target b word = subst (λ m. Runs g m b word) is.to run in
-          let first = first_letter edge.label (are is.state edge is.found is.inside) word i j events
-          (subst (λ (l : List Label). Applies (letters l ++ word) i j events) is.label
+          let after : List Letter = letters (edge.label ∷ []) ++ word in
+          let split : Applies (map piece edge.output ++ after) i j events =
+          subst (λ (l : List Letter). Applies l i j events)
+          (append_assoc (map piece edge.output) (letters (edge.label ∷ [])) word)
+          (subst (λ (l : List Label). Applies ((map piece edge.output ++ letters l) ++ word) i j
+          events) is.label
           (subst (λ (o : List Piece). Applies ((map piece o ++ letters s.labels) ++ word) i j
           events) is.puts seq)) in
+          let rest = after_output edge.output after i j events split in
+          let first = first_letter edge.label (are is.state edge is.found is.inside) word i j rest.0
+          rest.1 in
           inr (
             is.state,
             is.found,
             edge,
             is.inside,
-            onward edge.label g edge.target i j events word b ends at first,
+            rest.0,
+            onward edge.label g edge.target i j rest.0 word b ends at first,
+            rest.2,
           )
       by_run (across sign s t is mark body closes closed run) are ends seq =
           let no : opens sign ≡ ordinary = sym mark ∙ (ap mark_of is.label
@@ -261,18 +340,19 @@ module _ (alphabet : Letters) (tokens : List Token) (tables : Tables) (graphs : 
           cc
 
   -- the run from where an edge leads, with the edge in front
-  by_edge : (g n i j : ℕ) (events : List Event) (state : State) →
+  by_edge : (g n i j : ℕ) (rest : List Event) (state : State) →
       slice_get (states_of graphs g) n ≡ Some state → (edge : Edge) → Contains state.edges edge →
       (last : ℕ) → IsNetEnd (states_of graphs g) last → (word : List Letter) →
-      Runs g edge.target last word → First edge.label word i j events → Goes g n i j events
-  by_edge g n i j events state found edge inside last ends word run first = record {
+      Runs g edge.target last word → First edge.label word i j rest →
+      Goes g n i j (put_events edge.output ++ rest)
+  by_edge g n i j rest state found edge inside last ends word run first = record {
     last = last;
     ends = ends;
-    word = letters (edge.label ∷ []) ++ word;
+    word = (map piece edge.output ++ letters (edge.label ∷ [])) ++ word;
     run = along (record {
       from = n;
       to = edge.target;
-      output = [];
+      output = edge.output;
       labels = edge.label ∷ [];
     }) (record {
       state = state;
@@ -282,28 +362,40 @@ module _ (alphabet : Letters) (tokens : List Token) (tables : Tables) (graphs : 
       to = refl;
       label = refl;
       puts = refl;
-    }) (plain_mark edge.label (first_plain edge.label word i j events first)) run;
-    seq = letter_back edge.label word i j events first;
+    }) (plain_mark edge.label (first_plain edge.label word i j rest first)) run;
+    seq = subst (λ (l : List Letter). Applies l i j (put_events edge.output ++ rest))
+        (sym (append_assoc (map piece edge.output) (letters (edge.label ∷ [])) word))
+        (output_back edge.output (letters (edge.label ∷ []) ++ word) i j rest
+        (letter_back edge.label word i j rest first));
   }
 
-  goes_by : (g n i j : ℕ) (events : List Event) → Ahead g n i j events → Goes g n i j events
-  goes_by g n i j events (state, found, edge, inside, inl (k, later, t, on, is)) =
-      by_edge g n i j events state found edge inside on.last on.ends on.word on.run
+  goes_by : (g n i j : ℕ) (rest : List Event) (state : State) →
+      slice_get (states_of graphs g) n ≡ Some state → (edge : Edge) → Contains state.edges edge →
+      Onward edge.label g edge.target i j rest → Goes g n i j (put_events edge.output ++ rest)
+  goes_by g n i j rest state found edge inside (inl (k, later, t, on, is)) =
+      by_edge g n i j rest state found edge inside on.last on.ends on.word on.run
       (inl (k, later, t, on.seq, is))
-  goes_by g n i j events (state, found, edge, inside, inr (inl (t, on))) =
-      by_edge g n i j events state found edge inside on.last on.ends on.word on.run
-      (inr (inl (t, on.seq)))
-  goes_by g n i j events
-      (state, found, edge, inside, inr (inr (h, k, called, later, label, goes, on, is))) =
-      by_edge g n i j events state found edge inside on.last on.ends on.word on.run
+  goes_by g n i j rest state found edge inside (inr (inl (later, t, on, is))) =
+      by_edge g n i j rest state found edge inside on.last on.ends on.word on.run
+      (inr (inl (later, t, on.seq, is)))
+  goes_by g n i j rest state found edge inside
+      (inr (inr (h, k, called, later, label, goes, on, is))) =
+      by_edge g n i j rest state found edge inside on.last on.ends on.word on.run
       (inr (inr (h, k, called, later, label, goes, on.seq, is)))
 
   goes_at_end : (g n i : ℕ) → IsNetEnd (states_of graphs g) n → Goes g n i i []
   goes_at_end g n i ends =
       record { last = n; ends = ends; word = []; run = stop; seq = done }
 
-  module _ (f : Frame) (fs : List Frame) (i : ℕ) (before : List Taken) (j : ℕ)
+  module _ (f : Frame) (fs : List Frame) (i : ℕ) (before : List Event) (j : ℕ)
       (events : List Event) where
+    -- what an edge puts out comes after the events before it, and before the others
+    put_first : (put rest later all : List Event) → all ≡ (put ++ rest) ++ later →
+        events ≡ onto before all → events ≡ onto (reverse put ++ before) (rest ++ later)
+    put_first put rest later all split is = is
+        ∙ (ap (λ (l : List Event). onto before l) (split ∙ append_assoc put rest later)
+        ∙ sym (onto-put put before (rest ++ later)))
+
     -- what completes a course completes one a step on
     pub step_forth : ArePlainAt f.graph f.state → Completes (f ∷ fs) i before j events →
         (w : Course) × GoesOn alphabet tokens tables graphs f fs i before w × Ends w j events
@@ -319,43 +411,77 @@ module _ (alphabet : Letters) (tokens : List Token) (tables : Tables) (graphs : 
                   (split ∙ ap (λ (l : List Event). l ++ rest) s.2),
             ),
           )
-          | inr a ↦ over a.0 a.1 a.2 a.3 a.4
+          | inr a ↦ over a.0 a.1 a.2 a.3 a.4 a.5
+              (put_first (put_events a.2.output) a.4 rest all
+              (split ∙ ap (λ (l : List Event). l ++ rest) a.6) is)
         ]
       where
         over : (state : State) → slice_get (states_of graphs f.graph) f.state ≡ Some state →
-            (edge : Edge) → Contains state.edges edge →
-            Onward edge.label f.graph edge.target i k here →
+            (edge : Edge) → Contains state.edges edge → (after : List Event) →
+            Onward edge.label f.graph edge.target i k after →
+            events ≡ onto (reverse (put_events edge.output) ++ before) (after ++ rest) →
             (w : Course) × GoesOn alphabet tokens tables graphs f fs i before w × Ends w j events
-        over state found edge inside (inl (m, later, t, on, e)) =
-            let next : Frame = record { graph = f.graph; state = edge.target } in (
-              record { frames = next ∷ fs; at = m; before = from_to i m ∷ before },
+        over state found edge inside after (inl (m, later, t, on, e)) whole =
+            let next : Frame = record { graph = f.graph; state = edge.target } in
+            let put : List Event = reverse (put_events edge.output) ++ before in (
+              record { frames = next ∷ fs; at = m; before = Take i m ∷ put },
               (state, found, inl (edge, inside, inl (m, t, refl))),
               (
                 later ++ rest,
                 (k, later, rest, on, through, refl),
-                is ∙ ap (λ (l : List Event). onto before l)
-                    (split ∙ ap (λ (l : List Event). l ++ rest) e),
+                whole ∙ ap (λ (l : List Event). onto put (l ++ rest)) e,
               ),
             )
-        over state found edge inside (inr (inl (t, on))) =
-            let next : Frame = record { graph = f.graph; state = edge.target } in (
-              record { frames = next ∷ fs; at = i; before = before },
-              (state, found, inl (edge, inside, inr (inl (t, refl)))),
-              (all, (k, here, rest, on, through, split), is),
-            )
-        over state found edge inside (inr (inr (h, m, called, later, label, goes, on, e))) =
+        over state found edge inside after (inr (inl (later, t, on, e))) whole =
             let next : Frame = record { graph = f.graph; state = edge.target } in
-            let start : Frame = record { graph = h; state = 0 } in (
-              record { frames = start ∷ next ∷ fs; at = i; before = before },
+            let put : List Event = reverse (put_events edge.output) ++ before in (
+              record { frames = next ∷ fs; at = i; before = passing edge.label ++ put },
+              (state, found, inl (edge, inside, inr (inl (t, refl)))),
+              (
+                later ++ rest,
+                (k, later, rest, on, through, refl),
+                whole ∙ (ap (λ (l : List Event). onto put l)
+                    (ap (λ (l : List Event). l ++ rest) e
+                    ∙ append_assoc (passing edge.label) later rest)
+                    ∙ sym (onto-passing edge.label put (later ++ rest))),
+              ),
+            )
+        over state found edge inside after
+            (inr (inr (h, m, called, later, label, goes, on, e))) whole =
+            let next : Frame = record { graph = f.graph; state = edge.target } in
+            let start : Frame = record { graph = h; state = 0 } in
+            let put : List Event = reverse (put_events edge.output) ++ before in (
+              record { frames = start ∷ next ∷ fs; at = i; before = put },
               (state, found, inl (edge, inside, inr (inr (h, label, refl)))),
               (
                 called ++ (later ++ rest),
                 (m, called, later ++ rest, goes, (k, later, rest, on, through, refl), refl),
-                is ∙ ap (λ (l : List Event). onto before l)
-                    (split ∙ (ap (λ (l : List Event). l ++ rest) e
-                    ∙ append_assoc called later rest)),
+                whole ∙ ap (λ (l : List Event). onto put l)
+                    (ap (λ (l : List Event). l ++ rest) e ∙ append_assoc called later rest),
               ),
             )
+
+    -- what an edge leads to, with what it puts out in front
+    back_over : (state : State) → slice_get (states_of graphs f.graph) f.state ≡ Some state →
+        (edge : Edge) → Contains state.edges edge → (k : ℕ) (after rest all : List Event) →
+        Onward edge.label f.graph edge.target i k after → Through fs k j rest →
+        events ≡ onto (reverse (put_events edge.output) ++ before) all → all ≡ after ++ rest →
+        Completes (f ∷ fs) i before j events
+    back_over state found edge inside k after rest all on through is split =
+        let put : List Event = put_events edge.output in (
+          (put ++ after) ++ rest,
+          (
+            k,
+            put ++ after,
+            rest,
+            goes_by f.graph f.state i k after state found edge inside on,
+            through,
+            refl,
+          ),
+          is ∙ (onto-put put before all
+              ∙ ap (λ (l : List Event). onto before l)
+              (ap (λ (l : List Event). put ++ l) split ∙ sym (append_assoc put after rest))),
+        )
 
     -- and the other way round
     pub step_back : (w : Course) → GoesOn alphabet tokens tables graphs f fs i before w →
@@ -380,61 +506,34 @@ module _ (alphabet : Letters) (tokens : List Token) (tables : Tables) (graphs : 
         )
     step_back w (state, found, inl (edge, inside, inl (m, t, is))) ends =
         let next : Frame = record { graph = f.graph; state = edge.target } in
-        let c : Completes (next ∷ fs) m (from_to i m ∷ before) j events =
+        let put : List Event = reverse (put_events edge.output) ++ before in
+        let c : Completes (next ∷ fs) m (Take i m ∷ put) j events =
         subst (λ (x : Course). Ends x j events) is ends in
-        let u = c.1 in (
-          Take i m ∷ c.0,
-          (
-            u.0,
-            Take i m ∷ u.1,
-            u.2,
-            goes_by f.graph f.state i u.0 (Take i m ∷ u.1)
-                (state, found, edge, inside, inl (m, u.1, t, u.3, refl)),
-            u.4,
-            ap (λ (l : List Event). Take i m ∷ l) u.5,
-          ),
-          c.2,
-        )
+        let u = c.1 in
+        back_over state found edge inside u.0 (Take i m ∷ u.1) u.2 (Take i m ∷ c.0)
+        (inl (m, u.1, t, u.3, refl)) u.4 c.2 (ap (λ (l : List Event). Take i m ∷ l) u.5)
     step_back w (state, found, inl (edge, inside, inr (inl (t, is)))) ends =
         let next : Frame = record { graph = f.graph; state = edge.target } in
-        let c : Completes (next ∷ fs) i before j events =
+        let put : List Event = reverse (put_events edge.output) ++ before in
+        let c : Completes (next ∷ fs) i (passing edge.label ++ put) j events =
         subst (λ (x : Course). Ends x j events) is ends in
-        let u = c.1 in (
-          c.0,
-          (
-            u.0,
-            u.1,
-            u.2,
-            goes_by f.graph f.state i u.0 u.1 (state, found, edge, inside, inr (inl (t, u.3))),
-            u.4,
-            u.5,
-          ),
-          c.2,
-        )
+        let u = c.1 in
+        back_over state found edge inside u.0 (passing edge.label ++ u.1) u.2
+        (passing edge.label ++ c.0) (inr (inl (u.1, t, u.3, refl))) u.4
+        (c.2 ∙ onto-passing edge.label put c.0)
+        (ap (λ (l : List Event). passing edge.label ++ l) u.5
+        ∙ sym (append_assoc (passing edge.label) u.1 u.2))
     step_back w (state, found, inl (edge, inside, inr (inr (h, label, is)))) ends =
         let next : Frame = record { graph = f.graph; state = edge.target } in
         let start : Frame = record { graph = h; state = 0 } in
-        let c : Completes (start ∷ next ∷ fs) i before j events =
+        let put : List Event = reverse (put_events edge.output) ++ before in
+        let c : Completes (start ∷ next ∷ fs) i put j events =
         subst (λ (x : Course). Ends x j events) is ends in
         let u = c.1 in
-        let v = u.4 in (
-          c.0,
-          (
-            v.0,
-            u.1 ++ v.1,
-            v.2,
-            goes_by f.graph f.state i v.0 (u.1 ++ v.1) (
-              state,
-              found,
-              edge,
-              inside,
-              inr (inr (h, u.0, u.1, v.1, label, u.3, v.3, refl)),
-            ),
-            v.4,
-            u.5 ∙ (ap (λ (l : List Event). u.1 ++ l) v.5 ∙ sym (append_assoc u.1 v.1 v.2)),
-          ),
-          c.2,
-        )
+        let v = u.4 in
+        back_over state found edge inside v.0 (u.1 ++ v.1) v.2 c.0
+        (inr (inr (h, u.0, u.1, v.1, label, u.3, v.3, refl))) v.4 c.2
+        (u.5 ∙ (ap (λ (l : List Event). u.1 ++ l) v.5 ∙ sym (append_assoc u.1 v.1 v.2)))
 
   -- a graph derives as the course from its start completes
   pub starts_forth : (g i j : ℕ) (events : List Event) →

@@ -13,10 +13,10 @@ use Rattle.ux_net.specs.declared.label.Label.{Label}
 use Rattle.ux_net.specs.declared.label.Label.TheVariants as label
 use Rattle.ux_net.specs.declared.net_graph.NetGraph.{NetGraph}
 use Rattle.ux_net.specs.Measured.{IsLower, Falls, IsMeasured}
+use Rattle.ux_outputs.specs.declared.event.Event.{Event}
 use Rattle.ux_outputs.specs.Rendering.{kind_of, skip, skip_past}
 use Rattle.ux_meaning.specs.Texts.{IsSpaceAt, Takes}
 use Rattle.ux_walk.specs.declared.config.Frame.{Frame}
-use Rattle.ux_walk.specs.declared.config.Taken.{Taken}
 use Rattle.ux_walk.specs.Courses.{Course, GoesOn, Passes}
 use Rattle.ux_walk.proofs.Weights.{weight_of}
 use Rattle.ux_walk.proofs.Lighter.{ended_lighter, stays_lighter, takes_lighter, calls_lighter}
@@ -78,7 +78,7 @@ module _ (graphs : List NetGraph) where
 
   module _ (alphabet : Letters) (tokens : List Token) (tables : Tables)
       (forward : AreForward alphabet tokens tables) (measured : IsMeasured graphs) (f : Frame)
-      (fs : List Frame) (i : ℕ) (before : List Taken) (inside : i ≤ length tokens) where
+      (fs : List Frame) (i : ℕ) (before : List Event) (inside : i ≤ length tokens) where
     -- inside the text, and lighter than the frames at the position
     abbrev IsLighter : Course → Type 0
     IsLighter w = (w.at ≤ length tokens)
@@ -88,6 +88,8 @@ module _ (graphs : List NetGraph) where
         IsLower graphs f.graph f.state to
     lower_of label.Empty to falls s = falls
     lower_of label.Glue to falls s = falls
+    lower_of (label.Begin name) to falls s = falls
+    lower_of (label.End name) to falls s = falls
     lower_of _ to falls s = absurd s
 
     -- a course one step on is so

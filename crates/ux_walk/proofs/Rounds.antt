@@ -88,7 +88,10 @@ module _ (alphabet : Letters) (tokens : List Token) (tables : Tables) (graphs : 
           | inr p ↦ nothing_in p.0 (subst (λ (l : List Found). Contains l p.0) found p.1)
         ] in
         let main : Frame = record { graph = 1; state = 0 } in
-        let first = adds [] [] sound (record { frames = refl; events = refl }) in
+        let first = adds [] [] sound (record {
+          frames = refl;
+          events = record { listed = []; names = refl; each = tt };
+        }) in
         record {
           sound = first.sound;
           inside = λ w h. elim ((first.has w).0 h) [

@@ -1,7 +1,9 @@
 -- The elements of a set after one more.
-use Rattle.std.proofs.Common.{arith, ◌≡◌, ℕ, zero, suc, ◌∙◌, List, [], ◌∷◌, ◌++◌, ◌⊎◌, ◌↔◌, inl, inr, refl, sym, ap, subst, Bool, true, false, cond}
+use Rattle.std.proofs.Common.{arith, ◌≡◌, ℕ, zero, suc, ◌∙◌, List, [], ◌∷◌, ◌++◌, ◌⊎◌, ◌↔◌, inl, inr, refl, sym, ap, subst, Bool, Bor, true, false, cond, map}
 use Rattle.std.specs.Prelude.{Contains, Some, slice_get}
 use Rattle.std.specs.List.{list_any, IsDistinct, AllByRecursion}
+use Rattle.std.specs.Str.{bytes_eq}
+use Rattle.std.proofs.lemmas.Slice.Eq.{bytes_eq-Decides}
 use Rattle.std.proofs.lemmas.Option.{same_Some, slice_get_within}
 use Rattle.std.proofs.lemmas.List.Elements.{Contains-append_left, Contains-push_cases, Contains-push}
 use Rattle.indexmap.specs.IndexSet.{insert_key}
@@ -59,3 +61,36 @@ module _ {A : Type 0} (eq : A → A → Bool) (own : (a : A) → eq a a ≡ true
       (each_at (λ z. eq y z ≡ false) ys i x distinct.0 at))
   are_once (y ∷ ys) distinct (suc i) (suc j) x at there =
       ap suc (are_once ys distinct.1 i j x at there)
+
+-- a text is equal to one that is the same
+pub text_itself : (a b : Bor (List ℕ)) → a.now ≡ b.now → bytes_eq a.now b.now ≡ true
+text_itself a b same = (bytes_eq-Decides a.now b.now).1 same
+
+module _ {A B : Type 0} (eq : A → A → Bool) (value : A → B)
+    (own : (a b : A) → value a ≡ value b → eq a b ≡ true) where
+  valued_at : (P : A → Type 0) (xs : List A) (j : ℕ) (b : B) → AllByRecursion P xs →
+      slice_get (map value xs) j ≡ Some b → (x : A) × P x × (value x ≡ b)
+  valued_at P [] j b each at =
+      absurd (let none : List B = [] in let w = slice_get_within none j b at in omega (arith, w))
+  valued_at P (y ∷ ys) zero b each at = (y, each.0, same_Some (value y) b at)
+  valued_at P (y ∷ ys) (suc j) b each at = valued_at P ys j b each.1 at
+
+  differ : (y : A) (ys : List A) (j : ℕ) (b : B) → AllByRecursion (λ z. eq y z ≡ false) ys →
+      value y ≡ b → slice_get (map value ys) j ≡ Some b → ⊥
+  differ y ys j b each is at =
+      let x = valued_at (λ z. eq y z ≡ false) ys j b each at in
+      let both : true ≡ false = sym (own y x.0 (is ∙ sym x.2)) ∙ x.1 in
+      cc
+
+  -- keys that are apart have values that stand once
+  pub are_once_as : (xs : List A) → IsDistinct eq xs → AreOnce (map value xs)
+  unfolding IsDistinct
+  are_once_as [] distinct i j b at there =
+      absurd (let none : List B = [] in let w = slice_get_within none i b at in omega (arith, w))
+  are_once_as (y ∷ ys) distinct zero zero b at there = refl
+  are_once_as (y ∷ ys) distinct zero (suc j) b at there =
+      absurd (differ y ys j b distinct.0 (same_Some (value y) b at) there)
+  are_once_as (y ∷ ys) distinct (suc i) zero b at there =
+      absurd (differ y ys i b distinct.0 (same_Some (value y) b there) at)
+  are_once_as (y ∷ ys) distinct (suc i) (suc j) b at there =
+      ap suc (are_once_as ys distinct.1 i j b at there)

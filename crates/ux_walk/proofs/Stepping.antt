@@ -8,28 +8,30 @@ use Rattle.ux_alphabet.specs.Letters.{Letters}
 use Rattle.ux_tokens.specs.Tokens.{Token}
 use Rattle.ux_apply.specs.Tables.{Tables}
 use Rattle.ux_net.specs.declared.label.Label.{Label}
-use Rattle.ux_net.specs.declared.label.Label.TheVariants.{Call}
 use Rattle.ux_net.specs.declared.state.Edge.{Edge}
 use Rattle.ux_net.specs.declared.state.State.{State}
 use Rattle.ux_net.specs.declared.net_graph.NetGraph.{NetGraph}
 use Rattle.ux_net.specs.Nets.{states_of}
+use Rattle.ux_outputs.specs.declared.event.Event.{Event}
+use Rattle.ux_outputs.specs.declared.event.Event.TheVariants.{Take}
 use Rattle.ux_walk.specs.declared.lists.Link.{Link}
 use Rattle.ux_walk.specs.declared.config.Frame.{Frame}
 use Rattle.ux_walk.specs.declared.config.Config.{Config}
 use Rattle.ux_walk.specs.declared.config.Found.{Found}
-use Rattle.ux_walk.specs.declared.config.Taken.{Taken}
+use Rattle.ux_walk.specs.declared.noted.Noted.{Noted}
 use Rattle.ux_walk.specs.declared.matching.Passage.{Passage}
 use Rattle.ux_walk.specs.declared.matching.Passage.TheVariants as passage
 use Rattle.ux_walk.specs.declared.reached.Reached.{Reached}
-use Rattle.ux_walk.specs.Passages.{TakesUpTo}
+use Rattle.ux_walk.specs.Passages.{IsPassage, TakesUpTo}
 use Rattle.ux_walk.specs.Links.{link_at, Names, AreBelow}
-use Rattle.ux_walk.specs.Courses.{Course, IsBehind, IsOverSome, GoesOn, Passes, TakesPlainly, from_to}
-use Rattle.ux_walk.specs.Configurations.{IsAfter, IsAfterSome, IsRound, IsNamed, IsPast, IsSound, Adds, AddsFrom, frames_of, events_of}
+use Rattle.ux_walk.specs.Courses.{Course, IsBehind, IsOverSome, GoesOn, TakesPlainly, passing}
+use Rattle.ux_walk.specs.Configurations.{IsAfter, IsAfterSome, IsRound, IsNamed, IsPast, IsSound, Adds, AddsFrom, NamesEventsIn, frames_of, events_of, texts_of}
 use Rattle.ux_walk.proofs.LinksLemmas.{one_list}
+use Rattle.ux_walk.proofs.NotedLemmas.{one_telling}
 use Rattle.ux_walk.proofs.Adding.{Keeps, SameLists, adds_nothing, adds_then, adds_alike, keeps, keeps_same, same_back, spells_kept, named_kept, found_kept}
 
 -- the course that goes on in these frames
-abbrev pub course : List Frame → ℕ → List Taken → Course
+abbrev pub course : List Frame → ℕ → List Event → Course
 course frames at before = record { frames = frames; at = at; before = before }
 
 module _ (r new : Reached) (c : Config) where
@@ -59,25 +61,18 @@ module _ (r new : Reached) (c : Config) where
 
   -- where none is left, the course has ended
   pub leaves_none : link_at (frames_of r) c.back ≡ None →
-      ((before : List Taken) → IsSound r → Names (events_of r) c.events before →
+      ((before : List Event) → IsSound r → NamesEventsIn r c.events before →
       Adds (λ w. w ≡ course [] c.at before) r new) →
       AddsFrom r new c (λ back before w. w ≡ course back c.at before)
   leaves_none none adds [] before sound spells = adds before sound spells.events
   leaves_none none adds (f ∷ fs) before sound spells =
       absurd (none-some _ (sym none ∙ spells.frames.1))
 
--- the label applies at the position in just this way
-pub record IsPassage (alphabet : Letters) (tokens : List Token) (tables : Tables) (label : Label)
-    (i : ℕ) (r : Passage) : Type 0 where
-  pub takes : (k : ℕ) → TakesUpTo r k ↔ TakesPlainly alphabet tokens tables label i k
-  pub stays : (r ≡ passage.Stays) ↔ Passes tokens label i
-  pub calls : (graph : ℕ) → (r ≡ passage.Calls graph) ↔ (label ≡ Call graph)
-
 calls_once : (k m : ℕ) → passage.Calls k ≡ passage.Calls m → k ≡ m
 calls_once k m h = cc
 
 module _ (alphabet : Letters) (tokens : List Token) (tables : Tables) (label : Label) (f : Frame)
-    (fs : List Frame) (i : ℕ) (before : List Taken) (r : Passage)
+    (fs : List Frame) (i : ℕ) (before : List Event) (r : Passage)
     (is : IsPassage alphabet tokens tables label i r) (w : Course) where
   abbrev Behind : Type 0
   Behind = IsBehind alphabet tokens tables label f fs i before w
@@ -96,7 +91,7 @@ module _ (alphabet : Letters) (tokens : List Token) (tables : Tables) (label : L
   behind_takes k this = (
     λ e. inl (k, takes_it (passage.Takes k) this k refl, e),
     λ b. elim b [
-      | inl t ↦ t.2 ∙ ap (λ n. course (f ∷ fs) n (from_to i n ∷ before))
+      | inl t ↦ t.2 ∙ ap (λ n. course (f ∷ fs) n (Take i n ∷ before))
           (taken (passage.Takes k) this t.0 t.1)
       | inr o ↦ elim o [
         | inl s ↦ let no : passage.Takes k ≡ passage.Stays = sym this ∙ is.stays.1 s.0 in cc
@@ -120,7 +115,8 @@ module _ (alphabet : Letters) (tokens : List Token) (tables : Tables) (label : L
     ],
   )
 
-  pub behind_stays : r ≡ passage.Stays → (w ≡ course (f ∷ fs) i before) ↔ Behind
+  pub behind_stays : r ≡ passage.Stays →
+      (w ≡ course (f ∷ fs) i (passing label ++ before)) ↔ Behind
   behind_stays this = (
     λ e. inr (inl (is.stays.0 this, e)),
     λ b. elim b [
@@ -203,13 +199,13 @@ module _ {S : Type 0} (Leads : S → Course → Type 0) where
 
 module _ (alphabet : Letters) (tokens : List Token) (tables : Tables) (graphs : List NetGraph)
     (c : Config) where
-  abbrev Next : List Frame → List Taken → Course → Type 0
+  abbrev Next : List Frame → List Event → Course → Type 0
   Next back before = GoesOn alphabet tokens tables graphs c.here back c.at before
 
-  abbrev Over : List Edge → List Frame → List Taken → Course → Type 0
+  abbrev Over : List Edge → List Frame → List Event → Course → Type 0
   Over edges back before = IsOverSome alphabet tokens tables c.here back c.at before edges
 
-  abbrev Left : List Frame → List Taken → Course → Type 0
+  abbrev Left : List Frame → List Event → Course → Type 0
   Left back before w = w ≡ course back c.at before
 
   -- there is no such state
@@ -280,9 +276,9 @@ module _ (alphabet : Letters) (tokens : List Token) (tables : Tables) (graphs : 
         λ a.
             let frames : a.0 ≡ named.back = one_list (frames_of old) c.back a.0 named.back
             a.2.frames named.spells.frames in
-            let events : a.1 ≡ named.before = one_list (events_of old) c.events a.1 named.before
-            a.2.events named.spells.events in
-            subst (λ (b : List Taken). GoesOn alphabet tokens tables graphs c.here
+            let events : a.1 ≡ named.before = one_telling (texts_of old) (events_of old) c.events
+            a.1 named.before a.2.events named.spells.events in
+            subst (λ (b : List Event). GoesOn alphabet tokens tables graphs c.here
             named.back c.at b w)
             events (subst (λ (b : List Frame). GoesOn alphabet tokens tables graphs c.here b
             c.at a.1 w)
@@ -305,7 +301,7 @@ module _ (alphabet : Letters) (tokens : List Token) (tables : Tables) (graphs : 
       let mid_sound : IsSound mid = record {
         frames_below = subst (λ (l : List (Link Frame)). AreBelow l) (sym same.frames)
             sound.frames_below;
-        events_below = subst (λ (l : List (Link Taken)). AreBelow l) (sym same.events)
+        events_below = subst (λ (l : List (Link Noted)). AreBelow l) (sym same.events)
             sound.events_below;
         pending = λ c h. absurd (nothing c h);
         found = λ f h. let v = sound.found f (subst (λ (l : List Found). Contains l f) found h) in

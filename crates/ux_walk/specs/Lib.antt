@@ -3,6 +3,7 @@ pub mod Links
 pub mod Courses
 pub mod Leads
 pub mod Passages
+pub mod Noted
 pub mod Configurations
 pub mod Literals
 pub mod LookUps

@@ -1,11 +1,24 @@
 -- How a label applies at a position, as the code tells it. Public: the contract of `passage_at`
 -- speaks of it.
-use Rattle.std.specs.Prelude.{◌≡◌, ℕ, Contains}
+use Rattle.std.specs.Prelude.{◌≡◌, ◌↔◌, ℕ, List, Contains}
+use Rattle.ux_alphabet.specs.Letters.{Letters}
+use Rattle.ux_tokens.specs.Tokens.{Token}
+use Rattle.ux_apply.specs.Tables.{Tables}
+use Rattle.ux_net.specs.declared.label.Label.{Label}
+use Rattle.ux_net.specs.declared.label.Label.TheVariants.{Call}
 use Rattle.ux_walk.specs.declared.matching.Passage.{Passage}
 use Rattle.ux_walk.specs.declared.matching.Passage.TheVariants as passage
+use Rattle.ux_walk.specs.Courses.{Passes, TakesPlainly}
 
 -- the passage takes the tokens up to this position
 abbrev pub TakesUpTo : Passage → ℕ → Type 0
 TakesUpTo (passage.Takes end) k = k ≡ end
 TakesUpTo (passage.Spans ends) k = Contains ends.items k
 TakesUpTo other k = ⊥
+
+-- the label applies at the position in just this way
+pub record IsPassage (alphabet : Letters) (tokens : List Token) (tables : Tables) (label : Label)
+    (i : ℕ) (r : Passage) : Type 0 where
+  pub takes : (k : ℕ) → TakesUpTo r k ↔ TakesPlainly alphabet tokens tables label i k
+  pub stays : (r ≡ passage.Stays) ↔ Passes tokens label i
+  pub calls : (graph : ℕ) → (r ≡ passage.Calls graph) ↔ (label ≡ Call graph)

@@ -1,4 +1,4 @@
-//! Configurations: where a walk goes on, as a few numbers, and what a course took.
+//! Configurations: where a walk goes on, as a few numbers.
 //!
 //! All of it is small and copied freely; the events that a caller sees are made of it at the end.
 
@@ -20,17 +20,8 @@ pub struct Config {
     pub back: usize,
     /// The position in the text.
     pub at: usize,
-    /// The number of the list of what was taken before, latest first.
+    /// The number of the list of the events before, latest first.
     pub events: usize,
-}
-
-/// The tokens from one position to another, which a course took: what it tells by an event.
-#[derive(Clone, Copy, PartialEq, Eq, Hash)]
-pub struct Taken {
-    /// The position before the first.
-    pub from: usize,
-    /// The position after the last.
-    pub to: usize,
 }
 
 /// A derivation that was found.
@@ -38,6 +29,6 @@ pub struct Taken {
 pub struct Found {
     /// The position at which it ends.
     pub end: usize,
-    /// The number of the list of what it took, latest first.
+    /// The number of the list of its events, latest first.
     pub events: usize,
 }

@@ -4,13 +4,14 @@
 //! ends of derivations. `walk` lists derivations with their events, in rounds over configurations.
 //! Each pending configuration goes one step on: over each edge of the state in which it is, and back
 //! to the frame that called where the state is final. A call pushes a frame, so nothing here calls
-//! itself. Frames and events are lists that share their tails, named by numbers (`lists`), so a
-//! configuration is a few numbers, no step copies a list, and equal configurations of a round fall
-//! together. A net has ranks that fall along each edge that may take nothing, so the rounds come to an
-//! end.
+//! itself. Over an edge the events of its output come first, then what its label gives. Frames and
+//! events are lists that share their tails, named by numbers (`lists`), and an event's text is named
+//! by its place in a table (`texts`). So a configuration is a few numbers, no step copies a list, and
+//! equal configurations of a round fall together. A net has ranks that fall along each edge that may
+//! take nothing, so the rounds come to an end.
 //!
-//! Begin with `walking`; `reached` goes one step on, and `matching` alone looks at a label. Outputs and
-//! contexts are further cases of its `Passage`. Where a state has many edges, `edge_index` tells those
+//! Begin with `walking`; `reached` goes one step on, and `matching` alone tells how a label applies.
+//! Contexts are a further case of its `Passage`. Where a state has many edges, `edge_index` tells those
 //! that may apply at a token, by its number, and no others are tried there.
 //!
 //! ```text
@@ -24,8 +25,10 @@ pub mod lists;
 mod literals;
 pub mod look_ups;
 pub mod matching;
+mod noted;
 mod reached;
 pub mod sets;
+mod texts;
 mod walking;
 pub mod words;
 

@@ -1,7 +1,8 @@
-//! The indexes of states of many edges, as walks by rounds meet them.
+//! What walks by rounds of one net over one text keep: the indexes of states of many edges, as they
+//! meet them, and the texts of events.
 //!
-//! Each is made once, when its state is first met, and is kept across the walks of one net over one
-//! text with one alphabet. What they take in all is bounded: beyond that, edges are tried one by
+//! Each index is made once, when its state is first met, and is kept across the walks of one net over
+//! one text with one alphabet. What they take in all is bounded: beyond that, edges are tried one by
 //! one.
 
 ghost use Rattle.std.specs.Prelude.{◌≡◌, ◌⊎◌, ◌<◌, ℕ, true, List, Contains, IfOk, IfSome, OnOk, Some, length, slice_get};
@@ -15,10 +16,12 @@ ghost use Rattle.ux_walk.specs.LookUps.{AreSound, IsKept};
 
 use crate::config::Frame;
 use crate::edge_index::EdgeIndex;
+use crate::texts::Texts;
 use crate::words::Words;
 use indexmap::IndexMap;
 use std::alloc::Global;
 use std::hash::Hash;
+use std::mem;
 use ux_alphabet::Alphabet;
 use ux_base::Mem;
 use ux_net::Edge;
@@ -31,12 +34,14 @@ const MOST_COMPARED: usize = 268_435_456;
 /// As many pairs of an edge and a token are kept in all, of eight bytes each.
 const MOST_KEPT: usize = 8_388_608;
 
-/// The indexes of states of many edges that were met.
+/// The indexes of states of many edges that were met, and the texts of events.
 #[derive(Drop)]
 pub struct LookUps<'t> {
     /// The different tokens of the text, once a state of many edges was met.
     words: Option<Words<'t>>,
     indexes: IndexMap<Frame, EdgeIndex>,
+    /// The names of variables and the texts of outputs that walks met, each once.
+    texts: Texts<'t>,
     /// How many comparisons may still be spent.
     compared: usize,
     /// How many pairs may still be kept.
@@ -52,6 +57,7 @@ impl<'t> LookUps<'t> {
         LookUps {
             words: None,
             indexes: IndexMap::new(alloc),
+            texts: Texts::new(alloc),
             compared: MOST_COMPARED,
             kept: MOST_KEPT,
         }
@@ -86,6 +92,22 @@ impl<'t> LookUps<'t> {
         }
         self.know_words(alloc, text, alphabet)?;
         self.add_index(alloc, alphabet, state, edges)
+    }
+
+    /// The texts of events, given up until they are kept again. Takes no memory.
+    pub(crate) fn take_texts(&mut self, alloc: Global) -> Texts<'t>
+        ensures { (alphabet : Letters) (net : List NetGraph) (texts : List (List ℕ)) →
+            AreSound alphabet net texts self.old → AreSound alphabet net texts self.new }
+    {
+        mem::replace(&mut self.texts, Texts::new(alloc))
+    }
+
+    /// Keeps the texts of events.
+    pub(crate) fn keep_texts(&mut self, texts: Texts<'t>)
+        ensures { (alphabet : Letters) (net : List NetGraph) (texts : List (List ℕ)) →
+            AreSound alphabet net texts self.old → AreSound alphabet net texts self.new }
+    {
+        self.texts = texts;
     }
 
     /// Makes the list of the different tokens, where it is missing.

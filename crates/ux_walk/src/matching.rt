@@ -33,6 +33,15 @@ pub enum Passage {
     Closed,
 }
 
+impl Passage {
+    /// Whether the label doesn't apply.
+    pub fn is_closed(&self) -> bool
+        ensures { IsTrue result ↔ (self.now ≡ Passage.Closed) }
+    {
+        matches!(self, Passage::Closed)
+    }
+}
+
 /// How the label applies at the position. Labels that stand in no net don't apply. A mask takes one
 /// step, and memory for the positions up to which it takes tokens.
 pub fn passage_at<L: Ledger>(
@@ -53,7 +62,7 @@ pub fn passage_at<L: Ledger>(
         (passage ≡ Passage.Calls graph) ↔ (label.now ≡ Label.Call graph)) }
 {
     match label {
-        Label::Empty => Ok(Passage::Stays),
+        Label::Empty | Label::Begin(_) | Label::End(_) => Ok(Passage::Stays),
         Label::Fold(entry) => Ok(taking(after_fold(text, alphabet, entry.as_str(), position))),
         Label::Exact(exact) => Ok(taking(after_exact(text, exact.as_str(), position))),
         Label::Brace(brace) => Ok(taking(after_brace(text, brace.as_str(), position))),
@@ -64,12 +73,7 @@ pub fn passage_at<L: Ledger>(
         Label::Space => Ok(taking(after_space(text, position))),
         Label::Glue => Ok(staying(!is_space(text, position))),
         Label::Call(graph) => Ok(Passage::Calls(*graph)),
-        Label::Begin(_)
-        | Label::End(_)
-        | Label::Positive
-        | Label::Negative
-        | Label::ContextEnd
-        | Label::Cut => Ok(Passage::Closed),
+        Label::Positive | Label::Negative | Label::ContextEnd | Label::Cut => Ok(Passage::Closed),
     }
 }
 

@@ -1,23 +1,29 @@
 //! What a walk has reached, and how it goes one step on.
 
-ghost use Rattle.std.specs.Prelude.{◌≡◌, ◌<◌, ◌↔◌, ℕ, List, [], ◌∷◌, Contains, IfOk, IsTrue, OnOk, Some, length, map, option_copied, slice_get};
+ghost use Rattle.std.specs.Prelude.{◌≡◌, ◌<◌, ◌↔◌, ℕ, List, [], ◌∷◌, ◌++◌, Contains, IfOk, IsTrue, OnOk, length, option_copied, reverse, slice_get, Some};
+ghost use Rattle.ux_alphabet.specs.Letters.{Letters};
 ghost use Rattle.ux_apply.specs.Belonging.{Belongs};
+ghost use Rattle.ux_apply.specs.Tables.{Tables};
 ghost use Rattle.ux_net.specs.declared.net_graph.NetGraph.{NetGraph};
 ghost use Rattle.ux_net.specs.Nets.{states_of};
 ghost use Rattle.ux_outputs.specs.declared.event.Event.{Event};
 ghost use Rattle.ux_tokens.specs.Numbers.{different_texts};
-ghost use Rattle.ux_walk.specs.Links.{AreOnce, Names};
+ghost use Rattle.ux_tokens.specs.Tokens.{Token};
+ghost use Rattle.ux_walk.specs.Links.{AreOnce};
 ghost use Rattle.ux_walk.specs.LookUps.{AreSound};
 ghost use Rattle.ux_walk.specs.declared.config.Config.{Config};
-ghost use Rattle.ux_walk.specs.declared.config.Taken.{Taken};
-ghost use Rattle.ux_walk.specs.Configurations.{Adds, AddsFrom, IsAfterSome, IsFoundAs, IsNamed, IsNothing, IsPast, IsRound, IsSound, events_of};
-ghost use Rattle.ux_walk.specs.Courses.{Course, GoesOn, IsOver, IsOverAt, IsOverSome, IsOverSomeAt, event_of};
+ghost use Rattle.ux_walk.specs.Configurations.{Adds, AddsFrom, IsAfterSome, IsFoundAs, IsNamed, IsNothing, IsPast, IsRound, IsSound, Notes, Places, NamesEventsIn, texts_of};
+ghost use Rattle.ux_walk.specs.Courses.{Course, GoesOn, IsBehind, IsOver, IsOverAt, IsOverSome, IsOverSomeAt, passing, put_event, put_events};
+ghost use Rattle.ux_walk.specs.Noted.{StandsFor};
+ghost use Rattle.ux_walk.specs.Passages.{IsPassage};
 
-use crate::config::{Config, Found, Frame, Taken};
+use crate::config::{Config, Found, Frame};
 use crate::lists::Lists;
 use crate::look_ups::LookUps;
 use crate::matching::{Passage, passage_at, skip};
+use crate::noted::Noted;
 use crate::sets::{put, stand_once};
+use crate::texts::Texts;
 use indexmap::IndexSet;
 use std::alloc::Global;
 use std::mem;
@@ -25,7 +31,8 @@ use std::sync::ledger::Ledger;
 use ux_alphabet::Alphabet;
 use ux_apply::Applied;
 use ux_base::{Lst, Mem, Steps};
-use ux_net::{Edge, Net, State};
+use ux_grf::Piece;
+use ux_net::{Edge, Label, Net, State};
 use ux_outputs::Event;
 use ux_tokens::Text;
 
@@ -34,24 +41,32 @@ const FEW: usize = 8;
 
 /// The pending configurations and what was found, with the lists that they name.
 #[derive(Drop)]
-pub struct Reached {
+pub struct Reached<'t> {
     frames: Lists<Frame>,
-    events: Lists<Taken>,
+    events: Lists<Noted>,
+    /// The texts of which the events speak, each once.
+    texts: Texts<'t>,
     pending: IndexSet<Config>,
     found: IndexSet<Found>,
 }
 
-impl Reached {
-    /// Nothing yet. Takes no memory.
-    pub fn new(alloc: Global) -> Reached
+impl<'t> Reached<'t> {
+    /// Nothing yet, with the texts of which events spoke before. Takes no memory.
+    pub fn new(alloc: Global, texts: Texts<'t>) -> Reached<'t>
         ensures { IsNothing result }
     {
         Reached {
             frames: Lists::new(alloc),
             events: Lists::new(alloc),
+            texts,
             pending: IndexSet::new(alloc),
             found: IndexSet::new(alloc),
         }
+    }
+
+    /// The texts, given up.
+    pub fn into_texts(self) -> Texts<'t> {
+        self.texts
     }
 
     /// Whether a configuration is pending.
@@ -62,10 +77,10 @@ impl Reached {
     }
 
     /// Goes one step on from each pending configuration.
-    pub fn round<'t, L: Ledger>(
+    pub fn round<L: Ledger>(
         &mut self,
         alloc: Global,
-        net: &Net,
+        net: &'t Net,
         text: &'t Text,
         alphabet: &Alphabet,
         applied: &Applied,
@@ -101,20 +116,49 @@ impl Reached {
     {
         let mut derivations = Vec::new(alloc);
         for found in self.found.as_slice() {
-            let taken = self.events.spell(alloc, found.events)?;
-            let events = as_events(alloc, taken.as_slice())?;
+            let events = self.spell(alloc, found.events)?;
             derivations.push((found.end, Lst::new(events)))?;
         }
         stand_once(&self.found);
         self.events.links_stand_once();
+        self.texts.texts_stand_once();
         Ok(derivations)
     }
 
+    /// The events that a number names, in order.
+    fn spell(&self, alloc: Global, number: usize) -> Mem<Vec<Event>>
+        requires { IsSound self.now }
+        ensures { IfOk result (λ events. (before : List Event) →
+            NamesEventsIn self.now number before → events.items ≡ reverse before) }
+    {
+        let listed = self.events.spell(alloc, number)?;
+        let mut events = Vec::new(alloc);
+        for noted in listed.as_slice() {
+            let event = self.event(alloc, *noted)?;
+            events.push(event)?;
+        }
+        Ok(events)
+    }
+
+    /// The event for which a noted one stands.
+    fn event(&self, alloc: Global, noted: Noted) -> Mem<Event>
+        ensures { IfOk result (λ event. (wanted : Event) →
+            StandsFor (texts_of self.now) noted wanted → event ≡ wanted) }
+    {
+        match noted {
+            Noted::Take { from, to } => Ok(Event::Take { from, to }),
+            Noted::Put(place) => Ok(Event::Put(self.texts.text(alloc, place)?)),
+            Noted::Value(place) => Ok(Event::Value(self.texts.text(alloc, place)?)),
+            Noted::Begin(place) => Ok(Event::Begin(self.texts.text(alloc, place)?)),
+            Noted::End(place) => Ok(Event::End(self.texts.text(alloc, place)?)),
+        }
+    }
+
     /// Goes one step on from each of the configurations.
-    fn step_each<'t, L: Ledger>(
+    fn step_each<L: Ledger>(
         &mut self,
         alloc: Global,
-        net: &Net,
+        net: &'t Net,
         text: &'t Text,
         alphabet: &Alphabet,
         applied: &Applied,
@@ -140,10 +184,10 @@ impl Reached {
 
     /// Goes one step on from a configuration: over each edge of its state, and back where that is
     /// final.
-    pub fn step<'t, L: Ledger>(
+    pub fn step<L: Ledger>(
         &mut self,
         alloc: Global,
-        net: &Net,
+        net: &'t Net,
         text: &'t Text,
         alphabet: &Alphabet,
         applied: &Applied,
@@ -170,7 +214,7 @@ impl Reached {
     }
 
     /// Goes over each edge of the state that applies: of many those that may apply at the token.
-    fn follow_state<'t, L: Ledger>(
+    fn follow_state<L: Ledger>(
         &mut self,
         alloc: Global,
         text: &'t Text,
@@ -178,7 +222,7 @@ impl Reached {
         applied: &Applied,
         look_ups: &mut LookUps<'t>,
         config: Config,
-        state: &State,
+        state: &'t State,
         steps: &mut Steps<L>,
     ) -> Mem<()>
         requires belongs { Belongs alphabet.now text.now applied.now }
@@ -223,7 +267,7 @@ impl Reached {
         alphabet: &Alphabet,
         applied: &Applied,
         config: Config,
-        edges: &[Edge],
+        edges: &'t [Edge],
         places: &[u32],
         steps: &mut Steps<L>,
     ) -> Mem<()>
@@ -247,7 +291,7 @@ impl Reached {
         alphabet: &Alphabet,
         applied: &Applied,
         config: Config,
-        edges: &[Edge],
+        edges: &'t [Edge],
         place: u32,
         steps: &mut Steps<L>,
     ) -> Mem<()>
@@ -270,7 +314,7 @@ impl Reached {
         alphabet: &Alphabet,
         applied: &Applied,
         config: Config,
-        edges: &[Edge],
+        edges: &'t [Edge],
         steps: &mut Steps<L>,
     ) -> Mem<()>
         requires belongs { Belongs alphabet.now text.now applied.now }
@@ -292,17 +336,13 @@ impl Reached {
         alphabet: &Alphabet,
         applied: &Applied,
         config: Config,
-        edge: &Edge,
+        edge: &'t Edge,
         steps: &mut Steps<L>,
     ) -> Mem<()>
         requires belongs { Belongs alphabet.now text.now applied.now }
         ensures { OnOk result (AddsFrom self.old self.new config (λ back before.
             IsOver alphabet.now text.now applied.now config.here back config.at before edge.now)) }
     {
-        let here = Frame {
-            graph: config.here.graph,
-            state: edge.target,
-        };
         let passage = passage_at(
             alloc,
             text,
@@ -312,10 +352,28 @@ impl Reached {
             config.at,
             steps,
         )?;
+        if passage.is_closed() {
+            return Ok(());
+        }
+        let here = Frame {
+            graph: config.here.graph,
+            state: edge.target,
+        };
+        let events = self.put_out(config.events, edge.output.as_slice())?;
+        self.go_on(Config { events, ..config }, here, &edge.label, passage)
+    }
+
+    /// Goes on in a frame after a label that applies in this way.
+    fn go_on(&mut self, config: Config, here: Frame, label: &'t Label, passage: Passage) -> Mem<()>
+        ensures { OnOk result ((alphabet : Letters) (tokens : List Token) (tables : Tables) →
+            IsPassage alphabet tokens tables label.now config.at passage →
+            AddsFrom self.old self.new config (λ back before.
+            IsBehind alphabet tokens tables label.now here back config.at before)) }
+    {
         match passage {
             Passage::Takes(end) => self.take(config, here, end),
             Passage::Spans(ends) => self.take_each(config, here, ends.as_slice()),
-            Passage::Stays => self.pend(Config { here, ..config }),
+            Passage::Stays => self.pass(config, here, label),
             Passage::Calls(graph) => self.call(config, here, graph),
             Passage::Closed => Ok(()),
         }
@@ -337,15 +395,32 @@ impl Reached {
         ensures { OnOk result (AddsFrom self.old self.new config (λ back before.
             IsPast config.at here back before end)) }
     {
-        let taken = Taken {
+        let taken = Noted::Take {
             from: config.at,
             to: end,
         };
-        let events = self.events.cons(taken, config.events)?;
+        let events = self.note(config.events, taken)?;
         self.pend(Config {
             here,
             back: config.back,
             at: end,
+            events,
+        })
+    }
+
+    /// Goes on in a frame after a label that takes nothing.
+    fn pass(&mut self, config: Config, here: Frame, label: &'t Label) -> Mem<()>
+        ensures { OnOk result (AddsFrom self.old self.new config (λ back before w. w ≡ record {
+          frames = here ∷ back;
+          at = config.at;
+          before = passing label.now ++ before;
+        })) }
+    {
+        let events = self.note_passing(config.events, label)?;
+        self.pend(Config {
+            here,
+            back: config.back,
+            at: config.at,
             events,
         })
     }
@@ -407,29 +482,84 @@ impl Reached {
 
     /// Adds a derivation, where it is new.
     fn end(&mut self, found: Found) -> Mem<()>
-        ensures { OnOk result ((before : List Taken) → IsSound self.old →
-            Names (events_of self.old) found.events before →
+        ensures { OnOk result ((before : List Event) → IsSound self.old →
+            NamesEventsIn self.old found.events before →
             Adds (λ w. w ≡ record { frames = []; at = found.end; before = before })
             self.old self.new) }
     {
         put(&mut self.found, found)
     }
-}
 
-/// The events that tell what was taken.
-fn as_events(alloc: Global, taken: &[Taken]) -> Mem<Vec<Event>>
-    ensures { IfOk result (λ events. events.items ≡ map event_of taken.now) }
-{
-    Ok(taken.iter().map(as_event).collect(alloc)?)
-}
+    /// The number of these events with those of an output after them.
+    fn put_out(&mut self, events: usize, output: &'t [Piece]) -> Mem<usize>
+        ensures { IfOk result
+            (Notes self.old self.new (reverse (put_events output.now)) events) }
+    {
+        let mut number = events;
+        for piece in output {
+            number = self.put_piece(number, piece)?;
+        }
+        Ok(number)
+    }
 
-/// The event that tells of it.
-fn as_event(taken: &Taken) -> Event
-    ensures { result ≡ event_of taken.now }
-{
-    Event::Take {
-        from: taken.from,
-        to: taken.to,
+    /// The number of these events with that of a piece of an output after them.
+    fn put_piece(&mut self, events: usize, piece: &'t Piece) -> Mem<usize>
+        ensures { IfOk result (Notes self.old self.new (put_event piece.now ∷ []) events) }
+    {
+        match piece {
+            Piece::Chars(text) => {
+                let place = self.place(text.as_str())?;
+                self.note(events, Noted::Put(place))
+            },
+            Piece::Value(name) => {
+                let place = self.place(name.as_str())?;
+                self.note(events, Noted::Value(place))
+            },
+        }
+    }
+
+    /// The number of these events with those of a label that takes nothing after them.
+    fn note_passing(&mut self, events: usize, label: &'t Label) -> Mem<usize>
+        ensures { IfOk result (Notes self.old self.new (passing label.now) events) }
+    {
+        match label {
+            Label::Begin(name) => {
+                let place = self.place(name.as_str())?;
+                self.note(events, Noted::Begin(place))
+            },
+            Label::End(name) => {
+                let place = self.place(name.as_str())?;
+                self.note(events, Noted::End(place))
+            },
+            Label::Empty
+            | Label::Fold(_)
+            | Label::Exact(_)
+            | Label::Mask(_)
+            | Label::Brace(_)
+            | Label::Space
+            | Label::Glue
+            | Label::Positive
+            | Label::Negative
+            | Label::ContextEnd
+            | Label::Cut
+            | Label::Call(_) => Ok(events),
+        }
+    }
+
+    /// The place of a text in the table.
+    fn place(&mut self, text: &'t str) -> Mem<usize>
+        ensures { IfOk result (Places self.old self.new text.now) }
+    {
+        self.texts.place(text)
+    }
+
+    /// The number of these events with one more after them.
+    fn note(&mut self, events: usize, noted: Noted) -> Mem<usize>
+        ensures { IfOk result (λ number. (event : Event) →
+            StandsFor (texts_of self.old) noted event →
+            Notes self.old self.new (event ∷ []) events number) }
+    {
+        self.events.cons(noted, events)
     }
 }
 

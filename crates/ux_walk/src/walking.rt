@@ -60,10 +60,11 @@ pub fn walk<L: Ledger>(
 }
 
 /// Each end and event list that the main graph derives from `start`, once, by rounds. The look-ups
-/// are kept from start to start. Each try of a mask takes a step.
+/// are kept from start to start, and with them the texts of which events speak. Each try of a mask
+/// takes a step.
 pub fn walk_through<'t, L: Ledger>(
     alloc: Global,
-    net: &Net,
+    net: &'t Net,
     text: &'t Text,
     alphabet: &Alphabet,
     applied: &Applied,
@@ -84,7 +85,7 @@ pub fn walk_through<'t, L: Ledger>(
         Follows start end events × (end ≤ length text.now)) }
     ensures once { IfOk result (λ found. AreOnce found.items) }
 {
-    let mut reached = Reached::new(alloc);
+    let mut reached = Reached::new(alloc, look_ups.take_texts(alloc));
     reach(
         alloc,
         net,
@@ -96,19 +97,21 @@ pub fn walk_through<'t, L: Ledger>(
         &mut reached,
         steps,
     )?;
-    reached.derivations(alloc)
+    let derivations = reached.derivations(alloc)?;
+    look_ups.keep_texts(reached.into_texts());
+    Ok(derivations)
 }
 
 /// Goes on from `start` by rounds, until no configuration is pending.
 fn reach<'t, L: Ledger>(
     alloc: Global,
-    net: &Net,
+    net: &'t Net,
     text: &'t Text,
     alphabet: &Alphabet,
     applied: &Applied,
     look_ups: &mut LookUps<'t>,
     start: usize,
-    reached: &mut Reached,
+    reached: &mut Reached<'t>,
     steps: &mut Steps<L>,
 ) -> Mem<()>
     requires measured { IsMeasured net.now }

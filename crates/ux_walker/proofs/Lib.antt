@@ -2,4 +2,4 @@ pub mod AgendaLemmas
 pub mod WalkLemmas
 pub mod AscendingLemmas
 pub mod UnderWay
-pub mod StraightLaws
+pub mod EndsLaws

@@ -6,7 +6,7 @@
 ghost use Rattle.std.specs.Prelude.{◌≡◌, ◌<◌, ◌≤◌, [], ℕ, IfOk, OnOk, false, length};
 ghost use Rattle.ux_apply.specs.Belonging.{Belongs};
 ghost use Rattle.ux_meaning.specs.Texts.{IsSpaceAt};
-ghost use Rattle.ux_walk.specs.Ends.{AreStraightEnds};
+ghost use Rattle.ux_walk.specs.Ends.{AreEnds};
 ghost use Rattle.ux_walk.specs.Settings.{setting_of};
 
 use crate::agenda::Agenda;
@@ -75,7 +75,7 @@ impl<'a> Walker<'a> {
     pub fn may_begin(&self, start: usize) -> bool
         requires inside { start < length self.now.tokens }
         ensures { result ≡ false → (IsSpaceAt self.now.tokens start → ⊥) →
-            AreStraightEnds self.now start [] }
+            AreEnds self.now start [] }
     {
         if self.is_spent {
             return true;
@@ -85,8 +85,8 @@ impl<'a> Walker<'a> {
         self.automaton.may_begin(start)
     }
 
-    /// Lets `ends` be the positions after the start at which a derivation from it ends, in order. Every
-    /// derivation takes exactly the tokens up to its end. Takes a step of the automaton a position, and
+    /// Lets `ends` be the positions after the start at which a derivation from it ends, in order. Takes
+    /// a step of the automaton a position, and
     /// memory for `ends` and for fronts to which no walk came before. Where memory ran out once, it
     /// does so again.
     pub fn ends_from<L: Ledger>(
@@ -98,7 +98,7 @@ impl<'a> Walker<'a> {
     ) -> Mem<()>
         requires inside { start ≤ length self.now.tokens }
         ensures same { self.new ≡ self.old }
-        ensures ends { OnOk result (AreStraightEnds self.old start ends.new.items) }
+        ensures ends { OnOk result (AreEnds self.old start ends.new.items) }
     {
         if self.is_spent {
             return Err(NoMemory);

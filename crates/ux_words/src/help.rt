@@ -9,6 +9,10 @@ usage: unitex COMMAND ARGUMENTS
                                reads a grammar, a text, its letters and
                                dictionaries, writes the index of all hits
     --mode ignore              outputs of the grammar are left out (default)
+    --mode merge               outputs stand among the tokens of a hit
+    --mode replace             outputs stand in place of the tokens of a hit
+    --novar                    with merge or replace, a hit is dropped where an
+                               output asks for a variable without a value
     --policy all               every hit is kept (default)
     --chars                    each letter is a token of its own
   tokenize TEXT ALPHABET       reads a text and its letters, writes its tokens

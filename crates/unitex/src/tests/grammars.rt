@@ -382,7 +382,7 @@ fn refuses_grammars(rt: HostRuntime) -> Result<(), Fail> {
             ("", "refused: Y.grf: NoHeader\n", 3),
         ),
         (
-            "an output in a callee",
+            "a cut in a callee",
             &[
                 (
                     "g.grf",
@@ -390,7 +390,7 @@ fn refuses_grammars(rt: HostRuntime) -> Result<(), Fail> {
                 ),
                 (
                     "X.grf",
-                    "#Unigraph\n#\n5\n\"<E>\" 0 0 2 2 3 \n\"\" 0 0 0 \n\"b\" 0 0 1 1 \n\"c\" 0 0 1 4 \n\"d/[N]\" 0 0 1 1 \n",
+                    "#Unigraph\n#\n5\n\"<E>\" 0 0 2 2 3 \n\"\" 0 0 0 \n\"b\" 0 0 1 1 \n\"c\" 0 0 1 4 \n\"$*\" 0 0 1 1 \n",
                 ),
             ],
             "a",

@@ -104,10 +104,10 @@ fn refuses_the_first_mask_of_a_grammar(rt: HostRuntime) -> Result<(), Fail> {
             ("", "absent: Y.grf\n", 2),
         ),
         (
-            "a mask with an output isn't built",
+            "a mask on a line beside a context isn't built",
             &[(
                 "g.grf",
-                "#Unigraph\n#\n3\n\"<E>\" 0 0 1 2 \n\"\" 0 0 0 \n\"<N>/[N]\" 0 0 1 1 \n",
+                "#Unigraph\n#\n3\n\"<E>\" 0 0 1 2 \n\"\" 0 0 0 \n\"<N>+$[\" 0 0 1 1 \n",
             )],
             "a",
             &[],

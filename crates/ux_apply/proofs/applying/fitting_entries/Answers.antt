@@ -1,68 +1,73 @@
-use Rattle.std.proofs.Common.{List, ◌∷◌, ◌++◌, [], take, arith, subst, sym, ap}
+use Rattle.std.proofs.Common.{List, ◌∷◌, ◌++◌, [], ◌≡◌, true, false, arith, subst, sym, ap}
 use Rattle.std.specs.Prelude.{All}
 use Rattle.std.proofs.lemmas.List.Elements.{All-nil}
 use Rattle.ux_dela.specs.Sound.{IsSound}
 use Rattle.ux_dela.specs.declared.entry.Entry.{Entry}
 use Rattle.ux_dict.specs.Forms.{IsFitting, none}
 use Rattle.ux_apply.specs.declared.priority.Priority.{Priority}
-use Rattle.ux_apply.specs.Applying.{content_at, contents}
-use Rattle.ux_apply.proofs.FoundLemmas.{contents-all, contents-more, fitting-more, fitting-skip}
+use Rattle.ux_apply.specs.Applying.{content_at, is_same}
+use Rattle.ux_apply.specs.Cursors.{IsCursor}
+use Rattle.ux_apply.proofs.CursorLemmas.{taken-all}
+use Rattle.ux_apply.proofs.FoundLemmas.{fitting-more, fitting-skip}
+use Rattle.ux_apply.proofs.ZipLemmas.{zip-none, zip-taken}
 use Rattle.ux_apply.proofs.applying.fitting_entries.Goals as goal
-use Rattle.ux_apply.proofs.applying.fitting_entries.Goals.{then-is+in_ok-push_fitting, else-is}
+use Rattle.ux_apply.proofs.applying.fitting_entries.Goals.{then-is+in_ok-push_ending, else-is}
 
-pub loop-own-init : goal.loop-own-init
-loop-own-init g c = record {
-  fitting = subst (λ (l : List Entry). IsFitting c.args.alphabet.now c.args.text.now [] l)
-      (sym c.new-entries.ensures.items) none;
-  sound = subst (λ (l : List Entry). All IsSound l) (sym c.new-entries.ensures.items)
-      (All-nil IsSound);
-}
-
-pub loop-own-preserved : goal.loop-own-preserved
-loop-own-preserved g c =
-    let content = g.L.Lexicon.content in
-    let lines = c.args.alphabet.now in
-    let text = c.args.text.now in
-    let priority = c.args.priority in
-    let dics = c.args.dics.now in
-    let i = c.loop-own.own-index in
-    let dic = c.loop-own-item.result in
-    let front = contents content (take i dics) in
-    let pair : Priority × List Entry = (dic.0, content dic.1) in
-    let all = front ++ pair ∷ [] in
-    let old = c.loop-own.entries.items in
-    let before = c.loop-own.invariant.fitting in record {
-      fitting = subst
+pub loop-cursor-init : goal.loop-cursor-init
+loop-cursor-init c alphabet text dics led =
+    let empty = zip-none (IsCursor alphabet text) dics led in
+    subst
+    (λ (l : List Entry). IsFitting alphabet text (content_at c.args.priority dics) l × All IsSound l)
+    (sym c.new-entries.ensures.items) (
+      subst
           (λ (l : List (Priority × List Entry)).
-          IsFitting lines text (content_at priority l) c.if-is.entries.items)
-          (sym (contents-more content dics i dic (omega arith) c.loop-own-item.is))
-          (elim c.if-is.branch [
-            | then-is+in_ok-push_fitting w ↦ subst
-                (λ (l : List Entry). IsFitting lines text (content_at priority all) l)
-                (sym (ap (λ v. v.items) w.entries-is))
-                (fitting-more priority pair lines front text old before
-                w.push_fitting.new.entries.items (sym w.if-is.ensures)
-                w.in_ok-push_fitting.ensures.added)
-            | else-is w ↦ subst
-                (λ (l : List Entry). IsFitting lines text (content_at priority all) l)
-                (sym (ap (λ v. v.items) w.entries-is))
-                (fitting-skip priority pair lines front text old before (sym w.if-is.ensures))
-          ]);
-      sound = elim c.if-is.branch [
-        | then-is+in_ok-push_fitting w ↦ subst (λ (l : List Entry). All IsSound l)
-            (sym (ap (λ v. v.items) w.entries-is))
-            (w.in_ok-push_fitting.ensures.sound c.loop-own.invariant.sound)
-        | else-is w ↦ subst (λ (l : List Entry). All IsSound l)
-            (sym (ap (λ v. v.items) w.entries-is)) c.loop-own.invariant.sound
-      ];
-    }
+          IsFitting alphabet text (content_at c.args.priority l) []) (sym empty) none,
+      All-nil IsSound,
+    )
+
+pub loop-cursor-preserved : goal.loop-cursor-preserved
+loop-cursor-preserved c alphabet text dics led =
+    let priority = c.args.priority in
+    let cursor = c.cursor-item.result in
+    let t = zip-taken (IsCursor alphabet text) dics c.args.cursors.now c.loop-cursor.cursor-index
+    cursor (omega arith) c.cursor-item.is led in
+    let front = t.0 in
+    let dic = t.1 in
+    let here = t.4 in
+    let all = front ++ dic ∷ [] in
+    let old = c.loop-cursor.entries.items in
+    let before = c.loop-cursor.invariant alphabet text front t.3 in
+    subst
+    (λ (l : List (Priority × List Entry)).
+    IsFitting alphabet text (content_at priority l) c.if-is.entries.items
+    × All IsSound c.if-is.entries.items) (sym t.2)
+    (elim c.if-is.branch [
+      | then-is+in_ok-push_ending w ↦
+          let same = subst (λ (p : Priority). is_same p priority ≡ true) here.priority
+          (sym w.if-is.ensures) in
+          subst
+          (λ (l : List Entry). IsFitting alphabet text (content_at priority all) l × All IsSound l)
+          (sym (ap (λ v. v.items) w.entries-is)) (
+            fitting-more priority dic alphabet front text old before.0
+                w.push_ending.new.entries.items same
+                (w.in_ok-push_ending.ensures.added alphabet dic.1 text here.leads),
+            w.in_ok-push_ending.ensures.sound alphabet dic.1 text here.leads before.1,
+          )
+      | else-is w ↦
+          let other = subst (λ (p : Priority). is_same p priority ≡ false) here.priority
+          (sym w.if-is.ensures) in
+          subst
+          (λ (l : List Entry). IsFitting alphabet text (content_at priority all) l × All IsSound l)
+          (sym (ap (λ v. v.items) w.entries-is))
+          (fitting-skip priority dic alphabet front text old before.0 other, before.1)
+    ])
 
 pub returns : goal.returns
-returns g c = record {
-  fitting = subst
-      (λ (l : List (Priority × List Entry)). IsFitting c.args.alphabet.now c.args.text.now
-      (content_at c.args.priority l) c.loop-own.entries.items)
-      (contents-all g.L.Lexicon.content c.args.dics.now c.loop-own.own-index (omega arith))
-      c.loop-own.invariant.fitting;
-  sound = c.loop-own.invariant.sound;
+returns c = record {
+  fitting = λ alphabet dics text led. (c.loop-cursor.invariant alphabet text dics
+      (taken-all alphabet c.args.cursors.now c.loop-cursor.cursor-index text dics (omega arith)
+      led.each)).0;
+  sound = λ alphabet dics text led. (c.loop-cursor.invariant alphabet text dics
+      (taken-all alphabet c.args.cursors.now c.loop-cursor.cursor-index text dics (omega arith)
+      led.each)).1;
 }

@@ -5,16 +5,16 @@ use Rattle.ux_dela.specs.Sound.{IsSound}
 use Rattle.ux_apply.proofs.applying.found.Goals as goal
 
 pub returns : goal.returns
-returns g c = record {
+returns c = record {
   found = IfOk-weaker c.each_once.result _ _
-      (λ entries is. record {
+      (λ entries is alphabet dics text led. record {
         fitting = c.in_ok-fitting.fitting.items;
-        fit = c.in_ok-fitting.ensures.fitting;
+        fit = c.in_ok-fitting.ensures.fitting alphabet dics text led;
         once = is;
       }) c.each_once.ensures;
   sound = IfOk-weaker c.each_once.result _ _
-      (λ entries is. All-weaker (Contains entries.items) IsSound
+      (λ entries is alphabet dics text led. All-weaker (Contains entries.items) IsSound
       (λ entry has. All-contains IsSound c.in_ok-fitting.fitting.items entry
-      c.in_ok-fitting.ensures.sound ((is.members entry).0 has))
+      (c.in_ok-fitting.ensures.sound alphabet dics text led) ((is.members entry).0 has))
       entries.items (All-contains_itself entries.items)) c.each_once.ensures;
 }

@@ -30,6 +30,7 @@ returns-clause-closed g c = close_right (setting_in c.args.given.now) c.requires
       front = c.in_ok-closed.closed;
       ends = c.in_ok-closure.closure.ends;
       has_masks = c.have_mask.result;
+      takes_tokens = c.may_take.result;
       over_space = c.in_ok-over_space.over_space;
     }) c.requires.sound c.in_ok-closure.ensures.grows c.in_ok-closed.ensures.grows
     c.in_ok-over_space.ensures.grows c.requires.there c.in_ok-closure.ensures.closure
@@ -46,4 +47,6 @@ returns-clause-closed g c = close_right (setting_in c.args.given.now) c.requires
     c.as_slice-stands.ensures.value (c.in_ok-over_space.ensures.spaced space stack))
     c.in_ok-over_space.ensures.bare
     (λ none stand edge mask inside. c.have_mask.ensures none stand edge mask
+    (subst (λ (l : List Stand). Contains l stand) (sym c.as_slice-stands.ensures.value) inside))
+    (λ none stand edge inside. c.may_take.ensures none stand edge
     (subst (λ (l : List Stand). Contains l stand) (sym c.as_slice-stands.ensures.value) inside))

@@ -7,9 +7,9 @@ use Rattle.ux_automaton.specs.Fronts.{HasStand}
 use Rattle.ux_automaton.specs.Kept.{setting_in, store_of}
 use Rattle.ux_automaton.specs.Targets.{IsTarget}
 use Rattle.ux_automaton.proofs.CacheLemmas.{through}
-use Rattle.ux_automaton.proofs.FrontIndexLemmas.{likely_targets}
-use Rattle.ux_automaton.proofs.OverLemmas.{exact_by, front_over, target_stand}
-use Rattle.ux_automaton.proofs.Results.{on_both}
+use Rattle.ux_automaton.proofs.FrontIndexLemmas.{indexes_kept, likely_targets}
+use Rattle.ux_automaton.proofs.OverLemmas.{front_over, target_stand}
+use Rattle.ux_automaton.proofs.Results.{on_both, on_ok}
 use Rattle.ux_automaton.proofs.StoreLemmas.{has_stand}
 use Rattle.ux_automaton.proofs.onward.over_token.Goals as goal
 
@@ -17,19 +17,18 @@ pub front_at-requires-clause-stands : goal.front_at-requires-clause-stands
 front_at-requires-clause-stands g c = λ target inside.
     target_stand (setting_in c.args.given.now) (HasStand (store_of c.args.fronts.now) c.args.front)
     c.as_slice-2.result.now c.args.at 0
-    (exact_by (setting_in c.args.given.now) c.args.at (Contains c.in_ok-stands.stands.items)
-    (HasStand (store_of c.args.fronts.now) c.args.front) c.in_ok-stands.ensures.stands
-    c.as_slice-2.result.now
     (λ t. through (subst (λ (l : List Target). Contains l t
     ↔ IsTarget (setting_in c.args.given.now) c.args.at (Contains c.as_slice.result.now) t)
     (sym c.as_slice-2.ensures.value) (c.in_ok-targets.ensures.targets t))
     (subst (λ (l : List Stand).
     IsTarget (setting_in c.args.given.now) c.args.at (Contains l) t
-    ↔ IsTarget (setting_in c.args.given.now) c.args.at (Contains c.in_ok-stands.stands.items) t)
+    ↔ IsTarget (setting_in c.args.given.now) c.args.at
+    (HasStand (store_of c.args.fronts.now) c.args.front) t)
     (sym c.as_slice.ensures.value)
-    (likely_targets c.args.given.now c.args.at c.in_ok-stands.stands.items c.in_ok-few.few.items
+    (likely_targets c.args.given.now c.args.at
+    (HasStand (store_of c.args.fronts.now) c.args.front) c.in_ok-few.few.items
     c.skip-place.result c.number-number.result c.skip-place.ensures c.number-number.ensures.place
-    c.in_ok-few.ensures.likely t))))
+    c.in_ok-few.ensures.likely t)))
     (store_of c.args.fronts.now)
     (has_stand (store_of c.args.fronts.now) c.requires.sound c.args.front) target inside
 
@@ -37,21 +36,25 @@ pub returns-clause-over : goal.returns-clause-over
 returns-clause-over g c = on_both c.front_at.result _ _ _ (λ next grows has stack.
     front_over (setting_in c.args.given.now) (HasStand (store_of c.args.fronts.now) c.args.front)
     c.as_slice-2.result.now c.args.at (skip c.args.given.now.text.now c.args.at + 1)
-    (exact_by (setting_in c.args.given.now) c.args.at (Contains c.in_ok-stands.stands.items)
-    (HasStand (store_of c.args.fronts.now) c.args.front) c.in_ok-stands.ensures.stands
-    c.as_slice-2.result.now
     (λ t. through (subst (λ (l : List Target). Contains l t
     ↔ IsTarget (setting_in c.args.given.now) c.args.at (Contains c.as_slice.result.now) t)
     (sym c.as_slice-2.ensures.value) (c.in_ok-targets.ensures.targets t))
     (subst (λ (l : List Stand).
     IsTarget (setting_in c.args.given.now) c.args.at (Contains l) t
-    ↔ IsTarget (setting_in c.args.given.now) c.args.at (Contains c.in_ok-stands.stands.items) t)
+    ↔ IsTarget (setting_in c.args.given.now) c.args.at
+    (HasStand (store_of c.args.fronts.now) c.args.front) t)
     (sym c.as_slice.ensures.value)
-    (likely_targets c.args.given.now c.args.at c.in_ok-stands.stands.items c.in_ok-few.few.items
+    (likely_targets c.args.given.now c.args.at
+    (HasStand (store_of c.args.fronts.now) c.args.front) c.in_ok-few.few.items
     c.skip-place.result c.number-number.result c.skip-place.ensures c.number-number.ensures.place
-    c.in_ok-few.ensures.likely t))))
+    c.in_ok-few.ensures.likely t)))
     (store_of c.args.fronts.now) (store_of c.front_at.new.fronts) c.requires.sound grows
     (has_stand (store_of c.args.fronts.now) c.requires.sound c.args.front) next
     (λ stand. subst (λ (n : ℕ). HasStand (store_of c.front_at.new.fronts) next stand
     ↔ Contains c.as_slice-2.result.now (record { at = n + 1; stand = stand }))
     c.skip-place.ensures (has stand)) stack) c.front_at.ensures.grows c.front_at.ensures.stands
+
+pub returns-clause-fronts : goal.returns-clause-fronts
+returns-clause-fronts g c = on_ok c.front_at.result _ _ (λ grows.
+    indexes_kept c.args.given.now (store_of c.args.fronts.now) (store_of c.front_at.new.fronts) _
+    c.requires.sound grows c.in_ok-few.ensures.indexed) c.front_at.ensures.grows

@@ -29,7 +29,7 @@ loop-part-preserved c lines all front d are each spelled =
 
 pub returns : goal.returns
 returns c lines all d are =
-    GoOn-from lines all d c.args.parts.now c.loop-part.next.items (λ front each spelled.
+    GoOn-from lines all (d ∷ []) c.args.parts.now c.loop-part.next.items (λ front each spelled.
     subst (λ (l : List Part). AreFittingParts lines (front ++ d ∷ []) (entries_of l)
     c.loop-part.next.items) (take_all c.loop-part.part-index c.args.parts.now (omega arith))
     (c.loop-part.invariant lines all front d are each spelled))

@@ -1,4 +1,4 @@
-use Rattle.std.proofs.Common.{length, subst, sym}
+use Rattle.std.proofs.Common.{[], ◌∷◌, length, subst, sym}
 use Rattle.std.proofs.lemmas.Bool.{eqb-true}
 use Rattle.std.proofs.lemmas.List.{nil_from_length}
 use Rattle.std.proofs.lemmas.Result.{IfOk-weaker}
@@ -8,7 +8,7 @@ use Rattle.ux_dict.proofs.continuing.next_parts.Goals as goal
 
 pub returns-then-is_empty : goal.returns-then-is_empty
 returns-then-is_empty c =
-    GoOn-none c.args.alphabet.now c.args.letters.now c.args.c c.args.parts.now c.new.result.items
+    GoOn-none c.args.alphabet.now c.args.letters.now (c.args.c ∷ []) c.args.parts.now c.new.result.items
     (nil_from_length c.args.parts.now
     (eqb-true (length c.args.parts.now) 0 (sym c.if-is_empty.ensures))) c.new.ensures.items
 

@@ -1,5 +1,5 @@
-use Rattle.std.proofs.Common.{List, ℕ, ◌↔◌, length, subst, sym}
-use Rattle.std.specs.Prelude.{Contains, Option, Vec}
+use Rattle.std.proofs.Common.{List, ◌↔◌, length, subst, sym}
+use Rattle.std.specs.Prelude.{Contains, Vec}
 use Rattle.ux_dela.specs.declared.entry.Entry.{Entry}
 use Rattle.ux_apply.specs.Applying.{contents}
 use Rattle.ux_apply.specs.Kept.{IsWordNumber, row_of, simple_at, table_of}

@@ -31,6 +31,6 @@ invariant_of-self c = record {
   marked = c.self.invariant.marked;
   right = λ yes. c.in_ok-kept.ensures (setting_in c.self.inside.given);
   indexed = c.self.invariant.indexed;
-  fronts_indexed = λ yes. c.let_go.ensures c.self.inside.given
+  fronts_indexed = λ yes. c.let_go.ensures c.self.inside.given _ _
       (c.self.invariant.fronts_indexed yes);
 }

@@ -3,6 +3,7 @@ use Rattle.ux_walk.specs.Leads.{Stack}
 use Rattle.ux_automaton.specs.Fronts.{Holds, HoldsIn, Keeps, Known}
 use Rattle.ux_automaton.specs.Kept.{known_in, setting_in, store_of}
 use Rattle.ux_automaton.proofs.CacheLemmas.{keeps_grown}
+use Rattle.ux_automaton.proofs.FrontIndexLemmas.{indexes_kept}
 use Rattle.ux_automaton.proofs.automaton.Automaton.join.Goals as goal
 
 pub invariant_of-self-2 : goal.invariant_of-self-2
@@ -12,7 +13,10 @@ invariant_of-self-2 c = record {
   right = λ yes. c.in_ok-front.ensures.right (setting_in c.self.inside.given)
       (c.self.invariant.right c.if-not-self.false);
   indexed = λ yes. c.self.invariant.indexed c.if-not-self.false;
-  fronts_indexed = λ yes. c.self.invariant.fronts_indexed c.if-not-self.false;
+  fronts_indexed = λ yes. indexes_kept c.self.inside.given (store_of c.self.inside.kept.fronts)
+      (store_of c.join.new.self.fronts) c.self.inside.front_indexes
+      (c.self.invariant.right c.if-not-self.false).sound c.in_ok-front.ensures.grows
+      (c.self.invariant.fronts_indexed c.if-not-self.false);
 }
 
 pub returns-clause-keeps : goal.returns-clause-keeps

@@ -8,5 +8,5 @@ invariant_of-result c = record {
   right = λ yes. c.in_ok-kept.ensures _;
   indexed = λ yes. c.new-2.ensures c.args.alphabet.now c.args.net.now
       (different_texts c.args.text.now);
-  fronts_indexed = λ yes. c.new-3.ensures _;
+  fronts_indexed = λ yes. c.new-3.ensures _ _;
 }

@@ -11,5 +11,5 @@ returns-clause-right g c =
     let new : Kept = record mid { closures = c.put.new.self } in
     closed_put (setting_in c.args.given.now) mid new
     (right_kept (setting_in c.args.given.now) old mid c.requires.right c.in_ok-closed.ensures.grows
-    refl refl refl) refl refl refl c.args.front c.args.is_spaced c.in_ok-closed.closed
+    refl refl refl refl) refl refl refl refl c.args.front c.args.is_spaced c.in_ok-closed.closed
     c.in_ok-closed.ensures.closed c.in_ok-put.ensures

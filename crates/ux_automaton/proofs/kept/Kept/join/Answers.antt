@@ -7,7 +7,7 @@ use Rattle.ux_automaton.proofs.kept.Kept.join.Goals as goal
 
 pub returns-clause-right : goal.returns-clause-right
 returns-clause-right c = on_ok c.join.result _ _ (λ grows setting right.
-    right_kept setting c.args.self.now _ right grows refl refl refl) c.join.ensures.grows
+    right_kept setting c.args.self.now _ right grows refl refl refl refl) c.join.ensures.grows
 
 pub returns-clause-both : goal.returns-clause-both
 returns-clause-both c = on_both c.join.result _ _ _ (λ front grows both stack.

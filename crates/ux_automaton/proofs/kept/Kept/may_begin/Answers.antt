@@ -1,4 +1,4 @@
-use Rattle.std.proofs.Common.{false}
+use Rattle.std.proofs.Common.{arith, false}
 use Rattle.std.proofs.lemmas.Bool.{not-false}
 use Rattle.ux_automaton.specs.Kept.{setting_in, store_of}
 use Rattle.ux_automaton.proofs.NowhereLemmas.{begins_nothing}
@@ -7,6 +7,10 @@ use Rattle.ux_automaton.proofs.kept.Kept.may_begin.Goals as goal
 pub next_known-requires-clause-masks : goal.next_known-requires-clause-masks
 next_known-requires-clause-masks c = (c.requires.right.closures false
     c.args.self.now.first c.in-Some.closed c.in-Some.ensures).masks
+
+pub next_known-requires-clause-tokens : goal.next_known-requires-clause-tokens
+next_known-requires-clause-tokens c = (c.requires.right.closures false
+    c.args.self.now.first c.in-Some.closed c.in-Some.ensures).tokens
 
 pub returns : goal.returns
 returns c = λ no bare.

@@ -1,4 +1,5 @@
 use Rattle.ux_automaton.specs.Kept.{store_of}
+use Rattle.ux_automaton.proofs.SlotsLemmas.{nothing_given}
 use Rattle.ux_automaton.proofs.StoreLemmas.{first_right}
 use Rattle.ux_automaton.proofs.kept.Kept.new.Goals as goal
 
@@ -9,4 +10,5 @@ returns c = λ setting. record {
       c.in_ok-first.ensures.there c.in_ok-first.ensures.stands;
   closures = λ is_spaced front closed has. absurd (c.new.ensures is_spaced front closed has);
   transitions = λ transition has. absurd (c.in_ok-new.ensures transition has);
+  barred = λ number kind has. absurd (nothing_given _ c.new-3.ensures.items number kind has);
 }

@@ -1,8 +1,9 @@
 use Rattle.std.proofs.Common.{arith, inl, inr, subst}
+use Rattle.std.proofs.lemmas.Bool.{not-true}
 use Rattle.ux_apply.specs.Accepting.{IsAlone}
 use Rattle.ux_automaton.specs.Fronts.{HoldsIn}
 use Rattle.ux_automaton.specs.Kept.{setting_in, store_of}
-use Rattle.ux_automaton.proofs.NowhereLemmas.{end_only}
+use Rattle.ux_automaton.proofs.NowhereLemmas.{bare_only, end_only}
 use Rattle.ux_automaton.proofs.kept.Kept.next_known.Goals as goal
 
 pub returns-then-len-place : goal.returns-then-len-place
@@ -16,3 +17,8 @@ next_singly-requires-clause-singly c = elim (c.may_land.ensures c.if-may_land.fa
   | inr off ↦ inl (subst (λ n. IsAlone c.args.given.now.text.now c.args.given.now.applied.now n)
       c.skip-place.ensures (c.requires.marked c.skip-place.result off))
 ]
+
+pub returns-then-not-closed : goal.returns-then-not-closed
+returns-then-not-closed c = bare_only (setting_in c.args.given.now)
+    (store_of c.args.self.now.fronts) (HoldsIn (store_of c.args.self.now.fronts) c.args.closed.front)
+    c.args.at 0 (c.requires.tokens (not-true c.args.closed.takes_tokens c.if-not-closed.true))

@@ -1,13 +1,22 @@
-use Rattle.std.proofs.Common.{refl}
-use Rattle.ux_automaton.specs.Kept.{setting_in, store_of}
-use Rattle.ux_automaton.proofs.StepLemmas.{step_is}
+use Rattle.std.proofs.Common.{subst, sym}
+use Rattle.ux_automaton.specs.declared.fronts.Fronts.{Fronts}
+use Rattle.ux_automaton.specs.FrontIndexes.{AreFrontsIndexed}
+use Rattle.ux_automaton.specs.Kept.{Grows, known_in, setting_in, store_of}
+use Rattle.ux_automaton.specs.Steps.{IsStep}
 use Rattle.ux_automaton.proofs.kept.Kept.step.Goals as goal
 
+pub returns-clause-fronts : goal.returns-clause-fronts
+returns-clause-fronts g c =
+    subst (λ (f : Fronts). AreFrontsIndexed c.args.given.now (store_of f) c.go_on.new.front_indexes)
+    (sym c.in_ok-note.ensures.same) c.in_ok-step.ensures.fronts
+
+pub returns-clause-grows : goal.returns-clause-grows
+returns-clause-grows g c =
+    subst (λ (f : Fronts). Grows (store_of c.args.self.now.fronts) (store_of f))
+    (sym c.in_ok-note.ensures.same) c.in_ok-step.ensures.grows
+
 pub returns-clause-step : goal.returns-clause-step
-returns-clause-step g c = step_is (setting_in c.args.given.now) c.requires.belongs
-    (store_of c.closed.new.self.fronts) (store_of c.onward.new.self.fronts) c.args.front c.args.at
-    c.is_space-is_spaced.result c.is_space-is_spaced.ensures.space c.in_ok-closed.ensures.right.sound
-    c.in_ok-onward.ensures.grows c.in_ok-closed.closed c.in_ok-closed.ensures.closed
-    c.in_ok-onward.onward c.in_ok-onward.ensures.onward _ refl refl refl refl
-    (store_of c.args.self.now.fronts) c.requires.right.sound c.in_ok-closed.ensures.grows
-    c.requires.there
+returns-clause-step g c =
+    subst (λ (f : Fronts). IsStep (known_in c.args.given.now c.args.self.now)
+    (record { setting = setting_in c.args.given.now; store = store_of f }) c.args.front c.args.at
+    c.in_ok-step.step) (sym c.in_ok-note.ensures.same) c.in_ok-step.ensures.step

@@ -26,7 +26,7 @@ returns-clause-right g c =
     let new : Kept = record mid { transitions = c.put.new.self } in
     transition_put (setting_in c.args.given.now) mid new
     (right_kept (setting_in c.args.given.now) old mid c.requires.right c.in_ok-next.ensures.grows
-    refl refl refl) refl refl refl (record {
+    refl refl refl refl) refl refl refl refl (record {
       front = c.args.front;
       number = c.args.number;
       kind = c.args.kind;

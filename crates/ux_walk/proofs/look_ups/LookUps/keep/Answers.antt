@@ -13,6 +13,7 @@ returns c net there alphabet texts found is sound =
     c.args.self.now (record {
       words = c.args.self.now.words;
       indexes = c.put_at.new.map;
+      texts = c.args.self.now.texts;
       compared = c.args.self.now.compared;
       kept = 0;
     }) refl c.put_at.ensures.only sound in

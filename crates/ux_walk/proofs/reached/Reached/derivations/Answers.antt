@@ -1,9 +1,7 @@
-use Rattle.std.proofs.Common.{◌≡◌, ◌++◌, ◌∷◌, [], ◌+◌, get_or, sym, subst, List, ap, ◌∙◌, refl, ℕ, map, take}
+use Rattle.std.proofs.Common.{◌≡◌, ◌++◌, ◌∷◌, [], ◌+◌, get_or, sym, subst, List, ap, ◌∙◌, refl, ℕ, take}
 use Rattle.std.specs.List.{AllZip}
 use Rattle.ux_outputs.specs.declared.event.Event.{Event}
 use Rattle.ux_walk.specs.declared.config.Found.{Found}
-use Rattle.ux_walk.specs.declared.config.Taken.{Taken}
-use Rattle.ux_walk.specs.Courses.{event_of}
 use Rattle.ux_walk.proofs.Derived.{IsSpelled, spelled_more, spelled_all, derived_exactly, derived_once}
 use Rattle.ux_walk.proofs.Stepping.{item_at}
 use Rattle.ux_walk.proofs.reached.Reached.derivations.Goals as goal
@@ -22,12 +20,7 @@ loop-found-preserved c =
     (spelled_more c.args.self.now all c.loop-found.found-index found
     c.loop-found.derivations.items derivation c.loop-found-test.true
     (item_at all c.loop-found.found-index none c.loop-found-test.true) c.loop-found.invariant
-    (record {
-      end = refl;
-      events = λ before names. c.in_ok-events.ensures
-          ∙ (ap (λ (l : List Taken). map event_of l) c.as_slice.ensures.value
-          ∙ ap (λ (l : List Taken). map event_of l) (c.in_ok-taken.ensures before names));
-    }))
+    (record { end = refl; events = c.in_ok-events.ensures }))
 
 pub returns-clause-exactly : goal.returns-clause-exactly
 returns-clause-exactly c =
@@ -45,3 +38,4 @@ returns-clause-once c =
     (spelled_all c.args.self.now c.as_slice-found-items.result.now c.loop-found.found-index
     c.loop-found.derivations.items c.loop-found-test.false c.loop-found.invariant))
     c.stand_once.ensures c.links_stand_once.ensures
+    c.texts_stand_once.ensures

@@ -1,69 +1,41 @@
-use Rattle.std.proofs.Common.{ℕ, List, subst}
-use Rattle.std.specs.Prelude.{Contains}
-use Rattle.ux_walk.specs.Configurations.{AddsFrom, IsPast}
+use Rattle.std.proofs.Common.{List, reverse, subst}
+use Rattle.ux_grf.specs.declared.item.Piece.{Piece}
+use Rattle.ux_outputs.specs.declared.event.Event.{Event}
+use Rattle.ux_walk.specs.declared.config.Frame.{Frame}
+use Rattle.ux_walk.specs.Configurations.{Notes}
+use Rattle.ux_walk.specs.Courses.{IsBehind, put_events}
 use Rattle.ux_walk.proofs.Results.{on_ok}
-use Rattle.ux_walk.proofs.Adding.{adds_nothing, adds_alike}
-use Rattle.ux_walk.proofs.Stepping.{behind_takes, behind_spans, behind_stays, behind_calls, behind_closed}
+use Rattle.ux_walk.proofs.Adding.{adds_nothing, adds_noted}
+use Rattle.ux_walk.proofs.Stepping.{behind_closed}
 use Rattle.ux_walk.proofs.reached.Reached.follow.Goals as goal
 
-pub returns-in-Takes : goal.returns-in-Takes
-returns-in-Takes g c = on_ok c.take.result _ _ (λ adds back before sound spells.
-    adds_alike _ _ c.args.self.now c.take.new.self (adds back before sound spells) (λ w.
-    behind_takes c.args.alphabet.now c.args.text.now c.args.applied.now c.args.edge.now.label _ back
-    c.args.config.at
-    before c.in_ok-passage.passage (record {
+pub returns : goal.returns
+returns g c = on_ok c.go_on.result _ _ (λ adds.
+    let alphabet = c.args.alphabet.now in
+    let tokens = c.args.text.now in
+    let tables = c.args.applied.now in
+    let edge = c.args.edge.now in
+    let config = c.args.config in
+    let here : Frame = record { graph = config.here.graph; state = edge.target } in
+    adds_noted (λ (back : List Frame) (before : List Event).
+    IsBehind alphabet tokens tables edge.label here back config.at before)
+    c.args.self.now c.put_out.new.self c.go_on.new.self config config.here config.at
+    (reverse (put_events edge.output)) c.in_ok-events.events
+    (subst (λ (l : List Piece). Notes c.args.self.now c.put_out.new.self (reverse (put_events l))
+    config.events c.in_ok-events.events) c.as_slice.ensures c.in_ok-events.ensures)
+    (adds alphabet tokens tables (record {
       takes = c.in_ok-passage.ensures.takes;
       stays = c.in_ok-passage.ensures.stays;
       calls = c.in_ok-passage.ensures.calls;
-    }) w c.in-Takes.end c.in-Takes.is)) c.take.ensures
+    }))) c.go_on.ensures
 
-pub returns-in-Spans : goal.returns-in-Spans
-returns-in-Spans g c = on_ok c.take_each.result _ _ (λ adds back before sound spells.
-    adds_alike _ _ c.args.self.now c.take_each.new.self
-    (subst (λ (l : List ℕ). AddsFrom c.args.self.now c.take_each.new.self c.args.config
-    (λ back before w. (end : ℕ) × Contains l end × IsPast c.args.config.at
-    (record { graph = c.args.config.here.graph; state = c.args.edge.now.target }) back
-    before end w))
-    c.as_slice.ensures.value adds back before sound spells) (λ w.
-    behind_spans c.args.alphabet.now c.args.text.now c.args.applied.now c.args.edge.now.label _ back
-    c.args.config.at before c.in_ok-passage.passage (record {
-      takes = c.in_ok-passage.ensures.takes;
-      stays = c.in_ok-passage.ensures.stays;
-      calls = c.in_ok-passage.ensures.calls;
-    }) w c.in-Spans.ends c.in-Spans.is)) c.take_each.ensures
-
-pub returns-in-Stays : goal.returns-in-Stays
-returns-in-Stays g c = on_ok c.pend.result _ _ (λ adds back before sound spells.
-    adds_alike _ _ c.args.self.now c.pend.new.self (adds back before sound (record {
-      frames = spells.frames;
-      events = spells.events;
-    })) (λ w.
-    behind_stays c.args.alphabet.now c.args.text.now c.args.applied.now c.args.edge.now.label _ back
-    c.args.config.at
-    before c.in_ok-passage.passage (record {
-      takes = c.in_ok-passage.ensures.takes;
-      stays = c.in_ok-passage.ensures.stays;
-      calls = c.in_ok-passage.ensures.calls;
-    }) w c.in-Stays.is)) c.pend.ensures
-
-pub returns-in-Calls : goal.returns-in-Calls
-returns-in-Calls g c = on_ok c.call.result _ _ (λ adds back before sound spells.
-    adds_alike _ _ c.args.self.now c.call.new.self (adds back before sound spells) (λ w.
-    behind_calls c.args.alphabet.now c.args.text.now c.args.applied.now c.args.edge.now.label _ back
-    c.args.config.at
-    before c.in_ok-passage.passage (record {
-      takes = c.in_ok-passage.ensures.takes;
-      stays = c.in_ok-passage.ensures.stays;
-      calls = c.in_ok-passage.ensures.calls;
-    }) w c.in-Calls.graph c.in-Calls.is)) c.call.ensures
-
-pub returns-in-Closed : goal.returns-in-Closed
-returns-in-Closed g c = λ back before sound spells.
+pub returns-then-is_closed : goal.returns-then-is_closed
+returns-then-is_closed g c = λ back before sound spells.
     adds_nothing _ c.args.self.now sound (λ w.
     behind_closed c.args.alphabet.now c.args.text.now c.args.applied.now
     c.args.edge.now.label _ back
-    c.args.config.at before c.in_ok-passage.passage (record {
+    c.args.config.at _ c.in_ok-passage.passage (record {
       takes = c.in_ok-passage.ensures.takes;
       stays = c.in_ok-passage.ensures.stays;
       calls = c.in_ok-passage.ensures.calls;
-    }) w c.in-Closed.is)
+    }) w (c.is_closed.ensures.0 c.if-is_closed.true))

@@ -2,7 +2,7 @@ use Rattle.std.proofs.Common.{List, ℕ, subst, sym}
 use Rattle.std.specs.Prelude.{slice_get}
 use Rattle.ux_net.specs.declared.state.Edge.{Edge}
 use Rattle.ux_tokens.specs.Numbers.{different_texts}
-use Rattle.ux_walk.specs.Courses.{IsOverSomeAt}
+use Rattle.ux_walk.specs.Courses.{IsOverSome, IsOverSomeAt}
 use Rattle.ux_walk.specs.Configurations.{AddsFrom}
 use Rattle.ux_walk.proofs.Results.{on_ok}
 use Rattle.ux_walk.proofs.LookUpsLemmas.{adds_listed, kept_enough}
@@ -23,6 +23,20 @@ returns-in_err-places-clause-sound g c = λ net found sound.
 pub returns-clause-sound : goal.returns-clause-sound
 returns-clause-sound g c = λ net found sound.
     c.meet.ensures net c.args.state.now found (sym c.as_slice-edges.ensures) sound
+
+pub returns-then-not-has_index-clause-adds : goal.returns-then-not-has_index-clause-adds
+returns-then-not-has_index-clause-adds g c = on_ok c.follow_edges.result _ _
+    (λ adds net found sound. subst (λ (l : List Edge).
+    AddsFrom c.args.self.now c.follow_edges.new.self c.args.config (λ back before.
+    IsOverSome c.args.alphabet.now c.args.text.now c.args.applied.now c.args.config.here back
+    c.args.config.at before l)) c.as_slice-edges.ensures adds) c.follow_edges.ensures
+
+pub returns-in_default-clause-adds : goal.returns-in_default-clause-adds
+returns-in_default-clause-adds g c = on_ok c.follow_edges-in_default.result _ _
+    (λ adds net found sound. subst (λ (l : List Edge).
+    AddsFrom c.args.self.now c.follow_edges-in_default.new.self c.args.config (λ back before.
+    IsOverSome c.args.alphabet.now c.args.text.now c.args.applied.now c.args.config.here back
+    c.args.config.at before l)) c.as_slice-edges.ensures adds) c.follow_edges-in_default.ensures
 
 pub returns-clause-adds : goal.returns-clause-adds
 returns-clause-adds g c = on_ok c.follow_places.result _ _ (λ adds net found sound.

@@ -8,8 +8,9 @@ returns c = on_ok c.put.result _ _ (λ more back before sound spells.
     adds_pending c.args.self.now (record {
       frames = c.args.self.now.frames;
       events = c.args.self.now.events;
+      texts = c.args.self.now.texts;
       pending = c.put.new.set;
       found = c.args.self.now.found;
-    }) (record { frames = refl; events = refl }) sound c.args.config
+    }) (record { frames = refl; events = refl; texts = refl }) sound c.args.config
     (record { frames = c.args.config.here ∷ back; at = c.args.config.at; before = before })
     (record { back = back; before = before; spells = spells; is = refl }) more refl) c.put.ensures

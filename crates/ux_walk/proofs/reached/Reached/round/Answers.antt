@@ -9,12 +9,13 @@ returns-clause-round g c =
     let mid : Reached = record {
       frames = old.frames;
       events = old.events;
+      texts = old.texts;
       pending = c.replace-configs.new.dest;
       found = old.found;
     } in
     rounds c.args.alphabet.now c.args.text.now c.args.applied.now c.args.net.now old mid
     c.step_each.new.self
-    c.as_slice.result.now (record { frames = refl; events = refl }) refl
+    c.as_slice.result.now (record { frames = refl; events = refl; texts = refl }) refl
     (ap (λ s. s.keys) c.replace-configs.ensures.after ∙ c.new.ensures.empty)
     (c.as_slice.ensures.keys ∙ ap (λ s. s.keys) c.replace-configs.ensures.value)
     c.in_ok-step_each.ensures.adds

@@ -1,22 +1,16 @@
-use Rattle.std.proofs.Common.{◌∷◌, refl}
-use Rattle.ux_walk.specs.declared.config.Taken.{Taken}
-use Rattle.ux_walk.specs.declared.reached.Reached.{Reached}
-use Rattle.ux_walk.specs.Courses.{from_to}
+use Rattle.std.proofs.Common.{◌≡◌, ◌∷◌, [], List, refl}
+use Rattle.ux_outputs.specs.declared.event.Event.{Event}
+use Rattle.ux_outputs.specs.declared.event.Event.TheVariants.{Take}
+use Rattle.ux_walk.specs.declared.config.Frame.{Frame}
 use Rattle.ux_walk.proofs.Results.{on_ok}
-use Rattle.ux_walk.proofs.Adding.{adds_event, adds_behind}
+use Rattle.ux_walk.proofs.Adding.{adds_noted}
+use Rattle.ux_walk.proofs.Stepping.{course}
 use Rattle.ux_walk.proofs.reached.Reached.take.Goals as goal
 
 pub returns : goal.returns
-returns c = on_ok c.pend.result _ _ (λ pend back before sound spells.
-    let old = c.args.self.now in
-    let mid : Reached = record {
-      frames = old.frames;
-      events = c.cons.new.self;
-      pending = old.pending;
-      found = old.found;
-    } in
-    let tokens : Taken = from_to c.args.config.at c.args.end in
-    let more = adds_event old mid tokens c.args.config.events c.in_ok-events.events sound
-    c.in_ok-events.ensures refl refl refl before spells.events in
-    adds_behind _ old mid c.pend.new.self more.0 (pend back (tokens ∷ before) more.0.sound
-    (record { frames = spells.frames; events = more.1 }))) c.pend.ensures
+returns c = on_ok c.pend.result _ _ (λ adds.
+    let taken = Take c.args.config.at c.args.end in
+    adds_noted (λ (back : List Frame) (before : List Event) w.
+    w ≡ course (c.args.here ∷ back) c.args.end before) c.args.self.now c.note.new.self
+    c.pend.new.self c.args.config c.args.here c.args.end (taken ∷ []) c.in_ok-events.events
+    (c.in_ok-events.ensures taken refl) adds) c.pend.ensures

@@ -3,13 +3,13 @@ use Rattle.ux_apply.specs.Belonging.{Belongs}
 use Rattle.ux_net.specs.Measured.{IsMeasured}
 use Rattle.ux_net.specs.Nets.{ArePlain}
 use Rattle.ux_walk.specs.Settings.{Setting}
-use Rattle.ux_walker.proofs.StraightLaws.{straight_from_walk}
+use Rattle.ux_walker.proofs.EndsLaws.{ends_from_walk}
 use Rattle.ux_walker.proofs.walker.Walker.ends_from.Goals as goal
 
 pub returns-clause-ends : goal.returns-clause-ends
 returns-clause-ends g c =
     let is = c.self.view_is in
-    straight_from_walk c.walk.new.automaton c.args.self.now
+    ends_from_walk c.walk.new.automaton c.args.self.now
     (c.in_ok-walk.ensures.same ∙ (c.self.invariant.automaton c.if-self.false ∙ is))
     (subst (λ (s : Setting). Belongs s.alphabet s.tokens s.tables) is c.self.invariant.belongs)
     (subst (λ (s : Setting). IsMeasured s.net) is c.is_measured.ensures)

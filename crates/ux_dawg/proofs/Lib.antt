@@ -1,0 +1,15 @@
+pub mod RegisterLemmas
+pub mod PathLemmas
+pub mod MinimalLemmas
+pub mod HeldLemmas
+pub mod SoundLemmas
+pub mod StepLemmas
+pub mod AddLemmas
+pub mod FormsLemmas
+pub mod ListedLemmas
+pub mod BuilderLemmas
+pub mod FitLemmas
+pub mod NumberLemmas
+pub mod FinishLemmas
+pub mod OrderLemmas
+pub mod OneLemmas

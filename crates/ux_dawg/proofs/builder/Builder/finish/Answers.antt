@@ -1,0 +1,22 @@
+use Rattle.std.proofs.Common.{List, sym, subst, ◌∙◌}
+use Rattle.ux_dawg.specs.declared.state.State.{State}
+use Rattle.ux_dawg.specs.Paths.{AreStates}
+use Rattle.ux_dawg.specs.Automaton.{IsMinimalOf}
+use Rattle.ux_dawg.proofs.FinishLemmas.{finished}
+use Rattle.ux_dawg.proofs.BuilderLemmas.{automaton_of}
+use Rattle.ux_dawg.proofs.builder.Builder.finish.Goals as goal
+
+pub of-requires-clause-states : goal.of-requires-clause-states
+of-requires-clause-states c = subst AreStates (sym c.in_ok-into_states.ensures)
+    (finished _ _ _ _ _ _ _ _ c.self.invariant.holds.ready c.in_ok-open.ensures
+    c.in_ok-root.ensures c.states_stand_once.ensures).fit
+
+pub returns : goal.returns
+returns c =
+    subst (λ (states : List State). IsMinimalOf c.args.self states)
+    (sym (c.of.ensures ∙ c.in_ok-into_states.ensures)) (
+      c.in_ok-root.root,
+      automaton_of c.args.self _ _ _ _ c.self.view_is c.self.invariant _ _
+          (finished _ _ _ _ _ _ _ _ c.self.invariant.holds.ready c.in_ok-open.ensures
+          c.in_ok-root.ensures c.states_stand_once.ensures),
+    )

@@ -1,0 +1,7 @@
+pub mod Forms
+pub mod Register
+pub mod Paths
+pub mod Order
+pub mod Building
+pub mod Listed
+pub mod Automaton

@@ -1,0 +1,14 @@
+pub mod CutLemmas
+pub mod SharedLemmas
+pub mod MadeLemmas
+pub mod Utf8Lemmas
+pub mod RebuiltLaws
+pub mod OneEntryLaws
+pub mod KeepLemmas
+pub mod OrderLemmas
+pub mod GroupLemmas
+pub mod NumberLemmas
+pub mod ImageLaws
+pub mod RenumberLemmas
+pub mod TellLemmas
+pub mod Examples

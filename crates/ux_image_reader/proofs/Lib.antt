@@ -1,0 +1,10 @@
+pub mod NumbersLemmas
+pub mod EdgesLemmas
+pub mod StatesLemmas
+pub mod VisitLemmas
+pub mod VisitingLemmas
+pub mod PlacesLemmas
+pub mod FrontLemmas
+pub mod StopLemmas
+pub mod RefusalLemmas
+pub mod RefusalLaws

@@ -1,0 +1,7 @@
+use Rattle.std.proofs.Common.{◌≡◌, take}
+use Rattle.ux_image_reader.specs.Layout.{place_behind}
+use Rattle.ux_image_reader.proofs.states.place_behind.Given as goal
+
+-- the place behind the states so far
+abbrev pub invariant-loop-state : goal.invariant-loop-state
+invariant-loop-state l = l.place ≡ place_behind (take l.state-index l.states)

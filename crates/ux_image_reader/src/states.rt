@@ -1,0 +1,162 @@
+//! Reading states, each of which is tested by itself.
+
+ghost use Rattle.std.specs.Prelude.{◌≡◌, ◌*◌, ◌≤◌, ◌<◌, ◌^◌, ◌↔◌, IfErr, IfOk, IsTrue, SomeIff, length};
+ghost use Rattle.ux_image_reader.specs.Layout.{final_number, place_behind, written, written_edge};
+ghost use Rattle.ux_image_reader.specs.Reading.{EdgePasses, IsAbove, IsNextLetter, Passes, ReadsEdges, ReadsStates, Stops, StopsStates, letters_of, numbers_left};
+ghost use Rattle.ux_image_reader.specs.Tests.{used_by, IsWhole, Pass, PassAsEdges};
+
+use crate::cursor::Cursor;
+use crate::error::ImageError;
+use crate::limits::{Limits, is_alive, is_list};
+use crate::numbers::read_number;
+use std::alloc::Global;
+use ux_dawg::{Edge, Items, State};
+
+/// Reads so many states.
+pub(crate) fn read_states(
+    alloc: Global,
+    count: u32,
+    lists: u32,
+    cursor: &mut Cursor<'_>,
+) -> Result<Vec<State>, ImageError>
+    ensures ok { IfOk result (λ states.
+        ReadsStates count lists count cursor.old cursor.new states.items) }
+    ensures err { IfErr result (StopsStates count lists cursor.old) }
+{
+    let mut states = Vec::new(alloc);
+    let mut used = 0;
+    for number in 0..count {
+        let limits = Limits {
+            count,
+            lists,
+            number,
+            used,
+        };
+        let state = read_state(alloc, limits, cursor)?;
+        used = used.max(number_of_list(state.code));
+        states.push(state)?;
+    }
+    Ok(states)
+}
+
+/// Reads a state, which is tested against the limits.
+fn read_state(alloc: Global, limits: Limits, cursor: &mut Cursor<'_>) -> Result<State, ImageError>
+    ensures ok { IfOk result (λ state. Passes cursor.old cursor.new (written state)) }
+    ensures passed { IfOk result (λ state. Pass limits (written state)) }
+    ensures err { IfErr result (Stops (Pass limits (numbers_left cursor.old))
+        (IsWhole (numbers_left cursor.old)) cursor.old.place) }
+{
+    let offset = cursor.place;
+    let list = read_number(cursor)?;
+    if !is_list(limits, list) {
+        return Err(ImageError::BadState { offset });
+    }
+    let many = read_number(cursor)?;
+    if !is_alive(limits, list, many) {
+        return Err(ImageError::BadState { offset });
+    }
+    let edges = read_edges(alloc, limits.number, many, offset, cursor)?;
+    Ok(State {
+        code: list.checked_sub(1),
+        edges,
+    })
+}
+
+/// How many lists the states use, where they take them in the order of their numbers.
+pub(crate) fn count_used(states: &[State]) -> u32
+    requires { used_by states.now < 2 ^ 32 }
+    ensures { result ≡ used_by states.now }
+{
+    let mut used = 0;
+    for state in states {
+        used = used.max(number_of_list(state.code));
+    }
+    used
+}
+
+/// The place of the byte behind the states.
+pub(crate) fn place_behind(states: &[State]) -> usize
+    requires { place_behind states.now < 2 ^ 64 }
+    ensures { result ≡ place_behind states.now }
+{
+    let mut place = 16;
+    for state in states {
+        place += 8 + 8 * state.edges.as_slice().len();
+    }
+    place
+}
+
+/// The number of a list as it is written.
+fn number_of_list(list: Option<u32>) -> u32
+    requires { final_number list < 2 ^ 32 }
+    ensures { result ≡ final_number list }
+{
+    match list {
+        Some(list) => list + 1,
+        None => 0,
+    }
+}
+
+/// Reads so many edges of the state of this number, which begins at the offset.
+fn read_edges(
+    alloc: Global,
+    number: u32,
+    many: u32,
+    offset: usize,
+    cursor: &mut Cursor<'_>,
+) -> Result<Items<Edge>, ImageError>
+    ensures ok { IfOk result (ReadsEdges number many cursor.old cursor.new) }
+    ensures err { IfErr result (Stops (PassAsEdges number many (numbers_left cursor.old))
+        (2 * many ≤ length (numbers_left cursor.old)) offset) }
+{
+    let mut edges = Items::empty(alloc);
+    for _ in 0..many {
+        let edge = read_edge(number, edges.as_slice(), offset, cursor)?;
+        edges.push(edge)?;
+    }
+    Ok(edges)
+}
+
+/// Reads the edge behind these ones.
+fn read_edge(
+    number: u32,
+    before: &[Edge],
+    offset: usize,
+    cursor: &mut Cursor<'_>,
+) -> Result<Edge, ImageError>
+    ensures ok { IfOk result (λ edge. Passes cursor.old cursor.new (written_edge edge)) }
+    ensures passed { IfOk result (λ edge. EdgePasses number before.now (written_edge edge)) }
+    ensures err { IfErr result (Stops (EdgePasses number before.now (numbers_left cursor.old))
+        (2 ≤ length (numbers_left cursor.old)) offset) }
+{
+    let code = read_number(cursor)?;
+    let Some(letter) = letter_of(before, code) else {
+        return Err(ImageError::BadState { offset });
+    };
+    let target = read_number(cursor)?;
+    if target >= number {
+        return Err(ImageError::BadState { offset });
+    }
+    Ok(Edge { letter, target })
+}
+
+/// The character of this code, if it may stand behind these edges.
+fn letter_of(before: &[Edge], code: u32) -> Option<char>
+    ensures { SomeIff result (IsNextLetter before.now code) code }
+{
+    let letter = char::from_u32(code)?;
+    if letter == '\n' || !is_above(before, letter) {
+        return None;
+    }
+    Some(letter)
+}
+
+/// Whether the character is higher than that of the last edge.
+fn is_above(before: &[Edge], letter: char) -> bool
+    ensures { IsTrue result ↔ IsAbove (letters_of before.now) letter }
+{
+    match before.last() {
+        Some(edge) => edge.letter < letter,
+        None => true,
+    }
+}

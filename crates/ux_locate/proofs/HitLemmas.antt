@@ -1,0 +1,88 @@
+-- The hits that derivations render, one derivation after another.
+use Rattle.std.proofs.Common.{◌≡◌, ℕ, List, [], ◌∷◌, ◌++◌, sym, ◌∙◌, subst, inl, inr}
+use Rattle.std.specs.Prelude.{◌↔◌, Contains, None}
+use Rattle.std.proofs.lemmas.Option.{same_Some, none-some}
+use Rattle.std.proofs.lemmas.List.Elements.{Contains-append_left, Contains-push, Contains-push_cases}
+use Rattle.ux_net.specs.Nets.{net_grammar}
+use Rattle.ux_outputs.specs.declared.event.Event.{Event}
+use Rattle.ux_outputs.specs.declared.hit.Hit.{Hit}
+use Rattle.ux_outputs.specs.Rendering.{render}
+use Rattle.ux_walk.specs.Ends.{AreEnds}
+use Rattle.ux_walk.specs.Noting.{Includes}
+use Rattle.ux_walk.specs.Settings.{Derives}
+use Rattle.ux_locate.specs.declared.search.Search.{Search}
+use Rattle.ux_locate.specs.Finding.{BelongIn, IsFound, IsHitFrom, IsRendered, setting_in}
+use Rattle.ux_locate.specs.Hits.{IsHit, IsStart}
+use Rattle.ux_locate.specs.Index.{IsListing, StandsBefore}
+use Rattle.ux_locate.specs.Order.{AreInOrder}
+use Rattle.ux_locate.proofs.FoundLemmas.{no_ends_no_hit}
+
+module _ (search : Search) (start : ℕ) where
+  module _ (derivation : ℕ × List Event) where
+    -- where the hit is added, the hit that the derivation renders is
+    pub hit_pushed : (hit : Hit) → IsRendered search start derivation hit → (old new : List Hit) →
+        new ≡ old ++ hit ∷ [] → Includes (IsRendered search start derivation) old new
+    hit_pushed hit rendered old new is =
+        subst (Includes (IsRendered search start derivation) old) (sym is) (record {
+          kept = λ other c. Contains-append_left old (hit ∷ []) other c;
+          only = λ other c. elim (Contains-push_cases old hit other c) [
+            | inl o ↦ inl o
+            | inr same ↦ inr
+                (subst (λ (h : Hit). IsRendered search start derivation h) same rendered)
+          ];
+          has = λ other f.
+              subst (Contains (old ++ hit ∷ [])) (same_Some hit other (sym rendered ∙ f))
+              (Contains-push old hit);
+        })
+
+    -- where nothing is rendered, nothing is added
+    pub none_pushed : render search.text.now search.mode search.novar start derivation.1 ≡ None →
+        (old : List Hit) → Includes (IsRendered search start derivation) old old
+    none_pushed none old = record {
+      kept = λ hit c. c;
+      only = λ hit c. inl c;
+      has = λ hit f. absurd (none-some hit (sym none ∙ f));
+    }
+
+  -- where the hits of all derivations from the start are added, the hits from the start are
+  pub hits_pushed : (found : List (ℕ × List Event)) → ((end : ℕ) (events : List Event) →
+      Contains found (end, events) ↔ Derives (setting_in search) start end events) →
+      (old new : List Hit) → Includes (λ hit. (derivation : ℕ × List Event)
+      × Contains found derivation × IsRendered search start derivation hit) old new →
+      Includes (IsHitFrom search start) old new
+  hits_pushed found exactly old new g = record {
+    kept = g.kept;
+    only = λ hit c. elim (g.only hit c) [
+      | inl o ↦ inl o
+      | inr ((end, events), inside, rendered) ↦
+          inr (end, events, (exactly end events).0 inside, rendered)
+    ];
+    has = λ hit f. g.has hit ((f.0, f.1), (exactly f.0 f.1).1 f.2, f.3);
+  }
+
+  -- where no derivation ends after the start, no hit comes from it
+  pub no_hits : BelongIn search → AreEnds (setting_in search) start [] →
+      IsStart search.text.now start → (hit : Hit) → IsHitFrom search start hit → ⊥
+  no_hits belongs are starts hit (end, events, derives, rendered) =
+      no_ends_no_hit (setting_in search) belongs start end events starts derives search.mode
+      search.novar hit rendered are
+
+-- what comes from all starts is every hit
+pub hits_listing : (search : Search) (hits : List Hit) → ((hit : Hit) → Contains hits hit
+    ↔ IsFound search.text.now (IsHitFrom search) hit) → AreInOrder StandsBefore hits →
+    IsListing (IsHit search.alphabet.now search.text.now search.applied.now
+    (net_grammar search.net.now) search.mode search.novar) hits
+hits_listing search hits all ordered = record {
+  exactly = λ hit. (
+    λ c. let f = (all hit).0 c in record {
+      start = f.0;
+      starts = f.1;
+      end = f.2.0;
+      events = f.2.1;
+      derived = f.2.2;
+      rendered = f.2.3;
+    },
+    λ h. (all hit).1 (h.start, h.starts, (h.end, h.events, h.derived, h.rendered)),
+  );
+  ordered = ordered;
+}

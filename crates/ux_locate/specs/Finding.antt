@@ -1,0 +1,61 @@
+-- What a search finds, start by start. Inner: the crate's own functions alone speak of it.
+use Rattle.std.specs.Prelude.{◌≡◌, ℕ, ◌-◌, ◌<◌, List, Some}
+use Rattle.ux_apply.specs.Belonging.{Belongs}
+use Rattle.ux_tokens.specs.Numbers.{different_texts}
+use Rattle.ux_tokens.specs.Tokens.{Token}
+use Rattle.ux_outputs.specs.declared.event.Event.{Event}
+use Rattle.ux_outputs.specs.declared.hit.Hit.{Hit}
+use Rattle.ux_outputs.specs.declared.span.Span.{Span}
+use Rattle.ux_outputs.specs.Rendering.{render}
+use Rattle.ux_walk.specs.declared.look_ups.LookUps.{LookUps}
+use Rattle.ux_walk.specs.LookUps.{AreSound}
+use Rattle.ux_walk.specs.Settings.{Derives, Setting, setting_of}
+use Rattle.ux_locate.specs.declared.search.Search.{Search}
+use Rattle.ux_locate.specs.Hits.{IsStart}
+
+-- the span from a start up to a later position
+abbrev pub span_to : ℕ → ℕ → Span
+span_to start end = record { first = start; last = end - 1 }
+
+-- a derivation from the start ends so, and takes tokens
+abbrev pub EndsAt : Setting → (start end : ℕ) → Type 0
+EndsAt setting start end =
+    (start < end) × (events : List Event) × Derives setting start end events
+
+-- the span is that from the start up to the end of a derivation
+abbrev pub IsSpanFrom : Setting → (start : ℕ) → Span → Type 0
+IsSpanFrom setting start span =
+    (end : ℕ) × EndsAt setting start end × (span ≡ span_to start end)
+
+-- the setting of a search
+abbrev pub setting_in : Search → Setting
+setting_in search =
+    setting_of search.net.now search.text.now search.alphabet.now search.applied.now
+
+-- the entries belong to the text
+abbrev pub BelongIn : Search → Type 0
+BelongIn search = Belongs search.alphabet.now search.text.now search.applied.now
+
+-- the look-ups are those of the search
+abbrev pub AreKeptFor : Search → LookUps → Type 0
+AreKeptFor search look_ups =
+    AreSound search.alphabet.now search.net.now (different_texts search.text.now) look_ups
+
+-- a derivation from the start, an end and its events, renders the hit
+abbrev pub IsRendered : Search → (start : ℕ) → ℕ × List Event → Hit → Type 0
+IsRendered search start derivation hit =
+    render search.text.now search.mode search.novar start derivation.1 ≡ Some hit
+
+-- some derivation from the start does
+abbrev pub IsHitFrom : Search → (start : ℕ) → Hit → Type 0
+IsHitFrom search start hit = (end : ℕ) × (events : List Event)
+    × Derives (setting_in search) start end events × IsRendered search start (end, events) hit
+
+-- it comes from some start of a search
+abbrev pub IsFound : {X : Type 0} → List Token → (From : ℕ → X → Type 0) → X → Type 0
+IsFound tokens From x = (start : ℕ) × IsStart tokens start × From start x
+
+-- it comes from a start before this one
+abbrev pub IsFoundBefore : {X : Type 0} → List Token → (From : ℕ → X → Type 0) → ℕ → X → Type 0
+IsFoundBefore tokens From count x =
+    (start : ℕ) × (start < count) × IsStart tokens start × From start x

@@ -1,0 +1,27 @@
+//! The hits of a grammar in a text, each once and by place, and their index.
+//!
+//! In go a net and a text with the entries that apply to it, and out come hits: `specs/Hits.antt` says
+//! what a hit is, and `specs/Index.antt` how hits are listed and written. Positions are counted in
+//! tokens, from 0.
+//!
+//! `locate` renders the derivations from each start at which one ends (`locating`). Where outputs are
+//! ignored `locate_spans` lists the same hits by their first and last token (`spans`), and `span_index`
+//! takes their texts from the corpus as it writes: a text of millions of hits needs no copy of each.
+//! `walks` alone speaks of the walker.
+//!
+//! ```text
+//! let hits = locate(alloc, &net, &text, &alphabet, &applied, Mode::Merge, NoVar::Nothing, steps)?;
+//! let index = index_text(alloc, Mode::Merge, hits.as_slice())?;
+//! ```
+#![tactic(auto)]
+
+mod index;
+mod locating;
+mod search;
+mod sorting;
+mod spans;
+mod walks;
+
+pub use index::{index_text, span_index};
+pub use locating::locate;
+pub use spans::locate_spans;

@@ -1,0 +1,237 @@
+//! Images and what stands in them, or their first faults, by rows.
+
+use crate::comparing::compare;
+use std::alloc::{AllocError, Global};
+use std::process::Abort;
+use std::test::Fail;
+use ux_image_reader::{Version, read_front};
+
+const MAGIC: &[u8] = b"UXUDI\x02\r\n";
+
+/// A row's name, the numbers behind the magic, and what stands in the front or the refusal.
+type Row = (&'static str, &'static [u32], &'static str);
+
+/// The numbers of `cat,.N:s` and `cats,cat.N:p`: state 4 is the root, state 0 ends `cats`.
+const CATS: &[u32] = &[
+    5, 2, 1, 0, 2, 1, 0x73, 0, 0, 1, 0x74, 1, 0, 1, 0x61, 2, 0, 1, 0x63, 3,
+];
+
+/// The magic and the numbers.
+fn image_of(alloc: Global, numbers: &[u32]) -> Result<Vec<u8>, AllocError> {
+    let mut bytes = Vec::new(alloc);
+    bytes.extend_from_slice(MAGIC)?;
+    for number in numbers {
+        bytes.extend_from_slice(&number.to_le_bytes())?;
+    }
+    Ok(bytes)
+}
+
+/// What stands in the front of a file, or the refusal.
+fn shown(alloc: Global, bytes: &[u8]) -> Result<String, AllocError> {
+    match read_front(alloc, bytes) {
+        Ok(front) => {
+            let version = match front.version {
+                Version::One => 1,
+                Version::Two => 2,
+            };
+            let states = front.states.as_slice().len();
+            let lists = front.lists;
+            let end = front.end;
+            format!(in alloc; "version {version}, {states} states, {lists} lists from byte {end}")
+        },
+        Err(error) => format!(in alloc; "{error}"),
+    }
+}
+
+fn compare_fronts(rt: &impl Abort, alloc: Global, rows: &[Row]) -> Result<(), Fail> {
+    for (name, numbers, want) in rows {
+        let image = image_of(alloc, numbers)?;
+        let got = shown(alloc, &image)?;
+        compare(rt, name, got.as_str(), *want);
+    }
+    Ok(())
+}
+
+#[test]
+fn reads_fronts(rt: HostRuntime) -> Result<(), Fail> {
+    const ROWS: &[Row] = &[
+        (
+            "no entry",
+            &[1, 0, 0, 0],
+            "version 2, 1 states, 0 lists from byte 24",
+        ),
+        (
+            "`cat` and `cats`",
+            CATS,
+            "version 2, 5 states, 2 lists from byte 88",
+        ),
+        (
+            "`a` and `b` with one list",
+            &[2, 1, 1, 0, 0, 2, 0x61, 0, 0x62, 0],
+            "version 2, 2 states, 1 lists from byte 48",
+        ),
+        (
+            "`a`, `ab` and `bb`, where the visit comes back",
+            &[
+                4, 1, 1, 0, 1, 1, 0x62, 0, 0, 1, 0x62, 0, 0, 2, 0x61, 1, 0x62, 2,
+            ],
+            "version 2, 4 states, 1 lists from byte 80",
+        ),
+        (
+            "numbers behind the states, which aren't read",
+            &[1, 0, 0, 0, 7],
+            "version 2, 1 states, 0 lists from byte 24",
+        ),
+    ];
+    compare_fronts(&rt, rt.alloc(), ROWS)
+}
+
+#[test]
+fn names_states_by_themselves(rt: HostRuntime) -> Result<(), Fail> {
+    const ROWS: &[Row] = &[
+        ("no state", &[0, 0], "BadState offset=8"),
+        ("no state, and no count of lists", &[0], "BadState offset=8"),
+        ("a list that isn't there", &[2, 0, 1], "BadState offset=16"),
+        ("list 1 before list 0", &[2, 2, 2], "BadState offset=16"),
+        (
+            "a state without list and edges",
+            &[2, 1, 0, 0],
+            "BadState offset=16",
+        ),
+        ("no list, as far as it is there", &[2, 1, 0], "Short"),
+        ("a line feed", &[2, 1, 1, 0, 0, 1, 10], "BadState offset=24"),
+        (
+            "a surrogate",
+            &[2, 1, 1, 0, 0, 1, 0xd800],
+            "BadState offset=24",
+        ),
+        (
+            "no character",
+            &[2, 1, 1, 0, 0, 1, 0x11_0000],
+            "BadState offset=24",
+        ),
+        (
+            "the last character",
+            &[2, 1, 1, 0, 0, 1, 0x10_ffff, 0],
+            "version 2, 2 states, 1 lists from byte 40",
+        ),
+        (
+            "a character twice",
+            &[2, 1, 1, 0, 0, 2, 0x61, 0, 0x61],
+            "BadState offset=24",
+        ),
+        (
+            "characters in descending order",
+            &[2, 1, 1, 0, 0, 2, 0x62, 0, 0x61],
+            "BadState offset=24",
+        ),
+        (
+            "an edge to the state itself",
+            &[2, 1, 1, 0, 0, 1, 0x61, 1],
+            "BadState offset=24",
+        ),
+        (
+            "an edge of state 0",
+            &[1, 0, 0, 1, 0x61, 0],
+            "BadState offset=16",
+        ),
+        (
+            "an edge of state 0 without its target",
+            &[1, 0, 0, 1, 0x61],
+            "Short",
+        ),
+        (
+            "as many edges as can be told",
+            &[2, 1, 1, 0, 0, 0xffff_ffff, 0x61, 0],
+            "Short",
+        ),
+        (
+            "a fault of the state before a fault behind it",
+            &[3, 1, 1, 0, 0, 1, 10, 0, 9],
+            "BadState offset=24",
+        ),
+    ];
+    compare_fronts(&rt, rt.alloc(), ROWS)
+}
+
+#[test]
+fn names_states_among_others(rt: HostRuntime) -> Result<(), Fail> {
+    const ROWS: &[Row] = &[
+        (
+            "the root is final",
+            &[2, 1, 1, 0, 1, 1, 0x61, 0],
+            "BadState offset=24",
+        ),
+        (
+            "one state, which is final",
+            &[1, 1, 1, 0],
+            "BadState offset=16",
+        ),
+        (
+            "equal states",
+            &[3, 1, 1, 0, 1, 0, 0, 2, 0x61, 0, 0x62, 1],
+            "BadState offset=24",
+        ),
+        (
+            "a state that the root doesn't reach",
+            &[3, 1, 1, 0, 1, 1, 0x61, 0, 0, 1, 0x61, 0],
+            "BadState offset=24",
+        ),
+        (
+            "two states in the other order",
+            &[
+                4, 1, 1, 0, 0, 1, 0x61, 0, 0, 1, 0x62, 0, 0, 2, 0x61, 2, 0x62, 1,
+            ],
+            "BadState offset=24",
+        ),
+        (
+            "a list that no state uses",
+            &[2, 2, 1, 0, 0, 1, 0x61, 0],
+            "BadState offset=12",
+        ),
+        (
+            "a list without a state",
+            &[1, 1, 0, 0],
+            "BadState offset=12",
+        ),
+        (
+            "a list that no state uses, and a final root",
+            &[2, 2, 1, 0, 1, 1, 0x61, 0],
+            "BadState offset=24",
+        ),
+    ];
+    compare_fronts(&rt, rt.alloc(), ROWS)
+}
+
+#[test]
+fn names_other_magics(rt: HostRuntime) -> Result<(), Fail> {
+    const ROWS: &[(&str, &[u8], &str)] = &[
+        ("nothing", b"", "Short"),
+        ("one byte", b"U", "Short"),
+        ("another first byte", b"T", "BadMagic"),
+        ("seven bytes", b"UXUDI\x01\r", "Short"),
+        ("version 3", b"UXUDI\x03", "BadMagic"),
+        ("the magic alone", b"UXUDI\x01\r\n", "Short"),
+        ("a part of a number", b"UXUDI\x02\r\n\x00\x00\x00", "Short"),
+        (
+            "version 1",
+            b"UXUDI\x01\r\n\x01\x00\x00\x00\x00\x00\x00\x00\x00\x00\x00\x00\x00\x00\x00\x00",
+            "version 1, 1 states, 0 lists from byte 24",
+        ),
+    ];
+    for (name, bytes, want) in ROWS {
+        let got = shown(rt.alloc(), bytes)?;
+        compare(&rt, name, got.as_str(), *want);
+    }
+    Ok(())
+}
+
+#[test]
+fn refuses_each_front_of_an_image(rt: HostRuntime) -> Result<(), Fail> {
+    let image = image_of(rt.alloc(), CATS)?;
+    for end in 0..image.len() {
+        let got = shown(rt.alloc(), &image.as_slice()[..end])?;
+        compare(&rt, "a front", got.as_str(), "Short");
+    }
+    Ok(())
+}
