@@ -1,7 +1,7 @@
 use Rattle.std.proofs.Common.{◌≡◌, ◌+◌, ◌++◌, drop, map}
 use Rattle.std.specs.List.{range_with_len}
 use Rattle.ux_net.specs.Ranks.{silent_len, rest_rank, rest_free}
-use Rattle.ux_net.proofs.ranks.push_line.Given as goal
+use Rattle.ux_net.proofs.ranks.push_labels.Given as goal
 
 abbrev pub invariant-loop-k : goal.invariant-loop-k
 invariant-loop-k l = record {
