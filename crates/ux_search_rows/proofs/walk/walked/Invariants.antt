@@ -1,4 +1,4 @@
-use Rattle.ux_rows.proofs.walk.walked.Given as goal
+use Rattle.ux_search_rows.proofs.walk.walked.Given as goal
 
 -- steps are counted in the ledger of the blank
 abbrev pub ghosts-walked_by : goal.ghosts-walked_by

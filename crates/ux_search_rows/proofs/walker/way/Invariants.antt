@@ -1,4 +1,4 @@
-use Rattle.ux_rows.proofs.walker.way.Given as goal
+use Rattle.ux_search_rows.proofs.walker.way.Given as goal
 
 -- steps are counted in the ledger of the blank
 abbrev pub ghosts-way_by : goal.ghosts-way_by

@@ -189,7 +189,17 @@ fn an_output_stands_on_the_first_edge_of_each_line(rt: HostRuntime) -> Result<()
         (
             "before a call",
             &["E|2 | B/x|1", "E|2 | b|1"],
-            ":B/x1t :b1t",
+            ":E/x2t:B1 :b1t",
+        ),
+        (
+            "before a call between two words",
+            &["E|2 | a|3 B/x|4 b|1", "E|2 | b|1"],
+            ":a1:E/x4:b3t:B2 :b1t",
+        ),
+        (
+            "of two lines, one of them a call",
+            &["E|2 | a+B/x|1", "E|2 | b|1"],
+            ":a/x1E/x2t:B1 :b1t",
         ),
         ("with a value", &["E|2 | a/x$y$|1"], ":a/x$y$1t"),
         (
