@@ -14,8 +14,8 @@ PREFIX ?= /usr/local
 # A run by `rt try` is given copies of these, since it sees no files but those that it is handed.
 FILES := time.grf part.grf text.txt alphabet.txt
 
-# In the order of crates.txt, which begins with the lowest layer. `ux_rows` has tests alone, so no program needs it.
-CRATES := $(filter-out ux_rows,$(shell sed -n 's/^\([a-z0-9_]*\).*:.*/\1/p' crates.txt))
+# In the order of crates.txt, which begins with the lowest layer. Crates of rows have tests alone, so no program needs them.
+CRATES := $(filter-out ux_rows ux_search_rows,$(shell sed -n 's/^\([a-z0-9_]*\).*:.*/\1/p' crates.txt))
 
 example:
 	@echo 'unitex locate time.grf text.txt alphabet.txt, unproved: compiling, about a minute'
@@ -48,6 +48,8 @@ bench:
 	@bench/dico.py
 	@bench/masks.py
 	@bench/outputs.py
+	@bench/policies.py
+	@bench/concord.py
 
 gate:
 	@rt ci

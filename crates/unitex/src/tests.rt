@@ -1,5 +1,6 @@
 //! Rows of the top call over a folder and sinks in memory.
 
+mod concordances;
 mod dictionaries;
 mod encodings;
 mod fakes;
@@ -9,6 +10,7 @@ mod mask_refusals;
 mod masks;
 mod outputs;
 mod plain;
+mod policies;
 mod refusals;
 mod reports;
 mod requests;

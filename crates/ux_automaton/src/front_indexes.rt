@@ -26,6 +26,9 @@ use ux_walk::words::Words;
 /// As many stands are tried one by one: no index of them is made before one of more was.
 const FEW: usize = 8;
 
+/// As many comparisons of a literal with a token are spent to make the index of few stands.
+const FEW_COMPARED: usize = 1024;
+
 /// As many comparisons of a literal with a token are spent to make indexes.
 const MOST_COMPARED: usize = 67_108_864;
 
@@ -108,10 +111,18 @@ impl<'t> FrontIndexes<'t> {
         Ok(stands)
     }
 
-    /// Whether an index of these stands is worth its cost. Where the list of the different tokens is
-    /// there, that is little for few stands of few edges.
+    /// Whether an index of these stands is worth its cost. For few stands of few edges it is where the
+    /// list of the different tokens is there, and few of these may be capitalised forms of others.
     fn is_worth(&self, net: &Net, stands: &[Stand]) -> bool {
-        FEW < stands.len() || (self.words.is_some() && edges_in(net, stands) <= FEW)
+        FEW < stands.len() || self.is_cheap(edges_in(net, stands))
+    }
+
+    /// Whether so many edges are few, and compared with few tokens.
+    fn is_cheap(&self, edges: usize) -> bool {
+        match &self.words {
+            Some(words) => edges <= FEW && words.cost(edges) <= FEW_COMPARED,
+            None => false,
+        }
     }
 
     /// Makes the index of a front, which has these stands, where it is worth its cost and the bounds

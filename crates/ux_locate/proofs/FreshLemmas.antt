@@ -17,7 +17,7 @@ use Rattle.ux_outputs.specs.Variables.{Asked, Named, asked_by, input, is_set, is
 use Rattle.ux_outputs.proofs.FollowingLemmas.{Follows-forward}
 
 -- nothing goes on, or a state of the same span
-abbrev KeepsSpan : State → Option State → Type 0
+abbrev pub KeepsSpan : State → Option State → Type 0
 KeepsSpan state after =
     (after ≡ None) ⊎ ((next : State) × (after ≡ Some next) × (next.span ≡ state.span))
 
@@ -31,17 +31,17 @@ test_keeps : (state : State) (holds : Bool) → KeepsSpan state (after_test stat
 test_keeps state true = inr (state, refl, refl)
 test_keeps state false = inl refl
 
-asked_keeps : (novar : NoVar) (state : State) (asked : Asked) →
+pub asked_keeps : (novar : NoVar) (state : State) (asked : Asked) →
     KeepsSpan state (after_asked novar state asked)
 asked_keeps novar state (value_of name) = value_keeps novar state (state.variables name).value
 asked_keeps novar state (is_set name) = test_keeps state (is_some (state.variables name).value)
 asked_keeps novar state (is_unset name) = test_keeps state (is_none (state.variables name).value)
 
-begin_keeps : (state : State) (named : Named) → (after_begin state named).span ≡ state.span
+pub begin_keeps : (state : State) (named : Named) → (after_begin state named).span ≡ state.span
 begin_keeps state (input name) = refl
 begin_keeps state (output name) = refl
 
-end_keeps : (tokens : List Token) (state : State) (named : Named) →
+pub end_keeps : (tokens : List Token) (state : State) (named : Named) →
     (after_end tokens state named).span ≡ state.span
 end_keeps tokens state (input name) = refl
 end_keeps tokens state (output name) = refl

@@ -3,7 +3,7 @@ use Rattle.std.proofs.Common.{◌≡◌, ℕ, List, [], ◌∷◌, ◌++◌, sym
 use Rattle.std.specs.Prelude.{◌↔◌, Contains, None}
 use Rattle.std.proofs.lemmas.Option.{same_Some, none-some}
 use Rattle.std.proofs.lemmas.List.Elements.{Contains-append_left, Contains-push, Contains-push_cases}
-use Rattle.ux_net.specs.Nets.{net_grammar}
+use Rattle.ux_net.specs.Nets.{ArePlain, net_grammar}
 use Rattle.ux_outputs.specs.declared.event.Event.{Event}
 use Rattle.ux_outputs.specs.declared.hit.Hit.{Hit}
 use Rattle.ux_outputs.specs.Rendering.{render}
@@ -13,9 +13,11 @@ use Rattle.ux_walk.specs.Settings.{Derives}
 use Rattle.ux_locate.specs.declared.search.Search.{Search}
 use Rattle.ux_locate.specs.Finding.{BelongIn, IsFound, IsHitFrom, IsRendered, setting_in}
 use Rattle.ux_locate.specs.Hits.{IsHit, IsStart}
-use Rattle.ux_locate.specs.Index.{IsListing, StandsBefore}
-use Rattle.ux_locate.specs.Order.{AreInOrder}
-use Rattle.ux_locate.proofs.FoundLemmas.{no_ends_no_hit}
+use Rattle.ux_locate.specs.Keeping.{AreBest, first_of, last_of}
+use Rattle.ux_locate.proofs.BeginLemmas.{renders_from_start}
+use Rattle.ux_locate.proofs.BestLemmas.{best_same}
+use Rattle.ux_locate.proofs.CutLaws.{derivation_uncut}
+use Rattle.ux_locate.proofs.FoundLemmas.{followed, no_ends_no_hit}
 
 module _ (search : Search) (start : ℕ) where
   module _ (derivation : ℕ × List Event) where
@@ -44,21 +46,27 @@ module _ (search : Search) (start : ℕ) where
       has = λ hit f. absurd (none-some hit (sym none ∙ f));
     }
 
-  -- where the hits of all derivations from the start are added, the hits from the start are
-  pub hits_pushed : (found : List (ℕ × List Event)) → ((end : ℕ) (events : List Event) →
+  -- of the hits of all derivations from the start, the best are the best from the start
+  pub hits_best : (found : List (ℕ × List Event)) → ((end : ℕ) (events : List Event) →
       Contains found (end, events) ↔ Derives (setting_in search) start end events) →
-      (old new : List Hit) → Includes (λ hit. (derivation : ℕ × List Event)
-      × Contains found derivation × IsRendered search start derivation hit) old new →
-      Includes (IsHitFrom search start) old new
-  hits_pushed found exactly old new g = record {
-    kept = g.kept;
-    only = λ hit c. elim (g.only hit c) [
-      | inl o ↦ inl o
-      | inr ((end, events), inside, rendered) ↦
-          inr (end, events, (exactly end events).0 inside, rendered)
-    ];
-    has = λ hit f. g.has hit ((f.0, f.1), (exactly f.0 f.1).1 f.2, f.3);
-  }
+      (best : List Hit) → AreBest search.policy last_of (λ hit. (derivation : ℕ × List Event)
+      × Contains found derivation × IsRendered search start derivation hit) best →
+      AreBest search.policy last_of (IsHitFrom search start) best
+  hits_best found exactly best are = best_same search.policy last_of
+      (λ hit. (derivation : ℕ × List Event)
+      × Contains found derivation × IsRendered search start derivation hit)
+      (IsHitFrom search start) (λ hit. (
+        λ f. (f.0.0, f.0.1, (exactly f.0.0 f.0.1).0 f.1, f.2),
+        λ f. ((f.0, f.1), (exactly f.0 f.1).1 f.2, f.3),
+      )) best are
+
+  -- a hit from a start begins there
+  pub hit_begins : BelongIn search → ArePlain search.net.now → IsStart search.text.now start →
+      (hit : Hit) → IsHitFrom search start hit → first_of hit ≡ start
+  hit_begins belongs plain starts hit (end, events, derives, rendered) =
+      let follow = followed (setting_in search) belongs start end events starts derives in
+      renders_from_start search.text.now search.novar start starts search.mode end events hit
+      follow.0 (derivation_uncut (setting_in search) plain start end events derives) rendered
 
   -- where no derivation ends after the start, no hit comes from it
   pub no_hits : BelongIn search → AreEnds (setting_in search) start [] →
@@ -68,21 +76,17 @@ module _ (search : Search) (start : ℕ) where
       search.novar hit rendered are
 
 -- what comes from all starts is every hit
-pub hits_listing : (search : Search) (hits : List Hit) → ((hit : Hit) → Contains hits hit
-    ↔ IsFound search.text.now (IsHitFrom search) hit) → AreInOrder StandsBefore hits →
-    IsListing (IsHit search.alphabet.now search.text.now search.applied.now
-    (net_grammar search.net.now) search.mode search.novar) hits
-hits_listing search hits all ordered = record {
-  exactly = λ hit. (
-    λ c. let f = (all hit).0 c in record {
-      start = f.0;
-      starts = f.1;
-      end = f.2.0;
-      events = f.2.1;
-      derived = f.2.2;
-      rendered = f.2.3;
-    },
-    λ h. (all hit).1 (h.start, h.starts, (h.end, h.events, h.derived, h.rendered)),
-  );
-  ordered = ordered;
-}
+pub found_hit : (search : Search) (hit : Hit) → IsFound search.text.now (IsHitFrom search) hit
+    ↔ IsHit search.alphabet.now search.text.now search.applied.now (net_grammar search.net.now)
+    search.mode search.novar hit
+found_hit search hit = (
+  λ f. record {
+    start = f.0;
+    starts = f.1;
+    end = f.2.0;
+    events = f.2.1;
+    derived = f.2.2;
+    rendered = f.2.3;
+  },
+  λ h. (h.start, h.starts, (h.end, h.events, h.derived, h.rendered)),
+)

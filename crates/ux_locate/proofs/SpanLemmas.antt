@@ -1,10 +1,14 @@
--- Where outputs are ignored, the hits are the spans from starts up to the ends of derivations.
-use Rattle.std.proofs.Common.{arith, ◌≡◌, ℕ, zero, suc, ◌+◌, ◌-◌, ◌<◌, List, [], ◌∷◌, ◌++◌, refl, sym, ◌∙◌, ap, subst, inl, inr, map, get_or}
+-- Where outputs are ignored, the hits are the spans from starts up to the ends of derivations, and the
+-- kept hits are the kept spans.
+use Rattle.std.proofs.Common.{arith, ◌≡◌, ℕ, zero, suc, ◌+◌, ◌-◌, ◌<◌, List, [], ◌∷◌, refl, sym, ◌∙◌, ap, subst, inl, inr, map, get_or}
 use Rattle.std.specs.Prelude.{◌↔◌, All, Contains, Some, slice_get}
 use Rattle.std.proofs.lemmas.Option.{same_Some}
-use Rattle.std.proofs.lemmas.List.Elements.{Contains-append_left, Contains-append_right, Contains-append_cases, Contains-get_or}
+use Rattle.std.proofs.lemmas.List.Elements.{Contains-get_or}
 use Rattle.ux_base.specs.declared.settings.Mode.TheVariants.{Ignore}
 use Rattle.ux_base.specs.declared.settings.NoVar.{NoVar}
+use Rattle.ux_base.specs.declared.settings.Policy.{Policy}
+use Rattle.ux_base.specs.declared.settings.Policy.TheVariants.{Shortest, Longest}
+use Rattle.ux_base.specs.declared.settings.Policy.TheVariants as policies
 use Rattle.ux_apply.specs.Belonging.{Belongs}
 use Rattle.ux_net.specs.Nets.{ArePlain, net_grammar}
 use Rattle.ux_outputs.specs.declared.hit.Hit.{Hit}
@@ -12,15 +16,16 @@ use Rattle.ux_outputs.specs.declared.span.Span.{Span}
 use Rattle.ux_outputs.specs.Rendering.{text_between}
 use Rattle.ux_outputs.proofs.TakesLemmas.{hit_between, renders_uncut}
 use Rattle.ux_walk.specs.Ends.{AreEnds}
-use Rattle.ux_walk.specs.Noting.{Includes}
 use Rattle.ux_walk.specs.Settings.{Setting}
 use Rattle.ux_locate.specs.Finding.{IsFound, IsSpanFrom, span_to}
-use Rattle.ux_locate.specs.Hits.{IsHit}
-use Rattle.ux_locate.specs.Index.{IsListing, StandsBefore}
+use Rattle.ux_locate.specs.Hits.{IsHit, IsStart}
+use Rattle.ux_locate.specs.Index.{IsKeptListing, StandsBefore}
+use Rattle.ux_locate.specs.Keeping.{AreBest, AreKept, IsAsGood, IsKept, first_in, first_of, last_in, last_of}
 use Rattle.ux_locate.specs.Order.{AreInOrder, Precedes}
 use Rattle.ux_locate.specs.Spans.{LiesIn, hit_at}
 use Rattle.ux_locate.proofs.CutLaws.{derivation_uncut}
 use Rattle.ux_locate.proofs.FoundLemmas.{ends_after, followed, nothing_in}
+use Rattle.ux_locate.proofs.KeptLemmas.{keeps, kept_by}
 
 module _ {A B : Type 0} (f : A → B) where
   mapped : (xs : List A) (x : A) → Contains xs x → Contains (map f xs) (f x)
@@ -43,27 +48,63 @@ module _ {A B : Type 0} (f : A → B) where
   origin_at (x ∷ xs) (suc k) y e = origin_at xs k y e
 
 module _ (setting : Setting) (start : ℕ) where
-  -- where the spans to the ends are added, the spans from the start are
-  pub spans_pushed : (ends : List ℕ) → AreEnds setting start ends → (old new : List Span) →
-      new ≡ old ++ map (span_to start) ends → Includes (IsSpanFrom setting start) old new
-  spans_pushed ends are old new is = subst (Includes (IsSpanFrom setting start) old) (sym is)
-      (record {
-        kept = λ span c. Contains-append_left old (map (span_to start) ends) span c;
-        only = λ span c. elim (Contains-append_cases old (map (span_to start) ends) span c) [
-          | inl o ↦ inl o
-          | inr m ↦
-              let h = origin (span_to start) ends span m in
-              inr (h.0, (are.exactly h.0).0 h.1, h.2)
-        ];
-        has = λ span f.
-            Contains-append_right old (map (span_to start) ends) span
-            (subst (Contains (map (span_to start) ends)) (sym f.2)
-            (mapped (span_to start) ends f.0 ((are.exactly f.0).1 f.1)));
-      })
+  -- a later end gives a longer span
+  ends_good : (policy : Policy) (a b : ℕ) → start < a → start < b → IsAsGood policy a b →
+      IsAsGood policy (a - 1) (b - 1)
+  ends_good policies.All a b la lb good = tt
+  ends_good Longest a b la lb good = omega (arith, good)
+  ends_good Shortest a b la lb good = omega (arith, good)
+
+  spans_good : (policy : Policy) (a b : ℕ) → start < a → start < b →
+      IsAsGood policy (a - 1) (b - 1) → IsAsGood policy a b
+  spans_good policies.All a b la lb good = tt
+  spans_good Longest a b la lb good = omega (arith, good, la, lb)
+  spans_good Shortest a b la lb good = omega (arith, good, la, lb)
+
+  -- the spans to the best ends are the best spans from the start
+  pub spans_best : (policy : Policy) (ends best : List ℕ) → AreEnds setting start ends →
+      AreBest policy (λ end. end) (Contains ends) best →
+      AreBest policy last_in (IsSpanFrom setting start) (map (span_to start) best)
+  spans_best policy ends best are bests =
+      let later : (e : ℕ) → Contains ends e → start < e = λ e c. ((are.exactly e).0 c).0 in
+      record {
+        exactly = λ span. (
+          λ c.
+              let o = origin (span_to start) best span c in
+              let f = (bests.exactly o.0).0 o.1 in
+              subst (λ (s : Span). IsSpanFrom setting start s × ((other : Span) →
+              IsSpanFrom setting start other → IsAsGood policy s.last other.last)) (sym o.2) (
+                (o.0, (are.exactly o.0).0 f.0, refl),
+                λ other from.
+                    let there = (are.exactly from.0).1 from.1 in
+                    subst (λ (s : Span). IsAsGood policy (o.0 - 1) s.last) (sym from.2)
+                    (ends_good policy o.0 from.0 (later o.0 f.0) from.1.0 (f.1 from.0 there)),
+              ),
+          λ f.
+              let end = f.0.0 in
+              let here = (are.exactly end).1 f.0.1 in
+              subst (Contains (map (span_to start) best)) (sym f.0.2)
+              (mapped (span_to start) best end ((bests.exactly end).1 (
+                here,
+                λ other c.
+                    let good = f.1 (span_to start other) (other, (are.exactly other).0 c, refl) in
+                    spans_good policy end other (later end here) (later other c)
+                    (subst (λ (s : Span). IsAsGood policy s.last (other - 1)) f.0.2 good),
+              ))),
+        );
+        some = λ span f.
+            let y = bests.some f.0 ((are.exactly f.0).1 f.1) in
+            (span_to start y.0, mapped (span_to start) best y.0 y.1);
+      }
 
   -- where there are no ends no span comes from the start
   pub no_spans : AreEnds setting start [] → (span : Span) → IsSpanFrom setting start span → ⊥
   no_spans are span f = nothing_in f.0 ((are.exactly f.0).1 f.1)
+
+-- a span from a start begins there
+pub span_begins : (setting : Setting) (start : ℕ) → IsStart setting.tokens start → (span : Span) →
+    IsSpanFrom setting start span → first_in span ≡ start
+span_begins setting start starts span f = ap (λ (s : Span). s.first) f.2
 
 module _ (setting : Setting) (belongs : Belongs setting.alphabet setting.tokens setting.tables)
     (plain : ArePlain setting.net) where
@@ -131,23 +172,63 @@ module _ (setting : Setting) (belongs : Belongs setting.alphabet setting.tokens 
   stands_before a b (inl first) = inl first
   stands_before a b (inr last) = inr (inl last)
 
-  module _ (spans : List Span) (all : (span : Span) → Contains spans span ↔ IsSpan span) where
+  module _ (policy : Policy) (kept spans : List Span)
+      (are : AreKept policy first_in last_in IsSpan kept)
+      (same : (span : Span) → Contains spans span ↔ Contains kept span) where
+    is_span : (span : Span) → Contains spans span → IsSpan span
+    is_span span c = ((are.exactly span).0 ((same span).0 c)).is
+
     pub spans_lie : All (LiesIn setting.tokens) spans
     spans_lie = λ k d lt. span_lies (get_or spans k d)
-        ((all (get_or spans k d)).0 (Contains-get_or spans k d lt))
+        (is_span (get_or spans k d) (Contains-get_or spans k d lt))
 
-    -- the hits of the spans are listed, each once and by place
+    abbrev hits : List Hit
+    hits = map (hit_at setting.tokens) spans
+
+    -- a kept span is that of a kept hit
+    span_kept : (novar : NoVar) (span : Span) → IsKept policy first_in last_in IsSpan kept span →
+        IsKept policy first_of last_of (IsIgnoringHit novar) hits (hit_at setting.tokens span)
+    span_kept novar span k = record {
+      is = span_hit novar span k.is;
+      best = λ hit h at.
+          let s = hit_span novar hit h in
+          subst (λ (x : Hit). IsAsGood policy span.last x.last) (sym s.2)
+          (k.best s.0 s.1 (sym (ap (λ (x : Hit). x.first) s.2) ∙ at));
+      apart = λ single hit c lt.
+          let o = origin (hit_at setting.tokens) spans hit c in
+          let low = subst (λ (x : Hit). x.first < span.first) o.2 lt in
+          subst (λ (x : Hit). x.last < span.first) (sym o.2)
+          (k.apart single o.0 ((same o.0).0 o.1) low);
+    }
+
+    -- and the other way round
+    hit_kept : (novar : NoVar) (span : Span) → IsSpan span →
+        IsKept policy first_of last_of (IsIgnoringHit novar) hits (hit_at setting.tokens span) →
+        IsKept policy first_in last_in IsSpan kept span
+    hit_kept novar span is k = record {
+      is = is;
+      best = λ other s at. k.best (hit_at setting.tokens other) (span_hit novar other s) at;
+      apart = λ single other c lt. k.apart single (hit_at setting.tokens other)
+          (mapped (hit_at setting.tokens) spans other ((same other).1 c)) lt;
+    }
+
+    -- the hits of the kept spans are listed, each once and by place
     pub spans_listing : AreInOrder Precedes spans → (novar : NoVar) →
-        IsListing (IsIgnoringHit novar) (map (hit_at setting.tokens) spans)
+        IsKeptListing policy (IsIgnoringHit novar) hits
     spans_listing ordered novar = record {
       exactly = λ hit. (
         λ c.
             let o = origin (hit_at setting.tokens) spans hit c in
-            subst (IsIgnoringHit novar) (sym o.2) (span_hit novar o.0 ((all o.0).0 o.1)),
+            keeps (IsIgnoringHit novar) hits hit policy
+            (subst (IsKept policy first_of last_of (IsIgnoringHit novar) hits) (sym o.2)
+            (span_kept novar o.0 ((are.exactly o.0).0 ((same o.0).0 o.1)))),
         λ h.
-            let s = hit_span novar hit h in
-            subst (Contains (map (hit_at setting.tokens) spans)) (sym s.2)
-            (mapped (hit_at setting.tokens) spans s.0 ((all s.0).1 s.1)),
+            let k = kept_by (IsIgnoringHit novar) hits hit policy h in
+            let s = hit_span novar hit k.is in
+            let at = subst (IsKept policy first_of last_of (IsIgnoringHit novar) hits) s.2 k in
+            subst (Contains hits) (sym s.2)
+            (mapped (hit_at setting.tokens) spans s.0 ((same s.0).1
+            ((are.exactly s.0).1 (hit_kept novar s.0 s.1 at)))),
       );
       ordered = λ k a b first second.
           let x = origin_at (hit_at setting.tokens) spans k a first in

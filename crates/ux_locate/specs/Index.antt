@@ -7,7 +7,9 @@ use Rattle.std.specs.Cmp.Lexicographic.{slice_cmp}
 use Rattle.std.specs.declared.cmp.Ordering.TheVariants.{Less}
 use Rattle.ux_base.specs.declared.settings.Mode.{Mode}
 use Rattle.ux_base.specs.declared.settings.Mode.TheVariants.{Ignore, Merge, Replace}
+use Rattle.ux_base.specs.declared.settings.Policy.{Policy}
 use Rattle.ux_outputs.specs.declared.hit.Hit.{Hit}
+use Rattle.ux_locate.specs.Policies.{Keeps}
 
 -- the first line tells the mode
 abbrev pub header : Mode → List ℕ
@@ -42,8 +44,13 @@ pub record IsListing (IsHit : Hit → Type 0) (hits : List Hit) : Type 0 where
   pub ordered : (k : ℕ) (a b : Hit) → slice_get hits k ≡ Some a →
       slice_get hits (k + 1) ≡ Some b → StandsBefore a b
 
--- the text is the index of the set
-pub record IsIndex (mode : Mode) (IsHit : Hit → Type 0) (text : List ℕ) : Type 0 where
-  pub hits : List Hit
-  pub listing : IsListing IsHit hits
-  pub written : text ≡ index_of mode hits
+-- the hits of the set that the policy keeps are listed
+abbrev pub IsKeptListing : Policy → (IsHit : Hit → Type 0) → (kept : List Hit) → Type 0
+IsKeptListing policy IsHit kept = IsListing (Keeps policy IsHit kept) kept
+
+-- the text is the index of what the policy keeps of the set
+pub record IsIndex (mode : Mode) (policy : Policy) (IsHit : Hit → Type 0) (text : List ℕ) : Type 0
+  where
+    pub hits : List Hit
+    pub listing : IsKeptListing policy IsHit hits
+    pub written : text ≡ index_of mode hits

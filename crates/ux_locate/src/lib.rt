@@ -1,8 +1,11 @@
-//! The hits of a grammar in a text, each once and by place, and their index.
+//! The hits of a grammar in a text that a policy keeps, each once and by place, and their index.
 //!
 //! In go a net and a text with the entries that apply to it, and out come hits: `specs/Hits.antt` says
 //! what a hit is, and `specs/Index.antt` how hits are listed and written. Positions are counted in
 //! tokens, from 0.
+//!
+//! A policy keeps all hits, or of those with the same first token the longest or the shortest, one after
+//! the other through the text (`specs/Policies.antt`). `keep` does that with any hits.
 //!
 //! `locate` renders the derivations from each start at which one ends (`locating`). Where outputs are
 //! ignored `locate_spans` lists the same hits by their first and last token (`spans`), and `span_index`
@@ -10,12 +13,15 @@
 //! `walks` alone speaks of the walker.
 //!
 //! ```text
-//! let hits = locate(alloc, &net, &text, &alphabet, &applied, Mode::Merge, NoVar::Nothing, steps)?;
-//! let index = index_text(alloc, Mode::Merge, hits.as_slice())?;
+//! let (mode, novar, policy) = (Mode::Merge, NoVar::Nothing, Policy::Longest);
+//! let hits = locate(alloc, &net, &text, &alphabet, &applied, mode, novar, policy, steps)?;
+//! let index = index_text(alloc, mode, hits.as_slice())?;
 //! ```
 #![tactic(auto)]
 
+mod best;
 mod index;
+mod keeping;
 mod locating;
 mod search;
 mod sorting;
@@ -23,5 +29,6 @@ mod spans;
 mod walks;
 
 pub use index::{index_text, span_index};
+pub use keeping::keep;
 pub use locating::locate;
 pub use spans::locate_spans;

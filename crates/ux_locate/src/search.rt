@@ -1,12 +1,12 @@
-//! What is searched, and what becomes of outputs.
+//! What is searched, what becomes of outputs, and which hits are kept.
 
 use ux_alphabet::Alphabet;
 use ux_apply::Applied;
-use ux_base::{Mode, NoVar};
+use ux_base::{Mode, NoVar, Policy};
 use ux_net::Net;
 use ux_tokens::Text;
 
-/// A grammar and a text with the entries that apply to it, and how hits are rendered.
+/// A grammar and a text with the entries that apply to it, how hits are rendered, and which are kept.
 #[derive(Drop)]
 pub struct Search<'a> {
     /// The grammar.
@@ -21,4 +21,6 @@ pub struct Search<'a> {
     pub mode: Mode,
     /// What an output does that names a variable without a value.
     pub novar: NoVar,
+    /// Which hits are kept.
+    pub policy: Policy,
 }

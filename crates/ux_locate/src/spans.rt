@@ -1,91 +1,101 @@
 //! The hits by their first and last token, as long as outputs are ignored.
 //!
 //! A net has no label that cuts a hit off, so every derivation renders exactly the tokens up to its
-//! end, and each end is a hit. No text is copied, and none is kept.
+//! end, and each end is a hit. A walk's ends come in order, so the policy keeps the last or the first of
+//! them, and starts inside a kept hit aren't walked from. No text is copied, and none is kept.
 
-ghost use Rattle.std.specs.Prelude.{◌≡◌, ◌<◌, ◌↔◌, ◌++◌, ℕ, All, Contains, IfOk, OnOk, length, map};
+ghost use Rattle.std.specs.Prelude.{◌≡◌, ◌<◌, ◌++◌, ℕ, All, Contains, IfOk, OnOk, map};
 ghost use Rattle.ux_base.specs.declared.settings.Mode.TheVariants.{Ignore};
 ghost use Rattle.ux_base.specs.declared.settings.NoVar.{NoVar};
 ghost use Rattle.ux_apply.specs.Belonging.{Belongs};
 ghost use Rattle.ux_net.specs.Nets.{net_grammar};
-ghost use Rattle.ux_outputs.specs.declared.span.Span.{Span};
 ghost use Rattle.ux_walk.specs.Settings.{setting_of};
 ghost use Rattle.ux_locate.specs.Finding.{IsFound, IsSpanFrom, span_to};
 ghost use Rattle.ux_locate.specs.Hits.{IsHit};
-ghost use Rattle.ux_locate.specs.Index.{IsListing};
+ghost use Rattle.ux_locate.specs.Index.{IsKeptListing};
+ghost use Rattle.ux_locate.specs.Keeping.{AreKept, first_in, last_in};
 ghost use Rattle.ux_locate.specs.Spans.{LiesIn, hit_at};
 
+use crate::best::best_ends;
+use crate::keeping::{is_reached, spans_reach};
 use crate::sorting::sort_spans;
 use crate::walks::{find_ends, may_find};
 use std::alloc::Global;
 use std::sync::ledger::Ledger;
 use ux_alphabet::Alphabet;
 use ux_apply::Applied;
-use ux_base::{Mem, Steps};
+use ux_base::{Mem, Policy, Steps};
 use ux_net::Net;
 use ux_outputs::Span;
 use ux_tokens::Text;
 use ux_walker::Walker;
 
-/// The spans of all hits where outputs are ignored, each once and in order. The text of such a hit is
-/// that of its tokens. Takes no memory for texts.
+/// The spans of the hits that the policy keeps where outputs are ignored, each once and in order. The
+/// text of such a hit is that of its tokens. Takes no memory for texts, and no walk from a start inside a
+/// kept hit, but with `Policy::All`, which keeps all hits.
 pub fn locate_spans<L: Ledger>(
     alloc: Global,
     net: &Net,
     text: &Text,
     alphabet: &Alphabet,
     applied: &Applied,
+    policy: Policy,
     steps: &mut Steps<L>,
 ) -> Mem<Vec<Span>>
     requires { Belongs alphabet.now text.now applied.now }
-    ensures listing { IfOk result (λ spans. (novar : NoVar) → IsListing
+    ensures listing { IfOk result (λ spans. (novar : NoVar) → IsKeptListing policy
         (IsHit alphabet.now text.now applied.now (net_grammar net.now) Ignore novar)
         (map (hit_at text.now) spans.items)) }
     ensures within { IfOk result (λ spans. All (LiesIn text.now) spans.items) }
 {
     net.is_plain();
-    let mut spans = all_spans(alloc, net, text, alphabet, applied, steps)?;
+    let mut spans = kept_spans(alloc, net, text, alphabet, applied, policy, steps)?;
     sort_spans(&mut spans);
     Ok(spans)
 }
 
-/// The spans from all starts, in the order in which they are found.
-fn all_spans<L: Ledger>(
+/// The spans that are kept, in the order in which they are found.
+fn kept_spans<L: Ledger>(
     alloc: Global,
     net: &Net,
     text: &Text,
     alphabet: &Alphabet,
     applied: &Applied,
+    policy: Policy,
     steps: &mut Steps<L>,
 ) -> Mem<Vec<Span>>
     requires { Belongs alphabet.now text.now applied.now }
-    ensures { IfOk result (λ spans. (span : Span) → Contains spans.items span ↔ IsFound text.now
-        (IsSpanFrom (setting_of net.now text.now alphabet.now applied.now)) span) }
+    ensures { IfOk result (λ spans. AreKept policy first_in last_in (IsFound text.now
+        (IsSpanFrom (setting_of net.now text.now alphabet.now applied.now))) spans.items) }
 {
     // The walker is let go at one place alone: each costs the prover a look at all of its parts.
     let mut walker = Walker::of(alloc, net, text, alphabet, applied)?;
-    spans_from_starts(alloc, text, &mut walker, steps)
+    spans_from_starts(alloc, policy, text, &mut walker, steps)
 }
 
 /// The same, by this walker.
 fn spans_from_starts<L: Ledger>(
     alloc: Global,
+    policy: Policy,
     text: &Text,
     walker: &mut Walker,
     steps: &mut Steps<L>,
 ) -> Mem<Vec<Span>>
     requires { walker.now.tokens ≡ text.now }
-    ensures { IfOk result (λ spans. (span : Span) → Contains spans.items span
-        ↔ IsFound text.now (IsSpanFrom walker.old) span) }
+    ensures { IfOk result (λ spans. AreKept policy first_in last_in
+        (IsFound text.now (IsSpanFrom walker.old)) spans.items) }
 {
     let mut ends = Vec::new(alloc);
     let mut spans = Vec::new(alloc);
     for start in 0..text.len() {
+        if is_reached(policy, spans_reach(spans.as_slice()), start) {
+            continue;
+        }
         if !may_find(walker, text, start) {
             continue;
         }
         find_ends(alloc, walker, start, &mut ends, steps)?;
-        push_spans(start, ends.as_slice(), &mut spans)?;
+        push_spans(start, best_ends(policy, ends.as_slice()), &mut spans)?;
     }
     Ok(spans)
 }

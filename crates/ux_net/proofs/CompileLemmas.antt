@@ -3,7 +3,7 @@ use Rattle.std.proofs.Common.{arith, ◌≡◌, ℕ, zero, suc, ◌+◌, ◌-◌
 use Rattle.std.specs.Prelude.{All, Contains, slice_get, string_bytes}
 use Rattle.std.specs.List.{AllZip, list_any}
 use Rattle.std.specs.Option.{option_map}
-use Rattle.std.proofs.lemmas.List.{take_all, map-append, get_or_default}
+use Rattle.std.proofs.lemmas.List.{take_all, map-append}
 use Rattle.std.proofs.lemmas.List.Elements.{All-contains, Contains-get_or}
 use Rattle.std.proofs.lemmas.List.Folds.{list_any_at}
 use Rattle.std.proofs.lemmas.Option.{slice_get-map, slice_get_read, slice_get_within, get_or_from_slice_get}
@@ -19,7 +19,6 @@ use Rattle.ux_net.specs.Boxes.{Drawn, boxes_of, names_of}
 use Rattle.ux_net.specs.Compiling.{AreSplit}
 use Rattle.ux_net.specs.Nets.{graph_at}
 use Rattle.ux_net.specs.Places.{ArePlaces, places_of}
-use Rattle.ux_net.specs.Admission.{row_at}
 use Rattle.ux_net.specs.Ranks.{IsBuilt, AreBuilt}
 use Rattle.ux_net.specs.Refusing.{drawn_of, drawn, is_name_at, is_beyond, has_beyond_line, has_beyond, HasNoBeyond, AreCompiled, AreMasked, AreWhole, calls_in, calls_of}
 use Rattle.ux_net.specs.MaskTexts.{mask_texts_of_item, mask_texts_of, AreMasks, HaveMasks}
@@ -98,7 +97,7 @@ pub record AreBuiltTo (names : List (String Global)) (places : List (List Place)
     (free : List (List Bool)) (net : List NetGraph) (i : ℕ) : Type 0 where
   pub count : length net ≡ i
   pub each : (n : ℕ) (graph : NetGraph) → slice_get net n ≡ Some graph →
-      IsBuilt (places_of places (suc n)) (get_or ranks n []) (get_or free n []) graph
+      IsBuilt ranks free (suc n) (places_of places (suc n)) graph
   pub named : map (λ (graph : NetGraph). graph.name) net ≡ bytes_of (take i names)
 
 module _ (names : List (String Global)) (places : List (List Place)) (ranks : List (List ℕ))
@@ -107,7 +106,7 @@ module _ (names : List (String Global)) (places : List (List Place)) (ranks : Li
   pub built_more : (net : List NetGraph) (i : ℕ) (name : String Global) (one : NetGraph) →
       i < length names → name ≡ get_or names i name →
       AreBuiltTo names places ranks free net i →
-      IsBuilt (places_of places (suc i)) (get_or ranks i []) (get_or free i []) one →
+      IsBuilt ranks free (suc i) (places_of places (suc i)) one →
       one.name ≡ string_bytes name →
       AreBuiltTo names places ranks free (net ++ one ∷ []) (i + 1)
   built_more net i name one within is so_far here same = record {
@@ -116,10 +115,8 @@ module _ (names : List (String Global)) (places : List (List Place)) (ranks : Li
       | inl h ↦ so_far.each n other h.1
       | inr h ↦
           let at : i ≡ n = sym so_far.count ∙ sym h.0 in
-          subst (λ (k : ℕ). IsBuilt (places_of places (suc k)) (get_or ranks k [])
-          (get_or free k []) other) at
-          (subst (IsBuilt (places_of places (suc i)) (get_or ranks i []) (get_or free i []))
-          h.1 here)
+          subst (λ (k : ℕ). IsBuilt ranks free (suc k) (places_of places (suc k)) other) at
+          (subst (IsBuilt ranks free (suc i) (places_of places (suc i))) h.1 here)
     ];
     named =
         map-append (λ (g : NetGraph). g.name) net (one ∷ [])
@@ -138,26 +135,20 @@ module _ (names : List (String Global)) (places : List (List Place)) (ranks : Li
   }
     where
       each : (g : ℕ) (graph : NetGraph) → graph_at net g ≡ Some graph →
-          IsBuilt (places_of places g) (row_at ranks g) (row_at free g) graph
+          IsBuilt ranks free g (places_of places g) graph
       each zero graph found = cc
       each (suc n) graph found = so_far.each n graph found
 
--- a graph that is built of what stands at a place of the three lists
+-- a graph that is built of the places that stand in the list
 pub built_at : (places : List (List Place)) (ranks : List (List ℕ)) (free : List (List Bool))
-    (i : ℕ) (p : List Place) (r : List ℕ) (f : List Bool) (one : NetGraph)
-    (places_here : List Place) (ranks_here : List ℕ) (free_here : List Bool) →
-    i < length places → i < length ranks → i < length free →
-    places_here ≡ get_or places i places_here → ranks_here ≡ get_or ranks i ranks_here →
-    free_here ≡ get_or free i free_here → p ≡ places_here → r ≡ ranks_here → f ≡ free_here →
-    IsBuilt p r f one → IsBuilt (places_of places (suc i)) (get_or ranks i []) (get_or free i []) one
-built_at places ranks free i p r f one places_here ranks_here free_here in_p in_r in_f at_p at_r
-    at_f same_p same_r same_f built =
-    subst (λ (l : List Place). IsBuilt l (get_or ranks i []) (get_or free i []) one)
-    (same_p ∙ (at_p ∙ sym (places_at places i places_here in_p)))
-    (subst (λ (l : List ℕ). IsBuilt p l (get_or free i []) one)
-    (same_r ∙ (at_r ∙ get_or_default ranks i ranks_here [] in_r))
-    (subst (λ (l : List Bool). IsBuilt p r l one)
-    (same_f ∙ (at_f ∙ get_or_default free i free_here [] in_f)) built))
+    (i : ℕ) (p here : List Place) (one : NetGraph) → i < length places →
+    here ≡ get_or places i here → p ≡ here → IsBuilt ranks free (i + 1) p one →
+    IsBuilt ranks free (suc i) (places_of places (suc i)) one
+built_at places ranks free i p here one within at same built =
+    let next : i + 1 ≡ suc i = omega arith in
+    subst (λ (l : List Place). IsBuilt ranks free (suc i) l one)
+    (same ∙ (at ∙ sym (places_at places i here within)))
+    (subst (λ (g : ℕ). IsBuilt ranks free g p one) next built)
 
 -- an item that is compiled, of which each mask text is a mask's and each call finds a graph, has labels
 splittable : (names : List (List ℕ)) (x : Item) → is_beyond x ≡ false →

@@ -14,8 +14,9 @@ use Rattle.ux_net.specs.declared.state.State.{State}
 use Rattle.ux_net.specs.Words.{Step, StepGraph, Letter, piece, ordinary, mark_of, letter_of, letters, put_by, Run, stop, along}
 use Rattle.ux_net.specs.Places.{label_lines, place_output, place_targets, is_reached, places_of, IsPlaceStep, IsEndPlace, place_grammar}
 use Rattle.ux_net.specs.Nets.{IsNetStep, IsNetEnd, net_graph, IsPlain}
-use Rattle.ux_net.specs.Construct.{labels_in, has_state, number, labels_at, chain_len, first_chain, target_of, output_before, edge_of, edges_to, place_state, chain_state, at_place, along_lines, by_state, states_of, AreFit, AreTargetsInside}
+use Rattle.ux_net.specs.Construct.{labels_in, has_state, number, line_at, called_at, labels_at, chain_len, first_chain, target_of, output_before, edge_of, edges_to, place_state, chain_state, at_place, along_lines, by_state, states_of, AreFit, AreTargetsInside}
 use Rattle.ux_net.proofs.JoinedLemmas.{less_or, nothing_in, first_or_later, contains_first, contains_later, contains_joined, contained_joined, contains_mapped, contained_mapped, contains_range, contained_range}
+use Rattle.ux_net.proofs.EdgeLabelsLemmas.{same_letters, each_label}
 use Rattle.ux_net.proofs.FreeLemmas.{plain_ordinary}
 use Rattle.ux_net.proofs.RefineLemmas.{letters_along, IsSame, Refines, refined_same}
 use Rattle.ux_net.proofs.StatesLemmas.{total, total_few, line_there, line_some, place_inside, get_place, get_chain, length_by_state, Stands, of_a_place, of_a_line, stands}
@@ -62,7 +63,7 @@ drop_whole (x ∷ xs) (suc k) h = drop_whole xs k (omega arith)
 -- a line by its number
 line_number : (places : List Place) (b : ℕ) (line : List Label) →
     Contains (label_lines places b) line →
-    (l : ℕ) × (l < length (label_lines places b)) × (labels_at places b l ≡ line)
+    (l : ℕ) × (l < length (label_lines places b)) × (line_at places b l ≡ line)
 line_number places b line h =
     let found = slice_get-get_or (label_lines places b) h.0 line h.1 in
     (h.0, h.1, ap labels_in found ∙ h.2)
@@ -81,9 +82,11 @@ module _ (places : List Place) (fit : AreFit places) where
   label_plain : (b l k : ℕ) → l < length (lines_of b) → k < length (labels_at places b l) →
       IsPlain (label b l k)
   label_plain b l k at lt =
-      All-contains IsPlain (labels_at places b l) (label b l k)
-      (All-contains (All IsPlain) (label_lines places b) (labels_at places b l) (fit.plain b)
-      (line_there places b l at)) (Contains-get_or (labels_at places b l) k Empty lt)
+      each_label IsPlain (called_at places b l) (line_at places b l) tt
+      (λ x there. All-contains IsPlain (line_at places b l) x
+      (All-contains (All IsPlain) (label_lines places b) (line_at places b l) (fit.plain b)
+      (line_there places b l at)) there)
+      (label b l k) (Contains-get_or (labels_at places b l) k Empty lt)
 
   label_ordinary : (x : Label) → IsPlain x → mark_of (x ∷ []) ≡ ordinary
   label_ordinary x is = plain_ordinary (x ∷ []) (All-cons IsPlain x [] is (All-nil IsPlain))
@@ -306,7 +309,9 @@ module _ (places : List Place) (fit : AreFit places) where
       let l = line_number places s.to s.labels step.line in
       let some = line_some places fit s.to l.0 l.1 in
       subst (λ w. Run g new (number places s.from) (number places s.to) w)
-      (ap (λ (line : List Label). map piece (place_output places s.to) ++ letters line) l.2
+      (ap (λ (word : List Letter). map piece (place_output places s.to) ++ word)
+      (same_letters (called_at places s.to l.0) (line_at places s.to l.0))
+      ∙ ap (λ (line : List Label). map piece (place_output places s.to) ++ letters line) l.2
       ∙ ap (λ (o : List Piece). map piece o ++ letters s.labels) (sym step.puts))
       (edge_run g (length (labels_at places s.to l.0) - 1) s.to l.0 0 (number places s.from)
       (place_state places s.from) l.1 (omega arith)
@@ -331,7 +336,7 @@ module _ (places : List Place) (fit : AreFit places) where
         from = a;
         to = e.0;
         output = place_output places e.0;
-        labels = labels_at places e.0 e.2;
+        labels = line_at places e.0 e.2;
       } in
       let old : IsPlaceStep places s = record {
         before_end = not_end a has;
@@ -347,7 +352,9 @@ module _ (places : List Place) (fit : AreFit places) where
         refl,
         letters (drop (0 + 1) (labels_at places e.0 e.2)),
         step_behind t e.0 e.2 0 label e.3 some,
-        step_letters t e.0 e.2 0 label some,
+        ap (λ (word : List Letter). map piece (place_output places e.0) ++ word)
+            (sym (same_letters (called_at places e.0 e.2) (line_at places e.0 e.2)))
+            ∙ step_letters t e.0 e.2 0 label some,
       )
 
   back_chain : (t : Step) (b : ℕ) (u : List Letter) → IsNetStep (states_of places) t →

@@ -24,6 +24,7 @@ pub mod SameGraph
 pub mod PlainLemmas
 pub mod SplittingLemmas
 pub mod JoinedLemmas
+pub mod EdgeLabelsLemmas
 pub mod RefineLemmas
 pub mod StatesLemmas
 pub mod ConstructLaw

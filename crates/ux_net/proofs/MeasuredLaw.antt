@@ -1,9 +1,9 @@
 -- The theorem that makes walks end: a net that is built of places which have ranks is measured.
 -- Every edge that may take nothing leads to a rank that is lower, first by the major number, and
 -- else by the minor one.
-use Rattle.std.proofs.Common.{arith, ◌≡◌, ℕ, zero, suc, ◌+◌, ◌*◌, ◌<◌, ◌≤◌, List, [], ◌∷◌, refl, sym, ◌∙◌, ap, subst, ◌⊎◌, inl, inr, length, get_or, drop, drop-cons, Bool, true, false, cond, add-one}
-use Rattle.std.specs.Prelude.{Option, Some, None, slice_get, Contains, sum_by, IsTrue, ◌&&◌}
-use Rattle.std.proofs.Math.Nat.{mul-le-mul_right}
+use Rattle.std.proofs.Common.{arith, ◌≡◌, ℕ, zero, suc, ◌+◌, ◌-◌, ◌*◌, ◌<◌, ◌≤◌, List, [], ◌∷◌, refl, sym, ◌∙◌, ap, subst, ◌⊎◌, inl, inr, length, get_or, drop, drop-cons, Bool, true, false, cond, add-one}
+use Rattle.std.specs.Prelude.{Option, Some, None, slice_get, Contains, max, sum_by, IsTrue, ◌&&◌}
+use Rattle.std.proofs.Math.Nat.{mul-le-mul_right, max-le, le-max_left, le-max_right}
 use Rattle.std.proofs.lemmas.Option.{same_Some, slice_get_within, get_or_from_slice_get, slice_get-get_or}
 use Rattle.std.proofs.lemmas.List.Elements.{All-contains, Contains-get_or}
 use Rattle.std.proofs.lemmas.List.Sums.{sum_by-cons}
@@ -20,12 +20,13 @@ use Rattle.ux_net.specs.Nets.{graph_at, states_in, IsCalled, AreInside, ArePlain
 use Rattle.ux_net.specs.Nets.{states_of as net_states}
 use Rattle.ux_net.specs.Measured.{width_of, weigh, rank_in, rank_of, frees_in, must, IsLower, Falls, IsMeasured}
 use Rattle.ux_net.specs.Sound.{IsSound}
-use Rattle.ux_net.specs.Construct.{is_call, IsLine, has_state, number, labels_at, chain_len, first_chain, target_of, states_of, AreFit}
+use Rattle.ux_net.specs.Construct.{is_call, IsLine, edge_labels, has_state, number, line_at, called_at, labels_at, chain_len, first_chain, target_of, states_of, AreFit}
 use Rattle.ux_net.specs.Silent.{is_silent, are_silent}
-use Rattle.ux_net.specs.Admission.{row_at, place_rank, is_place_free, IsLowerPlace, ArePlaceRanks}
-use Rattle.ux_net.specs.Ranks.{silent_len, rest_rank, rest_free, above, rank_at, free_at, chain_rank_at, chain_free_at, state_ranks, state_frees, AreCallsInside, AreAllFit, AreBuilt}
+use Rattle.ux_net.specs.Admission.{place_rank, is_place_free, IsLowerPlace, ArePlaceRanks}
+use Rattle.ux_net.specs.Ranks.{silent_len, rest_rank, rest_free, above, call_rank, call_free, chain_rank, chain_free, chain_rank_at, chain_free_at, state_ranks, state_frees, AreCallsInside, AreAllFit, AreBuilt}
+use Rattle.ux_net.proofs.EdgeLabelsLemmas.{each_label}
 use Rattle.ux_net.proofs.JoinedLemmas.{less_or, contains_first}
-use Rattle.ux_net.proofs.StatesLemmas.{line_there, place_inside, get_place, get_chain, Stands, of_a_place, of_a_line, stands}
+use Rattle.ux_net.proofs.StatesLemmas.{line_there, line_called, labels_called, place_inside, get_place, get_chain, Stands, of_a_place, of_a_line, stands}
 use Rattle.ux_net.proofs.ConstructLaw.{one_in, lt_then, lt_else, drop_whole, has_line, not_end, starts, place_is, chain_is, OfLabel, of_label, edges_plain, targets_inside, states_some, states_few, states_length}
 
 -- an element's number is at most the sum of all
@@ -102,6 +103,30 @@ rest_marked rest free h = go (are_silent rest) refl h
     go true is h = (is, h)
     go false is h = cc
 
+-- the state of a place is below one that is no lower and has a minor number
+beneath : (rank : ℕ) (high : Rank) → rank + 1 ≤ high.major → 0 < high.minor →
+    IsLowerRank (above rank) high
+beneath rank high le some = elim (less_or (rank + 1) high.major) [
+  | inl less ↦ inl less
+  | inr same ↦ inr (omega arith, some)
+]
+
+-- what a call needs is below, where its graph is, and where that is marked the place
+call_below : (start rank from : ℕ) (free : Bool) → start < from → (free ≡ true → rank < from) →
+    max start (cond free rank 0) < from
+call_below start rank from free less behind =
+    let most = max-le {a = start} {b = cond free rank 0} {k = from - 1} (omega arith)
+    (place_below free behind) in
+    omega arith
+  where
+    place_below : (b : Bool) → (b ≡ true → rank < from) → cond b rank 0 ≤ from - 1
+    place_below true behind = let lt = behind refl in omega arith
+    place_below false behind = omega arith
+
+both_marked : (a b : Bool) → cond a b false ≡ true → (a ≡ true) × (b ≡ true)
+both_marked true b h = (refl, h)
+both_marked false b h = cc
+
 -- a line from one of its labels on
 line_from : (line : List Label) (k : ℕ) → k < length line →
     drop k line ≡ get_or line k Empty ∷ drop (k + 1) line
@@ -109,51 +134,65 @@ line_from line k lt = let e = add-one k in rw e (drop-cons line k Empty lt)
 
 -- the ranks and marks where the edges of one graph lead
 module _ (places : List Place) (fit : AreFit places) where
-  rank_after : (ranks : List ℕ) (b l k : ℕ) → l < length (label_lines places b) →
-      k < length (labels_at places b l) →
-      slice_get (state_ranks places ranks) (target_of places b l k)
-      ≡ Some (rest_rank (get_or ranks b 0) (drop (k + 1) (labels_at places b l)))
-  rank_after ranks b l k at lt = elim (less_or (k + 1) (length (labels_at places b l))) [
-    | inl more ↦
-        ap (slice_get (state_ranks places ranks)) (lt_then (k + 1) (length (labels_at places b l))
-        (first_chain places b l + k) (number places b) more)
-        ∙ get_chain places (rank_at ranks) (chain_rank_at places ranks) b l k
-        (place_inside places b (has_line places fit b l at)) at (omega arith)
-    | inr last ↦
-        ap (slice_get (state_ranks places ranks)) (lt_else (k + 1) (length (labels_at places b l))
-        (first_chain places b l + k) (number places b) last)
-        ∙ (get_place places (rank_at ranks) (chain_rank_at places ranks) b
-        (has_line places fit b l at)
-        ∙ ap (λ (rest : List Label). Some (rest_rank (get_or ranks b 0) rest))
-        (sym (drop_whole (labels_at places b l) (k + 1) last)))
-  ]
+  -- a line that calls nothing behind an output has the edges that are drawn
+  as_drawn : (b l : ℕ) → called_at places b l ≡ None → labels_at places b l ≡ line_at places b l
+  as_drawn b l none = ap (λ (called : Option ℕ). edge_labels called (line_at places b l)) none
 
-  free_after : (free : List Bool) (b l k : ℕ) → l < length (label_lines places b) →
-      k < length (labels_at places b l) →
-      slice_get (state_frees places free) (target_of places b l k)
-      ≡ Some (rest_free (get_or free b false) (drop (k + 1) (labels_at places b l)))
-  free_after free b l k at lt = elim (less_or (k + 1) (length (labels_at places b l))) [
-    | inl more ↦
-        ap (slice_get (state_frees places free)) (lt_then (k + 1) (length (labels_at places b l))
-        (first_chain places b l + k) (number places b) more)
-        ∙ get_chain places (free_at free) (chain_free_at places free) b l k
-        (place_inside places b (has_line places fit b l at)) at (omega arith)
-    | inr last ↦
-        ap (slice_get (state_frees places free)) (lt_else (k + 1) (length (labels_at places b l))
-        (first_chain places b l + k) (number places b) last)
-        ∙ (get_place places (free_at free) (chain_free_at places free) b
-        (has_line places fit b l at)
-        ∙ ap (λ (rest : List Label). Some (rest_free (get_or free b false) rest))
-        (sym (drop_whole (labels_at places b l) (k + 1) last)))
-  ]
+  module _ (ranks : List (List ℕ)) (free : List (List Bool)) (g : ℕ) where
+    rank_after : (b l k : ℕ) → l < length (label_lines places b) →
+        k < length (labels_at places b l) → called_at places b l ≡ None →
+        slice_get (state_ranks ranks free g places) (target_of places b l k)
+        ≡ Some (rest_rank (place_rank ranks g b) (drop (k + 1) (labels_at places b l)))
+    rank_after b l k at lt none = elim (less_or (k + 1) (length (labels_at places b l))) [
+      | inl more ↦
+          ap (slice_get (state_ranks ranks free g places))
+          (lt_then (k + 1) (length (labels_at places b l))
+          (first_chain places b l + k) (number places b) more)
+          ∙ (get_chain places (λ a. above (place_rank ranks g a))
+          (chain_rank_at ranks free g places) b l k
+          (place_inside places b (has_line places fit b l at)) at (omega arith)
+          ∙ ap (λ (called : Option ℕ). Some (chain_rank ranks free called (place_rank ranks g b)
+          (drop (k + 1) (labels_at places b l)))) none)
+      | inr last ↦
+          ap (slice_get (state_ranks ranks free g places))
+          (lt_else (k + 1) (length (labels_at places b l))
+          (first_chain places b l + k) (number places b) last)
+          ∙ (get_place places (λ a. above (place_rank ranks g a))
+          (chain_rank_at ranks free g places) b (has_line places fit b l at)
+          ∙ ap (λ (rest : List Label). Some (rest_rank (place_rank ranks g b) rest))
+          (sym (drop_whole (labels_at places b l) (k + 1) last)))
+    ]
+
+    free_after : (b l k : ℕ) → l < length (label_lines places b) →
+        k < length (labels_at places b l) → called_at places b l ≡ None →
+        slice_get (state_frees ranks free g places) (target_of places b l k)
+        ≡ Some (rest_free (is_place_free free g b) (drop (k + 1) (labels_at places b l)))
+    free_after b l k at lt none = elim (less_or (k + 1) (length (labels_at places b l))) [
+      | inl more ↦
+          ap (slice_get (state_frees ranks free g places))
+          (lt_then (k + 1) (length (labels_at places b l))
+          (first_chain places b l + k) (number places b) more)
+          ∙ (get_chain places (is_place_free free g) (chain_free_at ranks free g places) b l k
+          (place_inside places b (has_line places fit b l at)) at (omega arith)
+          ∙ ap (λ (called : Option ℕ). Some (chain_free ranks free called (is_place_free free g b)
+          (drop (k + 1) (labels_at places b l)))) none)
+      | inr last ↦
+          ap (slice_get (state_frees ranks free g places))
+          (lt_else (k + 1) (length (labels_at places b l))
+          (first_chain places b l + k) (number places b) last)
+          ∙ (get_place places (is_place_free free g) (chain_free_at ranks free g places) b
+          (has_line places fit b l at)
+          ∙ ap (λ (rest : List Label). Some (rest_free (is_place_free free g b) rest))
+          (sym (drop_whole (labels_at places b l) (k + 1) last)))
+    ]
 
   -- a call is alone on its line
-  alone : (b l k h : ℕ) → l < length (label_lines places b) → k < length (labels_at places b l) →
-      get_or (labels_at places b l) k Empty ≡ Call h →
-      (k ≡ 0) × (labels_at places b l ≡ Call h ∷ [])
+  alone : (b l k h : ℕ) → l < length (label_lines places b) → k < length (line_at places b l) →
+      get_or (line_at places b l) k Empty ≡ Call h →
+      (k ≡ 0) × (line_at places b l ≡ Call h ∷ [])
   alone b l k h at lt is =
-      go (labels_at places b l) k
-      (fit.lines b (labels_at places b l) (line_there places b l at)) lt is
+      go (line_at places b l) k
+      (fit.lines b (line_at places b l) (line_there places b l at)) lt is
     where
       go : (line : List Label) (k : ℕ) → IsLine line → k < length line →
           get_or line k Empty ≡ Call h → (k ≡ 0) × (line ≡ Call h ∷ [])
@@ -176,6 +215,12 @@ module _ (graphs : List (List Place)) (ranks : List (List ℕ)) (free : List (Li
   abbrev labels : ℕ → ℕ → ℕ → List Label
   labels g b l = labels_at (places g) b l
 
+  abbrev line : ℕ → ℕ → ℕ → List Label
+  line g b l = line_at (places g) b l
+
+  abbrev called : ℕ → ℕ → ℕ → Option ℕ
+  called g b l = called_at (places g) b l
+
   graph_fit : (g : ℕ) (graph : NetGraph) → graph_at built g ≡ Some graph → AreFit (places g)
   graph_fit zero graph is = cc
   graph_fit (suc n) graph is =
@@ -193,7 +238,7 @@ module _ (graphs : List (List Place)) (ranks : List (List ℕ)) (free : List (Li
 
   -- the rank and the mark of a state, as the net has them
   rank_is : (g n : ℕ) (graph : NetGraph) (rank : Rank) → graph_at built g ≡ Some graph →
-      slice_get (state_ranks (places g) (row_at ranks g)) n ≡ Some rank →
+      slice_get (state_ranks ranks free g (places g)) n ≡ Some rank →
       (rank_of built g n ≡ weigh (width_of built) rank) × (rank.minor ≤ width_of built)
   rank_is g n graph rank there found =
       let same = (made.each g graph there).ranked in
@@ -215,7 +260,7 @@ module _ (graphs : List (List Place)) (ranks : List (List ℕ)) (free : List (Li
           built m graph there
 
   free_is : (g n : ℕ) (graph : NetGraph) (mark : Bool) → graph_at built g ≡ Some graph →
-      slice_get (state_frees (places g) (row_at free g)) n ≡ Some mark →
+      slice_get (state_frees ranks free g (places g)) n ≡ Some mark →
       must built g n ≡ cond mark 0 1
   free_is g n graph mark there found =
       let same = (made.each g graph there).marked in
@@ -227,9 +272,9 @@ module _ (graphs : List (List Place)) (ranks : List (List ℕ)) (free : List (Li
   -- what stands for a state in its graph
   record Marked (g n : ℕ) : Type 0 where
     pub rank : Rank
-    pub ranked_so : slice_get (state_ranks (places g) (row_at ranks g)) n ≡ Some rank
+    pub ranked_so : slice_get (state_ranks ranks free g (places g)) n ≡ Some rank
     pub mark : Bool
-    pub marked_so : slice_get (state_frees (places g) (row_at free g)) n ≡ Some mark
+    pub marked_so : slice_get (state_frees ranks free g (places g)) n ≡ Some mark
 
   lower : (g from to : ℕ) (graph : NetGraph) → graph_at built g ≡ Some graph →
       (high : Marked g from) (low : Marked g to) → IsLowerRank low.rank high.rank →
@@ -251,34 +296,60 @@ module _ (graphs : List (List Place)) (ranks : List (List ℕ)) (free : List (Li
   abbrev of_place : (g a : ℕ) → has_state (places g) a ≡ true → Marked g (number (places g) a)
   of_place g a has = record {
     rank = above (place_rank ranks g a);
-    ranked_so = get_place (places g) (rank_at (row_at ranks g))
-        (chain_rank_at (places g) (row_at ranks g)) a has;
+    ranked_so = get_place (places g) (λ a. above (place_rank ranks g a))
+        (chain_rank_at ranks free g (places g)) a has;
     mark = is_place_free free g a;
-    marked_so = get_place (places g) (free_at (row_at free g))
-        (chain_free_at (places g) (row_at free g)) a has;
+    marked_so = get_place (places g) (is_place_free free g)
+        (chain_free_at ranks free g (places g)) a has;
   }
 
   abbrev of_chain : (g b l i : ℕ) → AreFit (places g) → l < length (label_lines (places g) b) →
-      i < chain_len (places g) b l → Marked g (first_chain (places g) b l + i)
-  of_chain g b l i ok at lt =
+      i < chain_len (places g) b l → called g b l ≡ None →
+      Marked g (first_chain (places g) b l + i)
+  of_chain g b l i ok at lt none =
       let within = place_inside (places g) b (has_line (places g) ok b l at) in
       record {
         rank = rest_rank (place_rank ranks g b) (drop (i + 1) (labels g b l));
-        ranked_so = get_chain (places g) (rank_at (row_at ranks g))
-            (chain_rank_at (places g) (row_at ranks g)) b l i within at lt;
+        ranked_so = get_chain (places g) (λ a. above (place_rank ranks g a))
+            (chain_rank_at ranks free g (places g)) b l i within at lt
+            ∙ ap (λ (called : Option ℕ). Some (chain_rank ranks free called (place_rank ranks g b)
+            (drop (i + 1) (labels g b l)))) none;
         mark = rest_free (is_place_free free g b) (drop (i + 1) (labels g b l));
-        marked_so = get_chain (places g) (free_at (row_at free g))
-            (chain_free_at (places g) (row_at free g)) b l i within at lt;
+        marked_so = get_chain (places g) (is_place_free free g)
+            (chain_free_at ranks free g (places g)) b l i within at lt
+            ∙ ap (λ (called : Option ℕ). Some (chain_free ranks free called
+            (is_place_free free g b) (drop (i + 1) (labels g b l)))) none;
       }
 
   abbrev after : (g b l k : ℕ) → AreFit (places g) → l < length (label_lines (places g) b) →
-      k < length (labels g b l) → Marked g (target_of (places g) b l k)
-  after g b l k ok at lt = record {
+      k < length (labels g b l) → called g b l ≡ None → Marked g (target_of (places g) b l k)
+  after g b l k ok at lt none = record {
     rank = rest_rank (place_rank ranks g b) (drop (k + 1) (labels g b l));
-    ranked_so = rank_after (places g) ok (row_at ranks g) b l k at lt;
+    ranked_so = rank_after (places g) ok ranks free g b l k at lt none;
     mark = rest_free (is_place_free free g b) (drop (k + 1) (labels g b l));
-    marked_so = free_after (places g) ok (row_at free g) b l k at lt;
+    marked_so = free_after (places g) ok ranks free g b l k at lt none;
   }
+
+  -- the chain state before a call, which stands behind an output
+  abbrev before_call : (g b l h : ℕ) → AreFit (places g) →
+      l < length (label_lines (places g) b) → called g b l ≡ Some h →
+      Marked g (first_chain (places g) b l + 0)
+  before_call g b l h ok at is =
+      let within = place_inside (places g) b (has_line (places g) ok b l at) in
+      let two = ap (length {A = Label}) (labels_called (places g) ok b l h at is) in
+      let one : 0 < chain_len (places g) b l = omega (arith, two) in
+      record {
+        rank = call_rank ranks free h (place_rank ranks g b);
+        ranked_so = get_chain (places g) (λ a. above (place_rank ranks g a))
+            (chain_rank_at ranks free g (places g)) b l 0 within at one
+            ∙ ap (λ (called : Option ℕ). Some (chain_rank ranks free called (place_rank ranks g b)
+            (drop (0 + 1) (labels g b l)))) is;
+        mark = call_free ranks free h (is_place_free free g b);
+        marked_so = get_chain (places g) (is_place_free free g)
+            (chain_free_at ranks free g (places g)) b l 0 within at one
+            ∙ ap (λ (called : Option ℕ). Some (chain_free ranks free called
+            (is_place_free free g b) (drop (0 + 1) (labels g b l)))) is;
+      }
 
   -- the step of the places along a line of a target
   abbrev step_of : ℕ → ℕ → ℕ → ℕ → Step
@@ -286,7 +357,7 @@ module _ (graphs : List (List Place)) (ranks : List (List ℕ)) (free : List (Li
     from = a;
     to = b;
     output = place_output (places g) b;
-    labels = labels g b l;
+    labels = line g b l;
   }
 
   is_step : (g a b l : ℕ) → AreFit (places g) → has_state (places g) a ≡ true →
@@ -302,12 +373,12 @@ module _ (graphs : List (List Place)) (ranks : List (List ℕ)) (free : List (Li
   -- the first label of a line, from a place
   first_lower : (g a b l : ℕ) (graph : NetGraph) → graph_at built g ≡ Some graph →
       (ok : AreFit (places g)) → has_state (places g) a ≡ true →
-      l < length (label_lines (places g) b) → 0 < length (labels g b l) →
+      l < length (label_lines (places g) b) → 0 < length (labels g b l) → called g b l ≡ None →
       (are_silent (drop (0 + 1) (labels g b l)) ≡ true → IsLowerPlace ranks free g a b) →
       IsLower built g (number (places g) a) (target_of (places g) b l 0)
-  first_lower g a b l graph there ok has at lt falls =
+  first_lower g a b l graph there ok has at lt none falls =
       lower g (number (places g) a) (target_of (places g) b l 0) graph there
-      (of_place g a has) (after g b l 0 ok at lt)
+      (of_place g a has) (after g b l 0 ok at lt none)
       (rest_lower (drop (0 + 1) (labels g b l)) (place_rank ranks g b) (place_rank ranks g a)
       (λ h. (falls h).falls))
       (λ h.
@@ -317,28 +388,29 @@ module _ (graphs : List (List Place)) (ranks : List (List ℕ)) (free : List (Li
   first_silent : (g a b l : ℕ) (graph : NetGraph) → graph_at built g ≡ Some graph →
       (ok : AreFit (places g)) → has_state (places g) a ≡ true →
       Contains (place_targets (places g) a) b → l < length (label_lines (places g) b) →
-      0 < length (labels g b l) → is_silent (get_or (labels g b l) 0 Empty) ≡ true →
+      0 < length (labels g b l) → called g b l ≡ None →
+      is_silent (get_or (labels g b l) 0 Empty) ≡ true →
       IsLower built g (number (places g) a) (target_of (places g) b l 0)
-  first_silent g a b l graph there ok has leads at lt silent =
+  first_silent g a b l graph there ok has leads at lt none silent =
       let rest = drop (0 + 1) (labels g b l) in
-      first_lower g a b l graph there ok has at lt (λ h.
+      first_lower g a b l graph there ok has at lt none (λ h.
       ranked.silent g (step_of g a b l) (is_step g a b l ok has leads at)
-      (ap are_silent (line_from (labels g b l) 0 lt)
+      (ap are_silent (sym (as_drawn (places g) ok b l none) ∙ line_from (labels g b l) 0 lt)
       ∙ (ap (λ b. b && are_silent rest) silent ∙ h)))
 
   -- a later label of a line, from a chain state
   later_silent : (g b l i : ℕ) (graph : NetGraph) → graph_at built g ≡ Some graph →
       (ok : AreFit (places g)) → l < length (label_lines (places g) b) →
-      i < chain_len (places g) b l → i + 1 < length (labels g b l) →
+      i < chain_len (places g) b l → i + 1 < length (labels g b l) → called g b l ≡ None →
       is_silent (get_or (labels g b l) (i + 1) Empty) ≡ true →
       IsLower built g (first_chain (places g) b l + i) (target_of (places g) b l (i + 1))
-  later_silent g b l i graph there ok at lt more silent =
+  later_silent g b l i graph there ok at lt more none silent =
       let label = get_or (labels g b l) (i + 1) Empty in
       let rest = drop ((i + 1) + 1) (labels g b l) in
       let is : drop (i + 1) (labels g b l) ≡ label ∷ rest =
       line_from (labels g b l) (i + 1) more in
       lower g (first_chain (places g) b l + i) (target_of (places g) b l (i + 1)) graph there
-      (of_chain g b l i ok at lt) (after g b l (i + 1) ok at more)
+      (of_chain g b l i ok at lt none) (after g b l (i + 1) ok at more none)
       (subst (λ (line : List Label). IsLowerRank (rest_rank (place_rank ranks g b) rest)
       (rest_rank (place_rank ranks g b) line)) (sym is)
       (silent_more label rest (place_rank ranks g b) silent))
@@ -346,9 +418,10 @@ module _ (graphs : List (List Place)) (ranks : List (List ℕ)) (free : List (Li
       ∙ free_more label rest (is_place_free free g b) silent h)
 
   silent_falls : (g n : ℕ) (edge : Edge) (graph : NetGraph) → graph_at built g ≡ Some graph →
-      (ok : AreFit (places g)) → OfLabel (places g) ok n edge → is_silent edge.label ≡ true →
+      (ok : AreFit (places g)) (o : OfLabel (places g) ok n edge) →
+      called g o.place o.line ≡ None → is_silent edge.label ≡ true →
       IsLower built g n edge.target
-  silent_falls g n edge graph there ok o silent =
+  silent_falls g n edge graph there ok o none silent =
       let to : target_of (places g) o.place o.line o.k ≡ edge.target =
       ap (λ (e : Edge). e.target) o.is in
       let label : is_silent (get_or (labels g o.place o.line) o.k Empty) ≡ true =
@@ -360,7 +433,7 @@ module _ (graphs : List (List Place)) (ranks : List (List ℕ)) (free : List (Li
             (subst (λ k. IsLower built g (number (places g) first.0)
             (target_of (places g) o.place o.line k)) (sym first.3)
             (first_silent g first.0 o.place o.line graph there ok first.1 first.4 o.inside
-            (let b = o.below in omega arith)
+            (let b = o.below in omega arith) none
             (subst (λ k. is_silent (get_or (labels g o.place o.line) k Empty) ≡ true) first.3
             label)))
         | inr later ↦
@@ -369,55 +442,93 @@ module _ (graphs : List (List Place)) (ranks : List (List ℕ)) (free : List (Li
             (subst (λ k. IsLower built g (first_chain (places g) o.place o.line + later.0)
             (target_of (places g) o.place o.line k)) (sym later.2)
             (later_silent g o.place o.line later.0 graph there ok o.inside later.1
-            (let b = o.below in let e = later.2 in omega arith)
+            (let b = o.below in let e = later.2 in omega arith) none
             (subst (λ k. is_silent (get_or (labels g o.place o.line) k Empty) ≡ true) later.2
             label)))
       ])
 
-  -- the call of a graph that is there, from a place
-  first_call : (g h a b l : ℕ) (graph : NetGraph) → graph_at built g ≡ Some graph →
-      (ok : AreFit (places g)) → has_state (places g) a ≡ true →
-      Contains (place_targets (places g) a) b → l < length (label_lines (places g) b) →
-      0 < length (labels g b l) → labels g b l ≡ Call h ∷ [] →
-      (rank_of built h 0 < rank_of built g (number (places g) a))
-      × (must built h 0 ≡ 0 → IsLower built g (number (places g) a) (target_of (places g) b l 0))
-  first_call g h a b l graph there ok has leads at lt only =
-      let called : IsCalled (length graphs) (Call h) =
-      inside g b (labels g b l) (Call h) (line_there (places g) b l at)
+  -- the graph of a call on a line, and its start
+  record Start (h : ℕ) : Type 0 where
+    graph : NetGraph
+    there : graph_at built h ≡ Some graph
+    at : Marked h 0
+    rank : at.rank ≡ above (place_rank ranks h 0)
+    mark : at.mark ≡ is_place_free free h 0
+
+  start_of : (g h b l : ℕ) → l < length (label_lines (places g) b) → line g b l ≡ Call h ∷ [] →
+      Start h
+  start_of g h b l at only =
+      let inside_call : IsCalled (length graphs) (Call h) =
+      inside g b (line g b l) (Call h) (line_there (places g) b l at)
       (subst (λ (line : List Label). Contains line (Call h)) (sym only)
       (contains_first (Call h) [])) in
-      let other = graph_there h called.0 called.1 in
-      let high = of_place g a has in
-      let low : Marked h 0 = of_place h 0 (starts (places h) (graph_fit h other.0 other.1)) in
-      let falls = ranked.calls g h (step_of g a b l) (is_step g a b l ok has leads at) only in
-      let here = rank_is g (number (places g) a) graph high.rank there high.ranked_so in
-      let start = rank_is h 0 other.0 low.rank other.1 low.ranked_so in
-      let weighs = lower_weighs (width_of built) low.rank high.rank start.1
-      (inl (let f = falls.0 in omega arith)) in
-      let mark = free_is h 0 other.0 low.mark other.1 low.marked_so in (
-        (let x = here.0 in let y = start.0 in omega arith),
-        λ free_start. first_lower g a b l graph there ok has at lt
-            (λ s. falls.1 (is_marked low.mark (sym mark ∙ free_start))),
-      )
+      let other = graph_there h inside_call.0 inside_call.1 in
+      record {
+        graph = other.0;
+        there = other.1;
+        at = of_place h 0 (starts (places h) (graph_fit h other.0 other.1));
+        rank = refl;
+        mark = refl;
+      }
+
+  -- a start that must take nothing is marked
+  start_free : (h : ℕ) → Start h → must built h 0 ≡ 0 → is_place_free free h 0 ≡ true
+  start_free h start none =
+      sym start.mark
+      ∙ is_marked start.at.mark
+      (sym (free_is h 0 start.graph start.at.mark start.there start.at.marked_so) ∙ none)
     where
       is_marked : (b : Bool) → ◌≡◌ {A = ℕ} (cond b 0 1) 0 → b ≡ true
       is_marked true h = refl
       is_marked false h = absurd (omega arith)
 
+  -- a state is above the start that is called
+  above_start : (g h n : ℕ) (graph : NetGraph) → graph_at built g ≡ Some graph →
+      (high : Marked g n) → Start h → IsLowerRank (above (place_rank ranks h 0)) high.rank →
+      rank_of built h 0 < rank_of built g n
+  above_start g h n graph there high start falls =
+      let here = rank_is g n graph high.rank there high.ranked_so in
+      let low = rank_is h 0 start.graph start.at.rank start.there start.at.ranked_so in
+      let weighs = lower_weighs (width_of built) start.at.rank high.rank low.1
+      (subst (λ (rank : Rank). IsLowerRank rank high.rank) (sym start.rank) falls) in
+      let x = here.0 in
+      let y = low.0 in
+      omega arith
+
+  -- the call of a graph that is there, from a place
+  first_call : (g h a b l : ℕ) (graph : NetGraph) → graph_at built g ≡ Some graph →
+      (ok : AreFit (places g)) → has_state (places g) a ≡ true →
+      Contains (place_targets (places g) a) b → l < length (label_lines (places g) b) →
+      0 < length (labels g b l) → called g b l ≡ None → line g b l ≡ Call h ∷ [] →
+      (rank_of built h 0 < rank_of built g (number (places g) a))
+      × (must built h 0 ≡ 0 → IsLower built g (number (places g) a) (target_of (places g) b l 0))
+  first_call g h a b l graph there ok has leads at lt none only =
+      let start = start_of g h b l at only in
+      let falls = ranked.calls g h (step_of g a b l) (is_step g a b l ok has leads at) only in (
+        above_start g h (number (places g) a) graph there (of_place g a has) start
+            (inl (let f = falls.0 in omega arith)),
+        λ free_start. first_lower g a b l graph there ok has at lt none
+            (λ s. falls.1 (start_free h start free_start)),
+      )
+
   call_falls : (g n h : ℕ) (edge : Edge) (graph : NetGraph) → graph_at built g ≡ Some graph →
-      (ok : AreFit (places g)) → OfLabel (places g) ok n edge → edge.label ≡ Call h →
+      (ok : AreFit (places g)) (o : OfLabel (places g) ok n edge) →
+      called g o.place o.line ≡ None → edge.label ≡ Call h →
       (rank_of built h 0 < rank_of built g n)
       × (must built h 0 ≡ 0 → IsLower built g n edge.target)
-  call_falls g n h edge graph there ok o call =
+  call_falls g n h edge graph there ok o none call =
       let to : target_of (places g) o.place o.line o.k ≡ edge.target =
       ap (λ (e : Edge). e.target) o.is in
-      let label : get_or (labels g o.place o.line) o.k Empty ≡ Call h =
-      ap (λ (e : Edge). e.label) o.is ∙ call in
-      let only = alone (places g) ok o.place o.line o.k h o.inside o.below label in
+      let drawn = as_drawn (places g) ok o.place o.line none in
+      let label : get_or (line g o.place o.line) o.k Empty ≡ Call h =
+      ap (λ (line : List Label). get_or line o.k Empty) (sym drawn)
+      ∙ (ap (λ (e : Edge). e.label) o.is ∙ call) in
+      let only = alone (places g) ok o.place o.line o.k h o.inside
+      (subst (λ (line : List Label). o.k < length line) drawn o.below) label in
       elim o.from [
         | inl first ↦
             let r = first_call g h first.0 o.place o.line graph there ok first.1 first.4 o.inside
-            (let b = o.below in omega arith) only.1 in
+            (let b = o.below in omega arith) none only.1 in
             let from = first.2 in
             let to_first : target_of (places g) o.place o.line 0 ≡ edge.target =
             ap (target_of (places g) o.place o.line) (sym only.0) ∙ to in
@@ -429,27 +540,128 @@ module _ (graphs : List (List Place)) (ranks : List (List ℕ)) (free : List (Li
       ]
 
   label_falls : (g n : ℕ) (edge : Edge) (graph : NetGraph) → graph_at built g ≡ Some graph →
-      (ok : AreFit (places g)) → OfLabel (places g) ok n edge → (label : Label) →
-      edge.label ≡ label → Falls built g n edge.target label
-  label_falls g n edge graph there ok o (Fold text) is = tt
-  label_falls g n edge graph there ok o (Exact text) is = tt
-  label_falls g n edge graph there ok o (Mask text) is = tt
-  label_falls g n edge graph there ok o (Brace text) is = tt
-  label_falls g n edge graph there ok o Space is = tt
-  label_falls g n edge graph there ok o Positive is = tt
-  label_falls g n edge graph there ok o Negative is = tt
-  label_falls g n edge graph there ok o ContextEnd is = tt
-  label_falls g n edge graph there ok o (Begin name) is =
-      silent_falls g n edge graph there ok o (ap is_silent is)
-  label_falls g n edge graph there ok o (End name) is =
-      silent_falls g n edge graph there ok o (ap is_silent is)
-  label_falls g n edge graph there ok o Cut is =
-      silent_falls g n edge graph there ok o (ap is_silent is)
-  label_falls g n edge graph there ok o Empty is =
-      silent_falls g n edge graph there ok o (ap is_silent is)
-  label_falls g n edge graph there ok o Glue is =
-      silent_falls g n edge graph there ok o (ap is_silent is)
-  label_falls g n edge graph there ok o (Call h) is = call_falls g n h edge graph there ok o is
+      (ok : AreFit (places g)) (o : OfLabel (places g) ok n edge) →
+      called g o.place o.line ≡ None → (label : Label) → edge.label ≡ label →
+      Falls built g n edge.target label
+  label_falls g n edge graph there ok o none (Fold text) is = tt
+  label_falls g n edge graph there ok o none (Exact text) is = tt
+  label_falls g n edge graph there ok o none (Mask text) is = tt
+  label_falls g n edge graph there ok o none (Brace text) is = tt
+  label_falls g n edge graph there ok o none Space is = tt
+  label_falls g n edge graph there ok o none Positive is = tt
+  label_falls g n edge graph there ok o none Negative is = tt
+  label_falls g n edge graph there ok o none ContextEnd is = tt
+  label_falls g n edge graph there ok o none (Begin name) is =
+      silent_falls g n edge graph there ok o none (ap is_silent is)
+  label_falls g n edge graph there ok o none (End name) is =
+      silent_falls g n edge graph there ok o none (ap is_silent is)
+  label_falls g n edge graph there ok o none Cut is =
+      silent_falls g n edge graph there ok o none (ap is_silent is)
+  label_falls g n edge graph there ok o none Empty is =
+      silent_falls g n edge graph there ok o none (ap is_silent is)
+  label_falls g n edge graph there ok o none Glue is =
+      silent_falls g n edge graph there ok o none (ap is_silent is)
+  label_falls g n edge graph there ok o none (Call h) is =
+      call_falls g n h edge graph there ok o none is
+
+  -- the output before a call, from a place
+  output_lower : (g h a b l : ℕ) (graph : NetGraph) → graph_at built g ≡ Some graph →
+      (ok : AreFit (places g)) → has_state (places g) a ≡ true →
+      Contains (place_targets (places g) a) b → (at : l < length (label_lines (places g) b)) →
+      called g b l ≡ Some h →
+      IsLower built g (number (places g) a) (first_chain (places g) b l + 0)
+  output_lower g h a b l graph there ok has leads at is =
+      let falls = ranked.calls g h (step_of g a b l) (is_step g a b l ok has leads at)
+      (line_called (places g) ok b l h at is) in
+      let below = call_below (place_rank ranks h 0) (place_rank ranks g b) (place_rank ranks g a)
+      (is_place_free free h 0) falls.0 (λ marked. (falls.1 marked).falls) in
+      lower g (number (places g) a) (first_chain (places g) b l + 0) graph there
+      (of_place g a has) (before_call g b l h ok at is) (inl (omega (arith, below)))
+      (λ marked.
+      let both = both_marked (is_place_free free h 0) (is_place_free free g b) marked in
+      (falls.1 both.0).marked both.1)
+
+  -- the call behind it, from the chain state
+  behind_output : (g h b l : ℕ) (graph : NetGraph) → graph_at built g ≡ Some graph →
+      (ok : AreFit (places g)) → (at : l < length (label_lines (places g) b)) →
+      called g b l ≡ Some h →
+      (rank_of built h 0 < rank_of built g (first_chain (places g) b l + 0))
+      × (must built h 0 ≡ 0 →
+      IsLower built g (first_chain (places g) b l + 0) (number (places g) b))
+  behind_output g h b l graph there ok at is =
+      let start = start_of g h b l at (line_called (places g) ok b l h at is) in
+      let high = before_call g b l h ok at is in
+      let behind = cond (is_place_free free h 0) (place_rank ranks g b) 0 in (
+        above_start g h (first_chain (places g) b l + 0) graph there high start
+            (beneath (place_rank ranks h 0) (call_rank ranks free h (place_rank ranks g b))
+            (let le = le-max_left (place_rank ranks h 0) behind in omega (arith, le))
+            (omega arith)),
+        λ free_start.
+            let marked = start_free h start free_start in
+            let whole : behind ≡ place_rank ranks g b =
+            ap (λ t. cond t (place_rank ranks g b) 0) marked in
+            lower g (first_chain (places g) b l + 0) (number (places g) b) graph there high
+            (of_place g b (has_line (places g) ok b l at))
+            (beneath (place_rank ranks g b) (call_rank ranks free h (place_rank ranks g b))
+            (let le = le-max_right (place_rank ranks h 0) behind in omega (arith, le, whole))
+            (omega arith))
+            (λ free_place. ap (λ t. cond t (is_place_free free g b) false) marked ∙ free_place),
+      )
+
+  -- both edges of a call behind an output
+  behind_falls : (g n h : ℕ) (edge : Edge) (graph : NetGraph) → graph_at built g ≡ Some graph →
+      (ok : AreFit (places g)) (o : OfLabel (places g) ok n edge) →
+      called g o.place o.line ≡ Some h → Falls built g n edge.target edge.label
+  behind_falls g n h edge graph there ok o is =
+      let b = o.place in
+      let l = o.line in
+      let two = labels_called (places g) ok b l h o.inside is in
+      let len : length (labels g b l) ≡ 2 = ap (length {A = Label}) two in
+      let below = o.below in
+      elim o.from [
+        | inl first ↦
+            let to : first_chain (places g) b l + 0 ≡ edge.target =
+            sym (lt_then (0 + 1) (length (labels g b l)) (first_chain (places g) b l + 0)
+            (number (places g) b) (omega (arith, len)))
+            ∙ (ap (target_of (places g) b l) (sym first.3) ∙ ap (λ (e : Edge). e.target) o.is) in
+            let label : Empty ≡ edge.label =
+            sym (ap (λ (line : List Label). get_or line 0 Empty) two)
+            ∙ (ap (λ k. get_or (labels g b l) k Empty) (sym first.3)
+            ∙ ap (λ (e : Edge). e.label) o.is) in
+            subst (Falls built g n edge.target) label
+            (subst (λ m. IsLower built g m edge.target) (sym first.2)
+            (subst (λ t. IsLower built g (number (places g) first.0) t) to
+            (output_lower g h first.0 b l graph there ok first.1 first.4 o.inside is)))
+        | inr later ↦
+            let one : later.0 ≡ 0 =
+            let lt = later.1 in omega (arith, lt, len) in
+            let k : o.k ≡ 1 = let e = later.2 in omega (arith, e, one) in
+            let from : n ≡ first_chain (places g) b l + 0 =
+            later.3 ∙ ap (λ i. first_chain (places g) b l + i) one in
+            let to : number (places g) b ≡ edge.target =
+            sym (lt_else (1 + 1) (length (labels g b l)) (first_chain (places g) b l + 1)
+            (number (places g) b) (omega (arith, len)))
+            ∙ (ap (target_of (places g) b l) (sym k) ∙ ap (λ (e : Edge). e.target) o.is) in
+            let label : Call h ≡ edge.label =
+            sym (ap (λ (line : List Label). get_or line 1 Empty) two)
+            ∙ (ap (λ k. get_or (labels g b l) k Empty) (sym k)
+            ∙ ap (λ (e : Edge). e.label) o.is) in
+            subst (Falls built g n edge.target) label
+            (subst (λ m. (rank_of built h 0 < rank_of built g m)
+            × (must built h 0 ≡ 0 → IsLower built g m edge.target)) (sym from)
+            (subst (λ t. (rank_of built h 0 < rank_of built g (first_chain (places g) b l + 0))
+            × (must built h 0 ≡ 0 → IsLower built g (first_chain (places g) b l + 0) t)) to
+            (behind_output g h b l graph there ok o.inside is)))
+      ]
+
+  edge_falls : (g n : ℕ) (edge : Edge) (graph : NetGraph) → graph_at built g ≡ Some graph →
+      (ok : AreFit (places g)) → OfLabel (places g) ok n edge →
+      Falls built g n edge.target edge.label
+  edge_falls g n edge graph there ok o = go (called g o.place o.line) refl
+    where
+      go : (c : Option ℕ) → called g o.place o.line ≡ c → Falls built g n edge.target edge.label
+      go None is = label_falls g n edge graph there ok o is edge.label refl
+      go (Some h) is = behind_falls g n h edge graph there ok o is
 
   -- a state of the net is one of the states of its graph
   record InGraph (g n : ℕ) (state : State) : Type 0 where
@@ -501,8 +713,8 @@ module _ (graphs : List (List Place)) (ranks : List (List ℕ)) (free : List (Li
   built_is_measured = record {
     falls = λ g n state edge found within.
         let i = in_graph g n state found in
-        label_falls g n edge i.graph i.there i.ok
-        (of_label (places g) i.ok n state edge i.found within) edge.label refl;
+        edge_falls g n edge i.graph i.there i.ok
+        (of_label (places g) i.ok n state edge i.found within);
     ends = λ g n state found final. ending g n state (in_graph g n state found) final;
   }
 
@@ -517,9 +729,10 @@ module _ (graphs : List (List Place)) (ranks : List (List ℕ)) (free : List (Li
         let o = of_label (places g) i.ok n state edge i.found within in
         let call : IsCalled (length graphs) edge.label =
         subst (IsCalled (length graphs)) (ap (λ (e : Edge). e.label) o.is)
-        (inside g o.place (labels g o.place o.line)
+        (each_label (IsCalled (length graphs)) (called g o.place o.line) (line g o.place o.line) tt
+        (λ x of_line. inside g o.place (line g o.place o.line) x
+        (line_there (places g) o.place o.line o.inside) of_line)
         (get_or (labels g o.place o.line) o.k Empty)
-        (line_there (places g) o.place o.line o.inside)
         (Contains-get_or (labels g o.place o.line) o.k Empty o.below)) in
         record {
           target = subst (λ (s : List State). edge.target < length s) (sym i.same)

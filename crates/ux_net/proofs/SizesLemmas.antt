@@ -1,5 +1,5 @@
 -- The states of a graph can be numbered: a line has no more labels than its items have bytes.
-use Rattle.std.proofs.Common.{arith, ◌≡◌, ◌≢◌, ℕ, zero, suc, ◌+◌, ◌-◌, ◌<◌, ◌≤◌, List, [], ◌∷◌, refl, sym, ◌∙◌, ap, Bool, true, false, cond, length, length-append, Option, Some}
+use Rattle.std.proofs.Common.{arith, ◌≡◌, ◌≢◌, ℕ, zero, suc, ◌+◌, ◌<◌, ◌≤◌, List, [], ◌∷◌, refl, sym, ◌∙◌, ap, Bool, true, false, cond, length, length-append, Option, Some}
 use Rattle.std.specs.Prelude.{All, slice_get, sum_by}
 use Rattle.std.specs.List.{AllZip}
 use Rattle.std.proofs.lemmas.List.{length-map}
@@ -13,14 +13,16 @@ use Rattle.ux_tokens.specs.Tokens.{Token, IsTokenText, joined, with_single_space
 use Rattle.ux_grf.specs.declared.graph.Graph.{Graph}
 use Rattle.ux_grf.specs.declared.graph.GrfBox.{GrfBox}
 use Rattle.ux_grf.specs.declared.item.Item.{Item}
+use Rattle.ux_grf.specs.declared.item.Piece.{Piece}
 use Rattle.ux_grf.specs.declared.item.Item.TheVariants as item
 use Rattle.ux_grf.specs.Size.{size_of_item, size_of_line, size_of_box, size_of}
 use Rattle.ux_net.specs.declared.label.Label.{Label}
 use Rattle.ux_net.specs.declared.label.Label.TheVariants.{Empty}
 use Rattle.ux_net.specs.declared.place.Place.{Place}
 use Rattle.ux_net.specs.Boxes.{fold_label, exact_label, IsCut, IsSplit, IsSplitLine, lines_at, box_lines_in}
-use Rattle.ux_net.specs.Construct.{place_size}
+use Rattle.ux_net.specs.Construct.{called_behind, later_edges, place_size}
 use Rattle.ux_net.specs.Places.{label_lines, lines_in, ArePlaces}
+use Rattle.ux_net.proofs.EdgeLabelsLemmas.{one_more}
 
 -- spaces made single don't lengthen a text
 kept : (b : ℕ) (s t : Bool) (rest : List ℕ) →
@@ -105,18 +107,20 @@ module _ (alphabet : Letters) (names : List (List ℕ)) where
       let sum = sum_by-cons size_of_item x line in
       omega (arith, one, r, len, sum)
 
-  lines_few : (lines : List (List Item)) (split : List (List Label)) →
+  -- and no more edges but the first
+  lines_few : (output : List Piece) (lines : List (List Item)) (split : List (List Label)) →
       AllZip (IsSplitLine alphabet names) lines split →
-      sum_by (λ (line : List Label). length line - 1) split ≤ sum_by size_of_line lines
-  lines_few [] [] z = omega arith
-  lines_few [] (labels ∷ split) z = absurd z
-  lines_few (line ∷ lines) [] z = absurd z
-  lines_few (line ∷ lines) (labels ∷ split) z =
+      sum_by (later_edges output) split ≤ sum_by size_of_line lines
+  lines_few output [] [] z = omega arith
+  lines_few output [] (labels ∷ split) z = absurd z
+  lines_few output (line ∷ lines) [] z = absurd z
+  lines_few output (line ∷ lines) (labels ∷ split) z =
       let one = line_few line labels z.0 in
-      let r = lines_few lines split z.1 in
-      let a = sum_by-cons (λ (l : List Label). length l - 1) labels split in
+      let most = one_more (called_behind output labels) labels in
+      let r = lines_few output lines split z.1 in
+      let a = sum_by-cons (later_edges output) labels split in
       let b = sum_by-cons size_of_line line lines in
-      omega (arith, one, r, a, b)
+      omega (arith, one, most, r, a, b)
 
 -- a list of places is no larger than its boxes, if each place is no larger than its box
 sums_few : (places : List Place) (boxes : List GrfBox) → length places ≡ length boxes →
@@ -136,23 +140,29 @@ sums_few (p ∷ places) (b ∷ boxes) len each =
 module _ (alphabet : Letters) (names : List (List ℕ)) (graph : Graph) (places : List Place)
     (are : ArePlaces alphabet names graph.boxes places)
     (start : label_lines places 0 ≡ (Empty ∷ []) ∷ []) where
-  abbrev later : List (List Label) → ℕ
-  later lines = sum_by (λ (line : List Label). length line - 1) lines
+  abbrev later : List Piece → List (List Label) → ℕ
+  later output lines = sum_by (later_edges output) lines
+
+  start_later : (output : List Piece) → later output ((Empty ∷ []) ∷ []) ≡ 0
+  start_later [] = refl
+  start_later (first ∷ rest) = refl
 
   -- a place is no larger than its box
   place_few : (n : ℕ) (p : Place) (b : GrfBox) → slice_get places n ≡ Some p →
       slice_get graph.boxes n ≡ Some b → place_size p ≤ 1 + size_of_box b
   place_few zero p b at_p at_b =
-      let one : later p.lines ≡ 0 = ap (λ (o : Option Place). later (lines_in o)) (sym at_p) ∙ ap later start in
+      let one : later p.output p.lines ≡ 0 =
+      ap (λ (o : Option Place). later p.output (lines_in o)) (sym at_p)
+      ∙ (ap (later p.output) start ∙ start_later p.output) in
       omega (arith, one)
   place_few (suc zero) p b at_p at_b =
-      let few = lines_few alphabet names [] (label_lines places 1) (are.lines 1) in
-      let same = ap (λ (o : Option Place). later (lines_in o)) at_p in
+      let few = lines_few alphabet names p.output [] (label_lines places 1) (are.lines 1) in
+      let same = ap (λ (o : Option Place). later p.output (lines_in o)) at_p in
       omega (arith, few, same)
   place_few (suc (suc n)) p b at_p at_b =
-      let few = lines_few alphabet names (lines_at graph.boxes (suc (suc n)))
+      let few = lines_few alphabet names p.output (lines_at graph.boxes (suc (suc n)))
       (label_lines places (suc (suc n))) (are.lines (suc (suc n))) in
-      let same = ap (λ (o : Option Place). later (lines_in o)) at_p in
+      let same = ap (λ (o : Option Place). later p.output (lines_in o)) at_p in
       let size = ap (λ (o : Option GrfBox). sum_by size_of_line (box_lines_in o)) at_b in
       omega (arith, few, same, size)
 

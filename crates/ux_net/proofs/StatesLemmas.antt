@@ -6,10 +6,13 @@ use Rattle.std.proofs.lemmas.Option.{slice_get_within, slice_get-get_or}
 use Rattle.std.proofs.lemmas.List.Elements.{Contains-get_or}
 use Rattle.std.proofs.lemmas.List.FromFn.{length-map-range_with_len, get_or-map-range_with_len}
 use Rattle.std.proofs.lemmas.List.Sums.{sum_by-cons}
+use Rattle.ux_grf.specs.declared.item.Piece.{Piece}
 use Rattle.ux_net.specs.declared.label.Label.{Label}
+use Rattle.ux_net.specs.declared.label.Label.TheVariants.{Empty, Call}
 use Rattle.ux_net.specs.declared.place.Place.{Place}
-use Rattle.ux_net.specs.Places.{lines_in, label_lines, reached_in, is_reached}
-use Rattle.ux_net.specs.Construct.{labels_in, place_size, has_state, number, labels_at, chain_len, chains_len, chain_start, first_chain, along_line, along_lines, at_place, by_state, table_of, AreFit}
+use Rattle.ux_net.specs.Places.{lines_in, output_in_place, label_lines, place_output, reached_in, is_reached}
+use Rattle.ux_net.specs.Construct.{labels_in, edge_labels, later_edges, place_size, has_state, number, line_at, called_at, labels_at, chain_len, chains_len, chain_start, first_chain, along_line, along_lines, at_place, by_state, table_of, AreFit}
+use Rattle.ux_net.proofs.EdgeLabelsLemmas.{no_fewer, call_whole}
 use Rattle.ux_net.proofs.JoinedLemmas.{less_or, get_left, get_right, get_mapped_range, get_joined, find_joined, length_joined, sum_more, sum_shorter}
 
 -- sums over a list, and over the range of its indices
@@ -38,12 +41,12 @@ sum_ranged g (x ∷ xs) =
     (range_with_len 0 (length xs)) ∙ sum_ranged g xs))
     ∙ sym (sum_by-cons (λ y. g (Some y)) x xs))
 
--- the labels of a line but the first
-abbrev later_in : Option (List Label) → ℕ
-later_in line = length (labels_in line) - 1
+-- the edges of a line but the first
+abbrev later_in : List Piece → Option (List Label) → ℕ
+later_in output line = later_edges output (labels_in line)
 
 abbrev chains_in : Option Place → ℕ
-chains_in place = sum_by (λ (line : List Label). length line - 1) (lines_in place)
+chains_in place = sum_by (later_edges (output_in_place place)) (lines_in place)
 
 places_weigh : (places : List Place) →
     length places + sum_by (λ (p : Place). chains_in (Some p)) places ≤ sum_by place_size places
@@ -69,7 +72,7 @@ reached_within places a (Some place) is h = slice_get_within places a place is
 
 module _ (places : List Place) where
   chains_sum : (b : ℕ) → chains_len places b ≡ chains_in (slice_get places b)
-  chains_sum b = sum_ranged later_in (label_lines places b)
+  chains_sum b = sum_ranged (later_in (place_output places b)) (label_lines places b)
 
   -- a place's number isn't above it
   pub number_below : (a : ℕ) → number places a ≤ a
@@ -149,7 +152,7 @@ module _ (places : List Place) where
 
   -- a line that is there is a line of its place
   pub line_there : (b l : ℕ) → l < length (label_lines places b) →
-      Contains (label_lines places b) (labels_at places b l)
+      Contains (label_lines places b) (line_at places b l)
   line_there b l at =
       let found = slice_get-get_or (label_lines places b) l [] at in
       subst (λ line. Contains (label_lines places b) line) (ap labels_in (sym found))
@@ -157,7 +160,23 @@ module _ (places : List Place) where
 
   pub line_some : AreFit places → (b l : ℕ) → l < length (label_lines places b) →
       0 < length (labels_at places b l)
-  line_some fit b l at = (fit.lines b (labels_at places b l) (line_there b l at)).some
+  line_some fit b l at =
+      let some = (fit.lines b (line_at places b l) (line_there b l at)).some in
+      let more = no_fewer (called_at places b l) (line_at places b l) in
+      omega arith
+
+  -- a line that calls a graph behind an output is that call alone, and has two edges
+  pub line_called : AreFit places → (b l h : ℕ) → l < length (label_lines places b) →
+      called_at places b l ≡ Some h → line_at places b l ≡ Call h ∷ []
+  line_called fit b l h at is =
+      call_whole (place_output places b) (line_at places b l) h
+      (fit.lines b (line_at places b l) (line_there b l at)) is
+
+  pub labels_called : AreFit places → (b l h : ℕ) → l < length (label_lines places b) →
+      called_at places b l ≡ Some h → labels_at places b l ≡ Empty ∷ Call h ∷ []
+  labels_called fit b l h at is =
+      ap (λ (called : Option ℕ). edge_labels called (line_at places b l)) is
+      ∙ ap (λ (line : List Label). Empty ∷ line) (line_called fit b l h at is)
 
   -- what a table of numbers has for a place
   pub table_within : (f : ℕ → ℕ) (table : List ℕ) (a : ℕ) → table ≡ table_of places f →

@@ -27,9 +27,23 @@ abbrev pub labels_in : Option (List Label) → List Label
 labels_in None = []
 labels_in (Some line) = line
 
--- one for the place, and one for each label of its lines but the first of a line
+-- the graph that a line calls behind an output: the box puts something out, and a call comes first
+abbrev pub called_behind : (output : List Piece) → (line : List Label) → Option ℕ
+called_behind (first ∷ rest) (Call graph ∷ labels) = Some graph
+called_behind output line = None
+
+-- the labels of a line's edges: before such a call the output has an edge of its own
+abbrev pub edge_labels : (called : Option ℕ) → (line : List Label) → List Label
+edge_labels None line = line
+edge_labels (Some graph) line = Empty ∷ line
+
+-- how many edges a line has but the first
+abbrev pub later_edges : (output : List Piece) → (line : List Label) → ℕ
+later_edges output line = length (edge_labels (called_behind output line) line) - 1
+
+-- one for the place, and one for each edge of its lines but the first of a line
 abbrev pub place_size : Place → ℕ
-place_size place = 1 + sum_by (λ (line : List Label). length line - 1) place.lines
+place_size place = 1 + sum_by (later_edges place.output) place.lines
 
 -- each edge leads to a state that is there
 abbrev pub AreTargetsInside : List State → Type 0
@@ -46,11 +60,19 @@ module _ (places : List Place) where
   abbrev pub number : ℕ → ℕ
   number a = count_by has_state (range_with_len 0 a)
 
-  -- the labels of line l of place b
-  abbrev pub labels_at : ℕ → ℕ → List Label
-  labels_at b l = labels_in (slice_get (label_lines places b) l)
+  -- line l of place b
+  abbrev pub line_at : ℕ → ℕ → List Label
+  line_at b l = labels_in (slice_get (label_lines places b) l)
 
-  -- a line has a chain state before each label but the first
+  -- the graph that this line calls behind an output
+  abbrev pub called_at : ℕ → ℕ → Option ℕ
+  called_at b l = called_behind (place_output places b) (line_at b l)
+
+  -- the labels of the edges of line l of place b
+  abbrev pub labels_at : ℕ → ℕ → List Label
+  labels_at b l = edge_labels (called_at b l) (line_at b l)
+
+  -- a line has a chain state before each of these labels but the first
   abbrev pub chain_len : ℕ → ℕ → ℕ
   chain_len b l = length (labels_at b l) - 1
 

@@ -1,6 +1,6 @@
 -- Ranks of the states that are made of places, from ranks of the places: why every walk ends.
 -- Inner: the crate's own functions alone speak of it.
-use Rattle.std.specs.Prelude.{◌≡◌, ℕ, ◌+◌, ◌≤◌, List, Some, Contains, length, get_or, drop, Bool, false, cond}
+use Rattle.std.specs.Prelude.{◌≡◌, ℕ, ◌+◌, ◌≤◌, max, List, Option, None, Some, Contains, length, drop, Bool, false, cond}
 use Rattle.std.specs.List.{prefix_len}
 use Rattle.ux_net.specs.declared.label.Label.{Label}
 use Rattle.ux_net.specs.declared.place.Place.{Place}
@@ -8,9 +8,9 @@ use Rattle.ux_net.specs.declared.net_graph.NetGraph.{NetGraph}
 use Rattle.ux_net.specs.declared.net_graph.Rank.{Rank}
 use Rattle.ux_net.specs.Places.{label_lines, places_of}
 use Rattle.ux_net.specs.Nets.{graph_at, IsCalled}
-use Rattle.ux_net.specs.Construct.{labels_at, by_state, states_of, AreFit}
+use Rattle.ux_net.specs.Construct.{called_at, labels_at, by_state, states_of, AreFit}
 use Rattle.ux_net.specs.Silent.{is_silent, are_silent}
-use Rattle.ux_net.specs.Admission.{row_at}
+use Rattle.ux_net.specs.Admission.{place_rank, is_place_free}
 
 -- how many labels come before the first that isn't silent
 abbrev pub silent_len : List Label → ℕ
@@ -32,31 +32,50 @@ rest_free free rest = cond (are_silent rest) free false
 abbrev pub above : ℕ → Rank
 above rank = record { major = rank + 1; minor = 0 }
 
--- the rank of the state of place a, from the ranks of the places
-abbrev pub rank_at : List ℕ → ℕ → Rank
-rank_at ranks a = above (get_or ranks a 0)
+-- The ranks and the marks of the states of a graph, from those of the places of all graphs.
+module _ (ranks : List (List ℕ)) (free : List (List Bool)) where
+  -- The rank of a state from which a call of graph h leads to a place of this rank: above the start
+  -- of the graph, and where that is marked, above the place too.
+  abbrev pub call_rank : (h rank : ℕ) → Rank
+  call_rank h rank = record {
+    major = max (place_rank ranks h 0) (cond (is_place_free free h 0) rank 0) + 1;
+    minor = 1;
+  }
 
--- the mark of the state of place a, from the marks of the places
-abbrev pub free_at : List Bool → ℕ → Bool
-free_at free a = get_or free a false
+  -- such a state is marked where the start of the graph and the place are
+  abbrev pub call_free : (h : ℕ) → Bool → Bool
+  call_free h mark = cond (is_place_free free h 0) mark false
 
--- the rank of chain state k of line l of place b, which stands before label k + 1
-abbrev pub chain_rank_at : List Place → List ℕ → ℕ → ℕ → ℕ → Rank
-chain_rank_at places ranks b l k =
-    rest_rank (get_or ranks b 0) (drop (k + 1) (labels_at places b l))
+  -- the rank of a chain state of a line, which may be a call behind an output, from where these
+  -- labels lead to a place of this rank
+  abbrev pub chain_rank : (called : Option ℕ) → ℕ → List Label → Rank
+  chain_rank None rank rest = rest_rank rank rest
+  chain_rank (Some h) rank rest = call_rank h rank
 
--- the mark of that chain state
-abbrev pub chain_free_at : List Place → List Bool → ℕ → ℕ → ℕ → Bool
-chain_free_at places free b l k =
-    rest_free (get_or free b false) (drop (k + 1) (labels_at places b l))
+  -- the mark of such a state
+  abbrev pub chain_free : (called : Option ℕ) → Bool → List Label → Bool
+  chain_free None mark rest = rest_free mark rest
+  chain_free (Some h) mark rest = call_free h mark
 
--- the rank of each state, from those of the places
-abbrev pub state_ranks : List Place → List ℕ → List Rank
-state_ranks places ranks = by_state places (rank_at ranks) (chain_rank_at places ranks)
+  -- for graph g of these places
+  module _ (g : ℕ) (places : List Place) where
+    -- the rank of chain state k of line l of place b, which stands before label k + 1
+    abbrev pub chain_rank_at : ℕ → ℕ → ℕ → Rank
+    chain_rank_at b l k = chain_rank (called_at places b l) (place_rank ranks g b)
+        (drop (k + 1) (labels_at places b l))
 
--- the mark of each state, from those of the places
-abbrev pub state_frees : List Place → List Bool → List Bool
-state_frees places free = by_state places (free_at free) (chain_free_at places free)
+    -- the mark of that chain state
+    abbrev pub chain_free_at : ℕ → ℕ → ℕ → Bool
+    chain_free_at b l k = chain_free (called_at places b l) (is_place_free free g b)
+        (drop (k + 1) (labels_at places b l))
+
+    -- the rank of each state
+    abbrev pub state_ranks : List Rank
+    state_ranks = by_state places (λ a. above (place_rank ranks g a)) chain_rank_at
+
+    -- the mark of each state
+    abbrev pub state_frees : List Bool
+    state_frees = by_state places (is_place_free free g) chain_free_at
 
 -- a call on a line is of a graph that is there
 abbrev pub AreCallsInside : List (List Place) → Type 0
@@ -69,16 +88,16 @@ AreCallsInside graphs =
 abbrev pub AreAllFit : List (List Place) → Type 0
 AreAllFit graphs = (g : ℕ) → 1 ≤ g → g ≤ length graphs → AreFit (places_of graphs g)
 
--- a compiled graph has the states of the places, with the ranks and the marks of the places
-pub record IsBuilt (places : List Place) (ranks : List ℕ) (marks : List Bool)
-    (graph : NetGraph) : Type 0 where
+-- compiled graph g has the states of the places, with the ranks and the marks of the places
+pub record IsBuilt (ranks : List (List ℕ)) (free : List (List Bool)) (g : ℕ)
+    (places : List Place) (graph : NetGraph) : Type 0 where
   pub states : graph.states ≡ states_of places
-  pub ranked : graph.ranks ≡ state_ranks places ranks
-  pub marked : graph.free ≡ state_frees places marks
+  pub ranked : graph.ranks ≡ state_ranks ranks free g places
+  pub marked : graph.free ≡ state_frees ranks free g places
 
 -- the compiled graphs are built of the graphs, one of each
 pub record AreBuilt (graphs : List (List Place)) (ranks : List (List ℕ))
     (free : List (List Bool)) (built : List NetGraph) : Type 0 where
   pub count : length built ≡ length graphs
   pub each : (g : ℕ) (graph : NetGraph) → graph_at built g ≡ Some graph →
-      IsBuilt (places_of graphs g) (row_at ranks g) (row_at free g) graph
+      IsBuilt ranks free g (places_of graphs g) graph

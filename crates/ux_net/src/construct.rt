@@ -11,18 +11,28 @@
 //! ```
 //!
 //! where state 1 is that of place 2, and state 2 a chain state. What place 2 puts out stands on the
-//! two edges that leave state 0, and so before each of its lines, also before one that is a call.
+//! two edges that leave state 0, and so before each of its lines. A call has no output on its edge:
+//! if place 2 has the output `o` and one line, a call of the graph `g`, the output has an edge of
+//! its own, with the empty word, and the call hangs on a chain state.
+//!
+//! ```text
+//! state 0 --<E>/o--> state 2 --:g--> state 1 (final)
+//! ```
 
-ghost use Rattle.std.specs.Prelude.{◌≡◌, ◌+◌, ◌-◌, ◌<◌, ◌++◌, length, IfOk, OnOk, cond, ltb};
+ghost use Rattle.std.specs.Prelude.{◌≡◌, ◌+◌, ◌-◌, ◌<◌, ◌++◌, length, get_or, IfOk, OnOk, cond, ltb};
 ghost use Rattle.std.specs.List.{range_with_len, flat_map};
-ghost use Rattle.ux_net.specs.Places.{place_output as place_output_of, place_targets};
+ghost use Rattle.ux_net.specs.declared.label.Label.TheVariants.{Empty};
+ghost use Rattle.ux_net.specs.Places.{place_targets};
 ghost use Rattle.ux_net.specs.Construct.{AreFit, number as number_of, labels_at, output_before as output_before_of, chain_len as chain_len_of, chain_start, first_chain, edge_of, edges_to, place_state as place_state_of, chain_state as chain_state_of, along_line, along_lines, at_place, states_of, table_of, AreTargetsInside};
 
-use crate::numbering::{chain_len, has_state, labels, line_count, numbers, starts};
+use crate::label::Label;
+use crate::numbering::{
+    called_behind, chain_len, has_state, labels, line_count, numbers, place_output, starts,
+};
 use crate::output::copied;
 use crate::place::Place;
 use crate::state::{Edge, State};
-use std::alloc::Global;
+use std::alloc::{AllocError, Global};
 use ux_base::{Lst, Mem};
 use ux_grf::Piece;
 
@@ -246,13 +256,28 @@ fn edge(
     requires label { k < length (labels_at places.now place line) }
     ensures { IfOk result (λ edge. edge ≡ edge_of places.now place line k) }
 {
-    let labels = labels(places, place, line);
-    let target = target(first, k, labels.len(), number);
+    let labels = chain_len(places, place, line) + 1;
+    let target = target(first, k, labels, number);
     Ok(Edge {
-        label: labels[k].copy()?,
+        label: label(places, place, line, k)?,
         output: output_before(alloc, places, place, k)?,
         target,
     })
+}
+
+/// A copy of label `k` of a line's edges. What is put out before a call has an edge of its own.
+fn label(places: &[Place], place: usize, line: usize, k: usize) -> Result<Label, AllocError>
+    requires label { k < length (labels_at places.now place line) }
+    ensures { IfOk result (λ label. label ≡ get_or (labels_at places.now place line) k Empty) }
+{
+    let labels = labels(places, place, line);
+    match called_behind(places, place, line) {
+        None => labels[k].copy(),
+        Some(_) => match k.checked_sub(1) {
+            None => Ok(Label::Empty),
+            Some(index) => labels[index].copy(),
+        },
+    }
 }
 
 /// What is put out before label `k` of a line of the place: before the first, what the place puts
@@ -263,16 +288,6 @@ fn output_before(alloc: Global, places: &[Place], place: usize, k: usize) -> Mem
     match k {
         0 => copied(alloc, place_output(places, place)),
         _ => Ok(Lst::new(Vec::new(alloc))),
-    }
-}
-
-/// What the place puts out.
-fn place_output(places: &[Place], place: usize) -> &[Piece]
-    ensures { result.now ≡ place_output_of places.now place }
-{
-    match places.get(place) {
-        Some(found) => found.output.as_slice(),
-        None => &[],
     }
 }
 

@@ -7,7 +7,7 @@ ghost use Rattle.ux_tokens.specs.Numbers.{texts_in};
 ghost use Rattle.ux_net.specs.declared.net_graph.NetGraph.{NetGraph};
 ghost use Rattle.ux_net.specs.declared.place.Place.{Place};
 ghost use Rattle.ux_net.specs.Admissible.{IsAdmissible};
-ghost use Rattle.ux_net.specs.Admission.{ArePlaceRanks, AreRows};
+ghost use Rattle.ux_net.specs.Admission.{ArePlaceRanks};
 ghost use Rattle.ux_net.specs.Boxes.{box_grammar, names_of as names_of_graphs};
 ghost use Rattle.ux_net.specs.Compiling.{AreSplit, AreTested, IsBuiltOf, IsConstructed, RefusesPlaces};
 ghost use Rattle.ux_net.specs.Construct.{AreFit};
@@ -108,7 +108,7 @@ fn net_of(alloc: Global, names: &[String], places: &[Lst<Place>]) -> Result<Vec<
     ensures err { IfErr result (RefusesPlaces (map string_bytes names.now) places.now) }
 {
     let admission = admitted(alloc, names, places)?;
-    Ok(build(alloc, names, places, &admission.ranks, &admission.free)?)
+    Ok(build(alloc, names, places, &admission)?)
 }
 
 /// The places of the graphs.
@@ -171,48 +171,40 @@ fn build(
     alloc: Global,
     names: &[String],
     places: &[Lst<Place>],
-    ranks: &[Lst<usize>],
-    free: &[Lst<bool>],
+    admission: &Admission,
 ) -> Mem<Vec<NetGraph>>
     requires count { length places.now ≡ length names.now }
-    requires ranked { AreRows places.now ranks.now }
-    requires marked { AreRows places.now free.now }
     requires fit { All AreFit places.now }
-    requires small { All (All (λ rank. rank < 4294967296)) ranks.now }
-    ensures built { IfOk result (λ net. AreBuilt places.now ranks.now free.now net.items) }
+    requires small { All (All (λ rank. rank < 4294967296)) admission.now.ranks.items }
+    ensures built { IfOk result (λ net.
+        AreBuilt places.now admission.now.ranks.items admission.now.free.items net.items) }
     ensures names { IfOk result (λ net. map (λ (graph : NetGraph). graph.name) net.items
         ≡ map string_bytes names.now) }
 {
     let mut net = Vec::new(alloc);
     for (number, name) in names.iter().enumerate() {
-        net.push(build_graph(
-            alloc,
-            name.as_str(),
-            places[number].as_slice(),
-            ranks[number].as_slice(),
-            free[number].as_slice(),
-        )?)?;
+        let places = places[number].as_slice();
+        net.push(build_graph(alloc, name.as_str(), places, number + 1, admission)?)?;
     }
     Ok(net)
 }
 
-/// The states of a graph, with their ranks.
+/// The states of the graph of this number, counted from 1, with their ranks.
 fn build_graph(
     alloc: Global,
     name: &str,
     places: &[Place],
-    place_ranks: &[usize],
-    place_free: &[bool],
+    number: usize,
+    admission: &Admission,
 ) -> Mem<NetGraph>
     requires fit { AreFit places.now }
-    requires ranked { length place_ranks.now ≡ length places.now }
-    requires marked { length place_free.now ≡ length places.now }
-    requires small { All (λ rank. rank < 4294967296) place_ranks.now }
-    ensures built { IfOk result (IsBuilt places.now place_ranks.now place_free.now) }
+    requires small { All (All (λ rank. rank < 4294967296)) admission.now.ranks.items }
+    ensures built { IfOk result
+        (IsBuilt admission.now.ranks.items admission.now.free.items number places.now) }
     ensures name { IfOk result (λ (graph : NetGraph). graph.name ≡ name.now) }
 {
     let states = states(alloc, places)?;
-    let (ranks, free) = ranks(alloc, places, place_ranks, place_free)?;
+    let (ranks, free) = ranks(alloc, places, number, admission)?;
     Ok(NetGraph {
         name: Txt::from_str(alloc, name)?,
         states: Lst::new(states),

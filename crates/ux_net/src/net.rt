@@ -1,12 +1,12 @@
 //! A grammar as states: the graphs of a compiled list, of which the first is the main graph.
 
-ghost use Rattle.std.specs.Prelude.{◌≡◌, ℕ, ◌≤◌, ◌<◌, Some, IsSomeAnd, length, slice_get, option_copied};
+ghost use Rattle.std.specs.Prelude.{◌≡◌, ℕ, ◌≤◌, ◌<◌, Some, IsSomeAnd, length, slice_get, option_copied, get_or};
 ghost use Rattle.ux_net.specs.Masks.{IsMaskCount};
 ghost use Rattle.ux_net.specs.Measured.{IsMeasured};
 ghost use Rattle.ux_net.specs.Nets.{graph_at, states_of, ArePlain};
 ghost use Rattle.ux_net.specs.Sound.{IsSound};
 
-use crate::net_graph::NetGraph;
+use crate::net_graph::{NetGraph, Rank};
 use crate::state::{Edge, State};
 use std::marker::Model;
 
@@ -98,6 +98,23 @@ impl Net {
             (λ s. result ≡ s.is_final) }
     {
         self.states_in(graph)[state as usize].is_final
+    }
+
+    /// The rank of a state; the lowest one, where the graph has no such state. Takes no memory.
+    pub fn rank(&self, graph: u32, state: u32) -> Rank
+        requires from { 1 ≤ graph }
+        requires to { graph ≤ length self.now }
+        ensures { IsSomeAnd (graph_at self.now graph)
+            (λ g. result ≡ get_or g.ranks state (record { major = 0; minor = 0 })) }
+    {
+        match self.graphs[graph as usize - 1]
+            .ranks
+            .as_slice()
+            .get(state as usize)
+        {
+            Some(rank) => *rank,
+            None => Rank { major: 0, minor: 0 },
+        }
     }
 
     /// The edges of a state, in order.

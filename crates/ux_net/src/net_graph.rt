@@ -17,7 +17,7 @@ pub struct NetGraph {
 }
 
 /// The rank of a state: a lower major number is lower, and among equal ones a lower minor number.
-/// Nothing reads the ranks of a net as it runs: they are why every walk through it ends.
+/// They are why every walk through a net ends, and the order in which its graphs can be searched.
 #[derive(Clone, Copy)]
 pub struct Rank {
     /// How far the state is from a token, by boxes.

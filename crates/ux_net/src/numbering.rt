@@ -4,13 +4,14 @@
 //! each made in one pass, give the number of a place's state and that of its first chain state.
 
 ghost use Rattle.std.specs.Prelude.{◌≡◌, ◌+◌, ◌<◌, length, IfOk, cond};
-ghost use Rattle.ux_net.specs.Places.{label_lines};
-ghost use Rattle.ux_net.specs.Construct.{AreFit, has_state as has_state_of, number as number_of, labels_at, chain_len as chain_len_of, chain_start, table_of};
+ghost use Rattle.ux_net.specs.Places.{label_lines, place_output as place_output_of};
+ghost use Rattle.ux_net.specs.Construct.{AreFit, has_state as has_state_of, number as number_of, line_at, called_at, chain_len as chain_len_of, chain_start, table_of};
 
 use crate::label::Label;
 use crate::place::Place;
 use std::alloc::Global;
 use ux_base::Mem;
+use ux_grf::Piece;
 
 /// Whether the place has a state.
 pub(crate) fn has_state(places: &[Place], place: usize) -> bool
@@ -32,9 +33,9 @@ pub(crate) fn line_count(places: &[Place], place: usize) -> usize
     }
 }
 
-/// The labels of a line.
+/// The labels of a line, as it is drawn.
 pub(crate) fn labels(places: &[Place], place: usize, line: usize) -> &[Label]
-    ensures { result.now ≡ labels_at places.now place line }
+    ensures { result.now ≡ line_at places.now place line }
 {
     match places.get(place) {
         Some(found) => match found.lines.as_slice().get(line) {
@@ -45,11 +46,39 @@ pub(crate) fn labels(places: &[Place], place: usize, line: usize) -> &[Label]
     }
 }
 
+/// What the place puts out.
+pub(crate) fn place_output(places: &[Place], place: usize) -> &[Piece]
+    ensures { result.now ≡ place_output_of places.now place }
+{
+    match places.get(place) {
+        Some(found) => found.output.as_slice(),
+        None => &[],
+    }
+}
+
+/// The graph that a line calls behind an output: the place puts something out, and the line is a
+/// call.
+pub(crate) fn called_behind(places: &[Place], place: usize, line: usize) -> Option<u32>
+    ensures { result ≡ called_at places.now place line }
+{
+    if place_output(places, place).is_empty() {
+        return None;
+    }
+    match labels(places, place, line) {
+        [Label::Call(graph), ..] => Some(*graph),
+        _ => None,
+    }
+}
+
 /// How many chain states a line has.
 pub(crate) fn chain_len(places: &[Place], place: usize, line: usize) -> usize
     ensures { result ≡ chain_len_of places.now place line }
 {
-    labels(places, place, line).len().saturating_sub(1)
+    let labels = labels(places, place, line);
+    match called_behind(places, place, line) {
+        None => labels.len().saturating_sub(1),
+        Some(_) => labels.len(),
+    }
 }
 
 /// The number of the state of each place.

@@ -1,9 +1,9 @@
-//! Rows of the libraries: what no clause says of their public calls.
+//! Rows of the readers and of what stands on them: what no clause says of their public calls.
 //!
-//! A crate is proved once more with its tests, so those of the libraries stand here, a file a crate:
-//! printed refusals, faults of folders and sinks, and each public call once. `comparing` compares a
-//! row's answer, and `graphs` makes small grammars for the rows on nets and walks. The rows of the top
-//! call stand in the program's crate.
+//! A crate is proved once more with its tests, so those of the libraries stand in crates of their own, a
+//! file a crate: printed refusals, faults of folders and sinks, and each public call once. `comparing`
+//! compares a row's answer. The rows on nets and walks stand in `ux_search_rows`, those of the top call
+//! in the program's crate.
 #![tactic(auto)]
 
 #[cfg(test)]
@@ -23,22 +23,12 @@ mod dict;
 #[cfg(test)]
 mod digraph;
 #[cfg(test)]
-mod graphs;
-#[cfg(test)]
 mod grf;
 #[cfg(test)]
 mod image;
 #[cfg(test)]
 mod image_reader;
 #[cfg(test)]
-mod net;
-#[cfg(test)]
-mod net_masks;
-#[cfg(test)]
 mod tokens;
-#[cfg(test)]
-mod walk;
-#[cfg(test)]
-mod walker;
 #[cfg(test)]
 mod words;

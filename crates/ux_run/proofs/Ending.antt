@@ -17,6 +17,7 @@ use Rattle.ux_status.specs.Statuses.{line_of}
 use Rattle.ux_words.specs.declared.request.Request.{Request}
 use Rattle.ux_words.specs.declared.request.Request.TheVariants.{Locate, Concord, Tokenize, Check, Dico, Fst2, Inflect, Compress, Tfst, Elag, Bench, Cascade, Flatten, Tfind, Morpho, Help, Version}
 use Rattle.ux_search.proofs.SearchLaws.{laws as locate_laws}
+use Rattle.ux_concordance.proofs.ConcordLaws.{laws as concord_laws}
 use Rattle.ux_tokenize.proofs.TokenizeLaws.{laws as tokenize_laws}
 use Rattle.ux_check.proofs.CheckLaws.{entries_laws, stems_laws}
 use Rattle.ux_dico.proofs.DicoLaws.{laws as dico_laws}
@@ -37,8 +38,11 @@ built_laws false asked laws = tt
 -- each command keeps them: a line a command
 laws_of : (request : Request) → AskedLaws (asked_of request)
 laws_of (Locate search) = built_laws (is_built_search search) _
-    (locate_laws search.graph search.text search.alphabet search.dics search.mode search.novar
-    search.chars)
+    (locate_laws search.graph search.text search.alphabet search.dics search.mode search.policy
+    search.novar search.chars)
+laws_of (Concord search left right sort) = built_laws (is_built_search search) _
+    (concord_laws search.graph search.text search.alphabet search.dics search.mode search.policy
+    search.novar search.chars (record { left = left; right = right; sort = sort }))
 laws_of (Tokenize text alphabet chars) = tokenize_laws text alphabet chars
 laws_of (Check false file) = built_laws (is_text file) _ (entries_laws file)
 laws_of (Check true file) = stems_laws file
@@ -46,7 +50,6 @@ laws_of (Dico text alphabet dics chars) = built_laws (are_texts dics) _
     (dico_laws text alphabet dics chars)
 laws_of Help = tt
 laws_of Version = tt
-laws_of (Concord search left right sort) = tt
 laws_of (Fst2 graph alphabet chars) = tt
 laws_of (Inflect stems) = tt
 laws_of (Compress dic) = tt

@@ -22,10 +22,19 @@ a_mode : IsAsked (asked_by (codes "locate" ∷ codes "--mode=replace" ∷ codes 
     ∷ codes "g.grf" ∷ codes "t.txt" ∷ codes "a.txt" ∷ []))
 a_mode = tt
 
--- but it keeps every hit
+-- and by any policy
 a_policy : IsAsked (asked_by (codes "locate" ∷ codes "--policy" ∷ codes "longest"
-    ∷ codes "g.grf" ∷ codes "t.txt" ∷ codes "a.txt" ∷ [])) → ⊥
-a_policy is = is
+    ∷ codes "g.grf" ∷ codes "t.txt" ∷ codes "a.txt" ∷ []))
+a_policy = tt
+
+-- a concordance is written by the same searches
+a_concordance : IsAsked (asked_by (codes "concord" ∷ codes "--left=5" ∷ codes "--sort" ∷ codes "LC"
+    ∷ codes "g.grf" ∷ codes "t.txt" ∷ codes "a.txt" ∷ []))
+a_concordance = tt
+
+a_compiled_concordance :
+    IsAsked (asked_by (codes "concord" ∷ codes "g.fst2" ∷ codes "t.txt" ∷ codes "a.txt" ∷ [])) → ⊥
+a_compiled_concordance is = is
 
 some_tokens : IsAsked (asked_by (codes "tokenize" ∷ codes "t.txt" ∷ codes "a.txt" ∷ []))
 some_tokens = tt

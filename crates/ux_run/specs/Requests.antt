@@ -1,15 +1,7 @@
--- Which requests are built: the options that commands take today, and the kinds of files. Public,
--- through `Running`.
-use Rattle.std.specs.Prelude.{ℕ, ◌&&◌, nat_eq, Bool, true, false, not, List, codes}
+-- Which requests are built: the kinds of files that commands take today. Public, through `Running`.
+use Rattle.std.specs.Prelude.{ℕ, ◌&&◌, nat_eq, Bool, not, List, codes}
 use Rattle.std.specs.List.{ends_with, list_all}
-use Rattle.ux_base.specs.declared.settings.Policy.{Policy}
-use Rattle.ux_base.specs.declared.settings.Policy.TheVariants.{All}
 use Rattle.ux_words.specs.declared.request.Search.{Search}
-
--- every hit is kept
-abbrev pub is_all : Policy → Bool
-is_all All = true
-is_all policy = false
 
 -- the graph is drawn, and no compiled one
 abbrev pub is_drawn : List ℕ → Bool
@@ -23,6 +15,6 @@ is_text dic = not (ends_with nat_eq dic (codes ".udi"))
 abbrev pub are_texts : List (List ℕ) → Bool
 are_texts dics = list_all is_text dics
 
--- a search that keeps every hit, by a graph that is drawn, with dictionaries that are texts
+-- a search by a graph that is drawn, with dictionaries that are texts
 abbrev pub is_built_search : Search → Bool
-is_built_search search = is_all search.policy && (are_texts search.dics && is_drawn search.graph)
+is_built_search search = are_texts search.dics && is_drawn search.graph

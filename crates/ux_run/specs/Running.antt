@@ -10,8 +10,9 @@ use Rattle.ux_plan.specs.Plans.{Comes, Command, Halts, gives}
 use Rattle.ux_words.specs.Requests.{request_of}
 use Rattle.ux_words.specs.declared.help.TheConstants.{HELP, VERSION}
 use Rattle.ux_words.specs.declared.request.Request.{Request}
-use Rattle.ux_words.specs.declared.request.Request.TheVariants.{Locate, Tokenize, Check, Dico, Help, Version}
+use Rattle.ux_words.specs.declared.request.Request.TheVariants.{Locate, Concord, Tokenize, Check, Dico, Help, Version}
 use Rattle.ux_search.specs.Locate.{locate}
+use Rattle.ux_concordance.specs.Concord.{concord}
 use Rattle.ux_tokenize.specs.Tokenize.{tokenize}
 use Rattle.ux_check.specs.Check.{check_entries, check_stems}
 use Rattle.ux_dico.specs.Dico.{dico}
@@ -42,8 +43,11 @@ same_told reason = reason
 -- what a request asks for: a command where it is built
 abbrev pub asked_of : Request → Asked
 asked_of (Locate search) = only_if (is_built_search search)
-    (asks (locate search.graph search.text search.alphabet search.dics search.mode search.novar
-    search.chars) search_told)
+    (asks (locate search.graph search.text search.alphabet search.dics search.mode search.policy
+    search.novar search.chars) search_told)
+asked_of (Concord search left right sort) = only_if (is_built_search search)
+    (asks (concord search.graph search.text search.alphabet search.dics search.mode search.policy
+    search.novar search.chars (record { left = left; right = right; sort = sort })) search_told)
 asked_of (Tokenize text alphabet chars) = asks (tokenize text alphabet chars) tokenize_told
 asked_of (Check false file) = only_if (is_text file) (asks (check_entries file) check_told)
 asked_of (Check true file) = asks (check_stems file) check_told

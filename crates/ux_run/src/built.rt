@@ -1,26 +1,16 @@
-//! Which requests are built: the options that commands take today, and the kinds of files.
+//! Which requests are built: the kinds of files that commands take today.
 
 ghost use Rattle.std.specs.Prelude.{◌≡◌};
-ghost use Rattle.ux_run.specs.Requests.{are_texts, is_all, is_built_search, is_drawn, is_text};
+ghost use Rattle.ux_run.specs.Requests.{are_texts, is_built_search, is_drawn, is_text};
 
-use ux_base::{Policy, Txt};
+use ux_base::Txt;
 use ux_words::Search;
 
-/// Whether the search keeps every hit, by a graph that is drawn, with dictionaries that are texts.
+/// Whether the search is by a graph that is drawn, with dictionaries that are texts.
 pub fn is_built_search(search: &Search) -> bool
     ensures { result ≡ is_built_search search.now }
 {
-    is_all(search.policy) && are_texts(search.dics.as_slice()) && is_drawn(search.graph.as_str())
-}
-
-/// Whether every hit is kept.
-fn is_all(policy: Policy) -> bool
-    ensures { result ≡ is_all policy }
-{
-    match policy {
-        Policy::All => true,
-        Policy::Shortest | Policy::Longest => false,
-    }
+    are_texts(search.dics.as_slice()) && is_drawn(search.graph.as_str())
 }
 
 /// Whether the graph is drawn, and no compiled one.

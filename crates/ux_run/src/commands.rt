@@ -8,8 +8,9 @@ ghost use Rattle.ux_run.specs.Running.{Denies, IsAnswer, asked_of};
 use crate::built::{are_texts, is_built_search, is_text};
 use crate::stops::with_status;
 use std::alloc::Global;
-use ux_base::{Folder, Txt};
+use ux_base::{Folder, Sort, Txt};
 use ux_check::{check_entries, check_stems};
+use ux_concordance::{Layout, concord};
 use ux_dico::dico;
 use ux_search::locate;
 use ux_status::Status;
@@ -30,6 +31,12 @@ pub fn answer_to<F: Folder>(
 {
     match request {
         Request::Locate(search) => search_by(alloc, search, folder),
+        Request::Concord {
+            search,
+            left,
+            right,
+            sort,
+        } => concordance_by(alloc, search, *left, *right, *sort, folder),
         Request::Tokenize {
             text,
             alphabet,
@@ -45,8 +52,7 @@ pub fn answer_to<F: Folder>(
         } => report_of(alloc, text, alphabet, dics.as_slice(), *chars, folder),
         Request::Help => text_of(alloc, HELP),
         Request::Version => text_of(alloc, VERSION),
-        Request::Concord { .. }
-        | Request::Fst2 { .. }
+        Request::Fst2 { .. }
         | Request::Inflect { .. }
         | Request::Compress { .. }
         | Request::Tfst { .. }
@@ -79,8 +85,45 @@ fn search_by<F: Folder>(alloc: Global, search: &Search, folder: &mut F) -> Resul
         search.alphabet.as_str(),
         search.dics.as_slice(),
         search.mode,
+        search.policy,
         search.novar,
         search.chars,
+        folder,
+    ))
+}
+
+/// `concord`: the concordance of a search that is built.
+#[tactic(auto, using(crate::proofs::Ending::telling))]
+fn concordance_by<F: Folder>(
+    alloc: Global,
+    search: &Search,
+    left: u32,
+    right: u32,
+    sort: Sort,
+    folder: &mut F,
+) -> Result<Vec<u8>, Status>
+    ensures later { IsLater (F.seen folder.old) (F.seen folder.new) }
+    ensures ok { IfOk result (λ answer. IsAnswer
+        (asked_of (request.Concord search.now left right sort))
+        (F.seen folder.old).files answer.items) }
+    ensures err { IfErr result (Denies (asked_of (request.Concord search.now left right sort))
+        (F.seen folder.old) (F.seen folder.new)) }
+{
+    if !is_built_search(search) {
+        return Err(Status::Usage);
+    }
+    let dics = search.dics.as_slice();
+    with_status(concord(
+        alloc,
+        search.graph.as_str(),
+        search.text.as_str(),
+        search.alphabet.as_str(),
+        dics,
+        search.mode,
+        search.policy,
+        search.novar,
+        search.chars,
+        Layout { left, right, sort },
         folder,
     ))
 }

@@ -1,2 +1,3 @@
 pub mod Answering
 pub mod SearchLaws
+pub mod IgnoredLemmas

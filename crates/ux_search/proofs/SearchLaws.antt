@@ -2,6 +2,7 @@
 use Rattle.std.proofs.Common.{ℕ, Bool, List}
 use Rattle.ux_base.specs.declared.settings.Mode.{Mode}
 use Rattle.ux_base.specs.declared.settings.NoVar.{NoVar}
+use Rattle.ux_base.specs.declared.settings.Policy.{Policy}
 use Rattle.ux_plan.specs.Plans.{each, gives, reads, then}
 use Rattle.ux_plan.proofs.PlanLaws.{Laws, laws_then}
 use Rattle.ux_grammars.specs.Graphs.{grammar_plan}
@@ -13,9 +14,10 @@ use Rattle.ux_texts.proofs.TextLaws.{alphabet_sound, text_sound}
 use Rattle.ux_search.specs.declared.reason.Reason.TheVariants.{Decode, Alphabet, Grf, Net, TooManyGraphs, Dela}
 use Rattle.ux_search.specs.Locate.{locate}
 
-pub laws : (graph text alphabet : List ℕ) (names : List (List ℕ)) (mode : Mode) (novar : NoVar)
-    (chars : Bool) → Laws (locate graph text alphabet names mode novar chars).plan
-laws graph text alphabet names mode novar chars = (
+pub laws : (graph text alphabet : List ℕ) (names : List (List ℕ)) (mode : Mode)
+    (policy : Policy) (novar : NoVar) (chars : Bool) →
+    Laws (locate graph text alphabet names mode policy novar chars).plan
+laws graph text alphabet names mode policy novar chars = (
   alphabet_sound Decode Alphabet chars,
   λ letters. laws_then (λ graphs. reads text (text_format Decode letters) (λ tokens.
       then (each (dictionary_format Decode Dela) names) (λ dics.

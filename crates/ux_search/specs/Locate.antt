@@ -4,6 +4,7 @@ use Rattle.std.specs.Prelude.{ℕ, Bool, List, Option}
 use Rattle.ux_base.specs.Outside.{Files}
 use Rattle.ux_base.specs.declared.settings.Mode.{Mode}
 use Rattle.ux_base.specs.declared.settings.NoVar.{NoVar}
+use Rattle.ux_base.specs.declared.settings.Policy.{Policy}
 use Rattle.ux_plan.specs.Plans.{Command, Comes, Plan, each, gives, reads, then}
 use Rattle.ux_tokens.specs.Tokens.{Token}
 use Rattle.ux_apply.specs.Tables.{AreApplied, Tables}
@@ -39,21 +40,23 @@ search_plan graph text alphabet dics chars =
     then (each (dictionary_format Decode Dela) dics) (λ dics.
     gives (record { letters = letters; graphs = graphs; tokens = tokens; dics = dics })))))
 
--- the index of the grammar's hits in the text, to which the dictionaries' entries are applied
-pub record IsIndexOf (mode : Mode) (novar : NoVar) (read : Searched) (answer : List ℕ) : Type 0
+-- the index of what the policy keeps of the grammar's hits in the text, to which the dictionaries'
+-- entries are applied
+pub record IsIndexOf (mode : Mode) (policy : Policy) (novar : NoVar) (read : Searched)
+    (answer : List ℕ) : Type 0
   where
     pub tables : Tables
     pub applied : AreApplied read.letters read.dics read.tokens tables
-    pub is : IsIndex mode (IsHit read.letters read.tokens tables
+    pub is : IsIndex mode policy (IsHit read.letters read.tokens tables
         (box_grammar read.letters read.graphs) mode novar) answer
 
--- a search whose hits are rendered in this mode
+-- a search whose hits are rendered in this mode, and kept by this policy
 abbrev pub locate : (graph text alphabet : List ℕ) (dics : List (List ℕ)) (mode : Mode)
-    (novar : NoVar) (chars : Bool) → Command Reason
-locate graph text alphabet dics mode novar chars = record {
+    (policy : Policy) (novar : NoVar) (chars : Bool) → Command Reason
+locate graph text alphabet dics mode policy novar chars = record {
   Read = Searched;
   plan = search_plan graph text alphabet dics chars;
-  Answers = IsIndexOf mode novar;
+  Answers = IsIndexOf mode policy novar;
 }
 
 -- the files of a search are read: the net is that of the graphs

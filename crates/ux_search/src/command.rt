@@ -17,15 +17,15 @@ use std::marker::Brand;
 use std::sync::ledger::{Blank, Ledger};
 use ux_alphabet::Alphabet;
 use ux_apply::Applied;
-use ux_base::{Folder, Mem, Mode, NoVar, Steps, Txt};
+use ux_base::{Folder, Mem, Mode, NoVar, Policy, Steps, Txt};
 use ux_locate::{index_text, locate as locate_hits, locate_spans, span_index};
 use ux_net::Net;
 use ux_plan::Stop;
 use ux_tokens::Text;
 
 /// The index of the grammar's hits in the text, to which the entries of the dictionaries are
-/// applied, or what stops the search. The hits are rendered in the mode. `chars` says that each letter
-/// is a word by itself.
+/// applied, or what stops the search. The hits are rendered in the mode, and the policy says which are
+/// kept. `chars` says that each letter is a word by itself.
 #[tactic(auto, using(ux_plan::proofs::PlanSteps::plan_steps, crate::proofs::Answering::answered))]
 pub fn locate<F: Folder>(
     alloc: Global,
@@ -34,27 +34,28 @@ pub fn locate<F: Folder>(
     alphabet: &str,
     dics: &[Txt],
     mode: Mode,
+    policy: Policy,
     novar: NoVar,
     chars: bool,
     folder: &mut F,
 ) -> Result<Vec<u8>, Stop<Reason>>
     ensures later { IsLater (F.seen folder.old) (F.seen folder.new) }
     ensures ok { IfOk result (λ answer. Answers
-        (locate_command graph.now text.now alphabet.now dics.now mode novar chars)
+        (locate_command graph.now text.now alphabet.now dics.now mode policy novar chars)
         (F.seen folder.old).files answer.items) }
     ensures err { IfErr result
-        (Halts (locate_command graph.now text.now alphabet.now dics.now mode novar chars).plan
+        (Halts (locate_command graph.now text.now alphabet.now dics.now mode policy novar chars).plan
         (F.seen folder.old) (F.seen folder.new)) }
 {
     let files = read_files(alloc, graph, text, alphabet, dics, chars, folder)?;
-    Ok(index_of(alloc, files, mode, novar)?)
+    Ok(index_of(alloc, files, mode, policy, novar)?)
 }
 
 /// The index of the grammar's hits in the text with the entries that apply to it. The dictionaries
 /// are freed before it is searched.
-fn index_of(alloc: Global, files: Files, mode: Mode, novar: NoVar) -> Mem<Vec<u8>>
+fn index_of(alloc: Global, files: Files, mode: Mode, policy: Policy, novar: NoVar) -> Mem<Vec<u8>>
     ensures { IfOk result (λ index. IsAppliedIndex files.alphabet files.text files.dics.items
-        (net_grammar files.net) mode novar index.items) }
+        (net_grammar files.net) mode policy novar index.items) }
 {
     let Files {
         alphabet,
@@ -65,7 +66,9 @@ fn index_of(alloc: Global, files: Files, mode: Mode, novar: NoVar) -> Mem<Vec<u8
     let applied = Applied::of(alloc, &text, &alphabet, &dics)?;
     drop(dics);
     let blank = Blank::new(1);
-    let index = hits_index::<Brand>(alloc, &net, &text, &alphabet, &applied, mode, novar, blank)?;
+    let index = hits_index::<Brand>(
+        alloc, &net, &text, &alphabet, &applied, mode, policy, novar, blank,
+    )?;
     Ok(index.into_bytes())
 }
 
@@ -78,6 +81,7 @@ fn hits_index<L: Ledger>(
     alphabet: &Alphabet,
     applied: &Applied,
     mode: Mode,
+    policy: Policy,
     novar: NoVar,
     blank: Blank,
 ) -> Mem<String>
@@ -85,18 +89,20 @@ fn hits_index<L: Ledger>(
     requires parts { blank.parts ≡ L.parts }
     requires some { 0 < blank.parts }
     requires belongs { Belongs alphabet.now text.now applied.now }
-    ensures { IfOk result (λ index. IsIndex mode
+    ensures { IfOk result (λ index. IsIndex mode policy
         (IsHit alphabet.now text.now applied.now (net_grammar net.now) mode novar)
         (string_bytes index)) }
 {
     let mut steps = Steps::<L>::new(blank);
     match mode {
         Mode::Ignore => {
-            let spans = locate_spans(alloc, net, text, alphabet, applied, &mut steps)?;
+            let spans = locate_spans(alloc, net, text, alphabet, applied, policy, &mut steps)?;
             span_index(alloc, text, spans.as_slice())
         }
         Mode::Merge | Mode::Replace => {
-            let hits = locate_hits(alloc, net, text, alphabet, applied, mode, novar, &mut steps)?;
+            let hits = locate_hits(
+                alloc, net, text, alphabet, applied, mode, novar, policy, &mut steps,
+            )?;
             index_text(alloc, mode, hits.as_slice())
         }
     }

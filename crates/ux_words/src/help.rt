@@ -14,7 +14,21 @@ usage: unitex COMMAND ARGUMENTS
     --novar                    with merge or replace, a hit is dropped where an
                                output asks for a variable without a value
     --policy all               every hit is kept (default)
+    --policy longest           of hits that begin together the longest is kept,
+                               and none that begins inside a kept one
+    --policy shortest          the same with the shortest
     --chars                    each letter is a token of its own
+  concord GRAPH TEXT ALPHABET [DIC..]
+                               reads the same, writes the hits with what stands
+                               around them, a line each; has the options of
+                               locate too
+    --left COLUMNS             how wide the text before a hit is, at most 1000
+                               (default 40)
+    --right COLUMNS            how wide the text behind it is at most (default
+                               40)
+    --sort KEYS                LC, LR, CL, CR, RL or RC: by the text before it
+                               (L), the hit (C), the text behind it (R); TO by
+                               place (default)
   tokenize TEXT ALPHABET       reads a text and its letters, writes its tokens
     --chars                    each letter is a token of its own
   check DIC                    reads a dictionary of forms, writes how many

@@ -50,7 +50,7 @@ pub struct CascadeStep {
 pub enum Request {
     /// The places where a graph is found.
     Locate(Search),
-    /// These places, with so many characters before and after.
+    /// These places, with so many columns of what stands before and behind each.
     Concord {
         search: Search,
         left: u32,

@@ -7,10 +7,10 @@ use std::test::Fail;
 
 /// The boxes of a graph: chains, each a list of contents. A chain begins at box 0, and its last box
 /// goes to box 1. A content stands here as it does in the file.
-type Chains = &'static [&'static [&'static str]];
+pub type Chains = &'static [&'static [&'static str]];
 
 /// Graphs that are called, each with its file's name.
-type Callees = &'static [(&'static str, Chains)];
+pub type Callees = &'static [(&'static str, Chains)];
 
 /// A name, the graph `g`, the text, and the index.
 type Row = (&'static str, Chains, &'static str, &'static str);
@@ -22,7 +22,7 @@ const REPLACE: &[&str] = &["--mode=replace"];
 const IGNORE: &[&str] = &["--mode=ignore"];
 
 /// The file of a graph of these chains.
-fn drawn(alloc: Global, chains: Chains) -> Result<String, AllocError> {
+pub fn drawn(alloc: Global, chains: Chains) -> Result<String, AllocError> {
     let mut count = 2_usize;
     let mut starts = String::new(alloc);
     let mut lines = String::new(alloc);
@@ -44,16 +44,16 @@ fn drawn(alloc: Global, chains: Chains) -> Result<String, AllocError> {
 
 /// A search: its options, the graph `g`, the graphs that it calls, the text and the dictionary.
 #[derive(Clone, Copy)]
-struct Search {
-    options: &'static [&'static str],
-    graph: Chains,
-    callees: Callees,
-    text: &'static str,
-    dic: &'static str,
+pub struct Search {
+    pub options: &'static [&'static str],
+    pub graph: Chains,
+    pub callees: Callees,
+    pub text: &'static str,
+    pub dic: &'static str,
 }
 
 /// Runs the search, and compares the index.
-fn check<R: Abort + AllocGlobal>(
+pub fn check<R: Abort + AllocGlobal>(
     rt: &R,
     name: &str,
     search: &Search,

@@ -36,6 +36,10 @@ fn answers_requests(rt: HostRuntime) -> Result<(), Fail> {
             FOUND,
         ),
         (
+            &["locate", "--policy=longest", "g.grf", "t.txt", "a.txt"],
+            FOUND,
+        ),
+        (
             &["locate", "--mode", "merge", "g.grf", "t.txt", "a.txt"],
             "#M\n0 2 The cat\n",
         ),
@@ -95,13 +99,10 @@ fn answers_usage(rt: HostRuntime) -> Result<(), Fail> {
         ),
         (&["locate", "g.grf", "t.txt", "a.txt", "d.udi"], ""),
         (&["locate", "g.fst2", "t.txt", "a.txt"], ""),
-        (
-            &["locate", "--policy=longest", "g.grf", "t.txt", "a.txt"],
-            "",
-        ),
         (&["locate", "--mode=both", "g.grf", "t.txt", "a.txt"], ""),
         (&["locate", "--novar=drop", "g.grf", "t.txt", "a.txt"], ""),
-        (&["concord", "g.grf", "t.txt", "a.txt"], ""),
+        (&["concord", "g.fst2", "t.txt", "a.txt"], ""),
+        (&["concord", "--sort=LL", "g.grf", "t.txt", "a.txt"], ""),
         (&["tokenize", "--x", "t.txt", "a.txt"], ""),
         (&["tokenize", "t.txt", "a.txt", "a.txt"], ""),
         (&["dico", "--x", "t.txt", "a.txt"], ""),

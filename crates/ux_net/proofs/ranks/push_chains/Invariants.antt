@@ -7,8 +7,11 @@ use Rattle.ux_net.proofs.ranks.push_chains.Given as goal
 abbrev pub invariant-loop-place : goal.invariant-loop-place
 invariant-loop-place l = record {
   ranked : l.state_ranks.items ≡ l.fn.state_ranks.items
-      ++ flat_map (along_lines l.places (chain_rank_at l.places l.ranks))
+      ++ flat_map (along_lines l.places
+      (chain_rank_at l.admission.ranks.items l.admission.free.items l.graph l.places))
       (range_with_len 0 l.place);
   marked : l.state_frees.items ≡ l.fn.state_frees.items
-      ++ flat_map (along_lines l.places (chain_free_at l.places l.free)) (range_with_len 0 l.place);
+      ++ flat_map (along_lines l.places
+      (chain_free_at l.admission.ranks.items l.admission.free.items l.graph l.places))
+      (range_with_len 0 l.place);
 }

@@ -7,9 +7,11 @@ use Rattle.ux_net.proofs.ranks.push_lines.Given as goal
 abbrev pub invariant-loop-line : goal.invariant-loop-line
 invariant-loop-line l = record {
   ranked : l.state_ranks.items ≡ l.fn.state_ranks.items
-      ++ flat_map (along_line l.places (chain_rank_at l.places l.ranks) l.place)
+      ++ flat_map (along_line l.places
+      (chain_rank_at l.admission.ranks.items l.admission.free.items l.graph l.places) l.place)
       (range_with_len 0 l.line);
   marked : l.state_frees.items ≡ l.fn.state_frees.items
-      ++ flat_map (along_line l.places (chain_free_at l.places l.fn.free) l.place)
+      ++ flat_map (along_line l.places
+      (chain_free_at l.admission.ranks.items l.admission.free.items l.graph l.places) l.place)
       (range_with_len 0 l.line);
 }

@@ -22,7 +22,7 @@ returns c =
       tables = tables;
       applied = subst (λ (l : List (Priority × List Entry)). AreApplied alphabet l tokens tables)
           same c.in_ok-applied.ensures.applied;
-      is = subst (IsIndex c.args.mode (IsHit alphabet tokens tables (net_grammar c.args.files.net)
+      is = subst (IsIndex c.args.mode c.args.policy (IsHit alphabet tokens tables (net_grammar c.args.files.net)
           c.args.mode c.args.novar))
           (sym (ap (λ (v : Vec ℕ Global). v.items) c.into_bytes.ensures.value)) c.in_ok-index.ensures;
     }

@@ -1,0 +1,14 @@
+pub mod Collecting
+pub mod Cuts
+pub mod Elements
+pub mod Entering
+pub mod FollowingLemmas
+pub mod Searching
+pub mod ReachingLemmas
+pub mod Sets
+pub mod GatheringLemmas
+pub mod Rising
+pub mod Growing
+pub mod FillingLemmas
+pub mod Telling
+pub mod EmptyTextLemmas

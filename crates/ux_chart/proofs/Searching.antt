@@ -1,0 +1,116 @@
+-- A list that grows at its end by what is new.
+use Rattle.std.proofs.Common.{◌≡◌, ℕ, zero, suc, ◌+◌, ◌<◌, ◌≤◌, List, [], ◌∷◌, ◌++◌, ◌↔◌, inl, inr, refl, sym, ap, subst, ◌∙◌, length, take, get_or, Bool, true, false, cond}
+use Rattle.std.specs.Prelude.{Contains, Some, slice_get}
+use Rattle.std.specs.Cmp.{IsEquivalence}
+use Rattle.std.specs.List.{list_any, IsDistinct}
+use Rattle.std.proofs.lemmas.Map.Made.{length-le_from_is_member, is_member-Decides}
+use Rattle.std.proofs.lemmas.Option.{same_Some, slice_get-get_or}
+use Rattle.std.proofs.lemmas.List.{take_more}
+use Rattle.std.proofs.lemmas.List.Elements.{Contains-append_left, Contains-append_right, Contains-push, Contains-push_cases}
+use Rattle.indexmap.specs.IndexSet.{insert_key}
+use Rattle.indexmap.proofs.CallerLemmas.{Contains-list_any}
+use Rattle.ux_net.specs.declared.state.Edge.{Edge}
+use Rattle.ux_net.specs.declared.state.State.{State}
+use Rattle.ux_net.specs.declared.net_graph.NetGraph.{NetGraph}
+use Rattle.ux_net.specs.Nets.{net_grammar, states_of}
+use Rattle.ux_net.proofs.JoinedLemmas.{nothing_in, contains_first, first_or_later}
+use Rattle.ux_meaning.specs.Inputs.{Input}
+use Rattle.ux_parts.specs.Runs.{NextBy}
+use Rattle.ux_chart.specs.declared.config.Config.{Config}
+use Rattle.ux_chart.specs.Search.{GoesTo, Adds}
+use Rattle.ux_chart.proofs.Collecting.{IsCollected, collected_whole, collected_all}
+use Rattle.ux_parts.proofs.Mapped.{contains_at}
+
+-- all edges of the state were followed
+pub expanded : (input : Input) (net : List NetGraph) (levels g : ℕ) (v : Config) (state : State) →
+    Some state ≡ slice_get (states_of net g) v.state → (old found : List Config) → old ≡ [] →
+    (edges : List Edge) → edges ≡ state.edges → (i : ℕ) → length edges ≤ i →
+    IsCollected (λ (w : Config). GoesTo input net levels g v w)
+    (λ (edge : Edge) (w : Config). NextBy input (net_grammar net) levels g edge.label edge.target
+    v.at w.state w.at) old found (take i edges) →
+    (w : Config) → Contains found w ↔ GoesTo input net levels g v w
+expanded input net levels g v state here old found none edges is i past c w =
+    let all = collected_all _ _ old found found state.edges (λ (e : Config). ⊥)
+    (collected_whole _ _ old found edges state.edges i past is c)
+    (λ e t.
+    let same : t.state ≡ state = same_Some t.state state (sym t.found ∙ sym here) in
+    inr (t.edge, subst (λ (s : State). Contains s.edges t.edge) same t.inside, t.leads))
+    (λ e h. absurd h)
+    (λ e. (λ h. inl h, λ h. elim h [ inl x ↦ x | inr x ↦ absurd x ])) w in (
+      λ h. elim (all.0 h) [
+        | inl n ↦ absurd (nothing_in (subst (λ (l : List Config). Contains l w) none n))
+        | inr t ↦ t
+      ],
+      λ t. all.1 (inr t),
+    )
+
+slice_get-append : {A : Type 0} (xs ys : List A) (i : ℕ) (x : A) → slice_get xs i ≡ Some x →
+    slice_get (xs ++ ys) i ≡ Some x
+slice_get-append [] ys i x h = cc
+slice_get-append (z ∷ xs) ys zero x h = h
+slice_get-append (z ∷ xs) ys (suc i) x h = slice_get-append xs ys i x h
+
+module _ {T : Type 0} (eq : T → T → Bool) (exact : (a b : T) → (eq a b ≡ true) ↔ (a ≡ b)) where
+  -- one is added, if it is new
+  pub added_one : (now new : List T) (k : T) → new ≡ insert_key eq now k → Adds now (k ∷ []) new
+  added_one now new k made = by (list_any (eq k) now) refl
+    where
+      by : (b : Bool) → list_any (eq k) now ≡ b → Adds now (k ∷ []) new
+      by true e =
+          let n : new ≡ now = made ∙ ap (λ c. cond c now (now ++ k ∷ [])) e in
+          subst (λ (l : List T). Adds now (k ∷ []) l) (sym n) (record {
+            only = λ w h. inl h;
+            each = λ w h. elim (first_or_later k [] w h) [
+              | inl f ↦ subst (λ (v : T). Contains now v) f
+                  (Contains-list_any eq (λ a b. (exact a b).0) now k e)
+              | inr f ↦ absurd (nothing_in f)
+            ];
+            kept = λ j w h. h;
+          })
+      by false e =
+          let n : new ≡ now ++ k ∷ [] = made ∙ ap (λ c. cond c now (now ++ k ∷ [])) e in
+          subst (λ (l : List T). Adds now (k ∷ []) l) (sym n) (record {
+            only = λ w h. elim (Contains-push_cases now k w h) [
+              | inl o ↦ inl o
+              | inr f ↦ inr (subst (λ (v : T). Contains (k ∷ []) v) f (contains_first k []))
+            ];
+            each = λ w h. elim (first_or_later k [] w h) [
+              | inl f ↦ subst (λ (v : T). Contains (now ++ k ∷ []) v) f (Contains-push now k)
+              | inr f ↦ absurd (nothing_in f)
+            ];
+            kept = λ j w h. slice_get-append now (k ∷ []) j w h;
+          })
+
+  -- no more stand in a list without repeats than in one that has all of them
+  pub bounded : IsEquivalence eq → (keys all : List T) → IsDistinct eq keys →
+      ((x : T) → Contains keys x → Contains all x) → length keys ≤ length all
+  bounded laws keys all distinct inside = length-le_from_is_member laws keys all distinct
+      (λ q m. (is_member-Decides exact all q).1 (inside q ((is_member-Decides exact keys q).0 m)))
+
+module _ {T : Type 0} where
+  pub kept_contained : (old new found : List T) → Adds old found new → (x : T) → Contains old x →
+      Contains new x
+  kept_contained old new found a x h = contains_at new h.0 x
+      (a.kept h.0 x (slice_get-get_or old h.0 x h.1 ∙ ap Some h.2))
+
+  -- a list is added, and one more
+  pub adds_more : (old found now new : List T) (i : ℕ) (k : T) → i < length found →
+      k ≡ get_or found i k → Adds old (take i found) now → Adds now (k ∷ []) new →
+      Adds old (take (i + 1) found) new
+  adds_more old found now new i k inside is a one =
+      let more : take (i + 1) found ≡ take i found ++ k ∷ [] = take_more found i k inside
+      ∙ ap (λ (x : T). take i found ++ x ∷ []) (sym is) in
+      subst (λ (l : List T). Adds old l new) (sym more) (record {
+        only = λ w h. elim (one.only w h) [
+          | inl o ↦ elim (a.only w o) [
+            | inl p ↦ inl p
+            | inr f ↦ inr (Contains-append_left (take i found) (k ∷ []) w f)
+          ]
+          | inr f ↦ inr (Contains-append_right (take i found) (k ∷ []) w f)
+        ];
+        each = λ w h. elim (Contains-push_cases (take i found) k w h) [
+          | inl f ↦ kept_contained now new (k ∷ []) one w (a.each w f)
+          | inr f ↦ one.each w (subst (λ (v : T). Contains (k ∷ []) v) f (contains_first k []))
+        ];
+        kept = λ j w h. one.kept j w (a.kept j w h);
+      })

@@ -1,0 +1,23 @@
+-- Which parts are worth a search at a position. Public: the contract of the chart speaks of it.
+use Rattle.std.specs.Prelude.{◌≡◌, ℕ, ◌≤◌, ◌⊎◌, List, Some, slice_get, Contains}
+use Rattle.std.specs.List.Sorted.{IsStrictlyIncreasing}
+use Rattle.ux_net.specs.declared.net_graph.NetGraph.{NetGraph}
+use Rattle.ux_net.specs.Nets.{net_grammar}
+use Rattle.ux_meaning.specs.Inputs.{Input}
+use Rattle.ux_parts.specs.declared.part.Part.{Part}
+use Rattle.ux_parts.specs.declared.parts.Parts.{Parts}
+use Rattle.ux_parts.specs.Runs.{Ends, Closes}
+
+module _ (input : Input) (net : List NetGraph) (parts : Parts) where
+  -- the part reaches an end or a closer from position i
+  abbrev pub ReachesSome : Part → ℕ → Type 0
+  ReachesSome part i =
+      ((j : ℕ) × Ends input (net_grammar net) parts.levels part.graph part.first i j)
+      ⊎ ((c : ℕ) × Closes input (net_grammar net) parts.levels part.graph part.first i c)
+
+  -- At each position up to the last, a list of numbers of parts, ascending. Each part that reaches
+  -- something from there is among them.
+  pub record AreLikely (last : ℕ) (likely : ℕ → List ℕ) : Type 0 where
+    pub ascends : (i : ℕ) → i ≤ last → IsStrictlyIncreasing (likely i)
+    pub whole : (i number : ℕ) (part : Part) → i ≤ last →
+        slice_get parts.list number ≡ Some part → ReachesSome part i → Contains (likely i) number

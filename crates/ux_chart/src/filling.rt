@@ -1,0 +1,231 @@
+//! Filling a chart: part by part, and position by position from the last one back.
+
+ghost use Rattle.std.specs.Prelude.{◌≡◌, ◌+◌, [], length, Some, slice_get, IfOk, OnOk};
+ghost use Rattle.std.specs.List.Sorted.{IsStrictlyIncreasing};
+ghost use Rattle.ux_parts.specs.Ordered.{GoesAhead};
+ghost use Rattle.ux_parts.specs.Parts.{ArePartsOf};
+ghost use Rattle.ux_chart.specs.Likely.{AreLikely};
+ghost use Rattle.ux_chart.specs.Rows.{IsAnswer, IsFilled, IsChart, IsWholeRow, AreBegun, begun_at};
+ghost use Rattle.ux_chart.specs.Tables.{IsPut};
+
+use crate::basis::Basis;
+use crate::chart::{Begun, Chart};
+use crate::config::Config;
+use crate::gathering::{closers_in, ends_in, listed, listed_states};
+use crate::reaching::reach;
+use crate::table::{Stretch, Table};
+use indexmap::IndexSet;
+use std::alloc::Global;
+use std::collections::BTreeSet;
+use ux_base::Mem;
+use ux_net::Net;
+use ux_parts::{Part, Parts};
+
+/// What a part reaches from a position.
+#[derive(Drop)]
+struct Lists {
+    ends: Vec<usize>,
+    closers: Vec<u32>,
+}
+
+impl Chart {
+    /// The chart of a net over an input.
+    ///
+    /// It holds what is found, and a stretch of two numbers a position. Each part that is likely at a
+    /// position is searched there once.
+    pub fn fill<B: Basis>(alloc: Global, basis: &B, net: &Net, parts: &Parts) -> Mem<Chart>
+        requires parts { ArePartsOf net.now parts.now }
+        requires ahead { GoesAhead (B.input basis.now) (B.last basis.now) }
+        requires likely { AreLikely (B.input basis.now) net.now parts.now (B.last basis.now)
+            (B.likely_at basis.now) }
+        ensures { IfOk result (λ chart.
+            IsChart (B.input basis.now) net.now parts.now (B.last basis.now) chart) }
+    {
+        let mut chart = empty_chart(alloc, basis.last());
+        fill_rows(alloc, basis, net, parts, &mut chart)?;
+        Ok(chart)
+    }
+}
+
+/// A chart with no row. Takes no memory.
+fn empty_chart(alloc: Global, last: usize) -> Chart
+    ensures last { result.last ≡ last }
+    ensures rows { result.rows.items ≡ [] }
+    ensures table { result.table.answers.items ≡ [] }
+{
+    Chart {
+        last,
+        rows: Vec::new(alloc),
+        table: Table::new(alloc),
+    }
+}
+
+/// Fills all rows, that of the last position first.
+fn fill_rows<B: Basis>(
+    alloc: Global,
+    basis: &B,
+    net: &Net,
+    parts: &Parts,
+    chart: &mut Chart,
+) -> Mem<()>
+    requires parts { ArePartsOf net.now parts.now }
+    requires ahead { GoesAhead (B.input basis.now) (B.last basis.now) }
+    requires likely { AreLikely (B.input basis.now) net.now parts.now (B.last basis.now)
+        (B.likely_at basis.now) }
+    requires last { chart.old.last ≡ B.last basis.now }
+    requires rows { chart.old.rows.items ≡ [] }
+    requires table { chart.old.table.answers.items ≡ [] }
+    ensures { OnOk result
+        (IsChart (B.input basis.now) net.now parts.now (B.last basis.now) chart.new) }
+{
+    let mut seen = IndexSet::new(alloc);
+    let mut found = Vec::new(alloc);
+    let mut positions = Vec::new(alloc);
+    'rows: while chart.rows.len() <= chart.last {
+        let done = chart.rows.len();
+        let at = chart.last - done;
+        let row = fill_row(
+            alloc,
+            basis,
+            net,
+            parts,
+            chart,
+            at,
+            &mut seen,
+            &mut found,
+            &mut positions,
+        )?;
+        chart.rows.push(row)?;
+    }
+    Ok(())
+}
+
+/// Adds the answers at a position to the table. Returns its row.
+fn fill_row<B: Basis>(
+    alloc: Global,
+    basis: &B,
+    net: &Net,
+    parts: &Parts,
+    chart: &mut Chart,
+    at: usize,
+    seen: &mut IndexSet<Config>,
+    found: &mut Vec<Config>,
+    positions: &mut Vec<usize>,
+) -> Mem<Stretch>
+    requires parts { ArePartsOf net.now parts.now }
+    requires ahead { GoesAhead (B.input basis.now) (B.last basis.now) }
+    requires likely { AreLikely (B.input basis.now) net.now parts.now (B.last basis.now)
+        (B.likely_at basis.now) }
+    requires last { chart.old.last ≡ B.last basis.now }
+    requires begun { AreBegun (B.input basis.now) net.now parts.now chart.old }
+    requires count { length chart.old.rows.items + at ≡ chart.old.last }
+    ensures same { chart.new.last ≡ chart.old.last }
+    ensures rows { chart.new.rows.items ≡ chart.old.rows.items }
+    ensures begun { OnOk result (AreBegun (B.input basis.now) net.now parts.now chart.new) }
+    ensures row { IfOk result (λ row.
+        IsWholeRow (B.input basis.now) net.now parts.now chart.new.table row at) }
+{
+    let from = chart.table.answers.len();
+    for number in basis.likely(at) {
+        let end = chart.table.answers.len();
+        let begun = Begun {
+            at,
+            number: *number,
+            row: Stretch { from, to: end },
+        };
+        fill_part(
+            alloc, basis, net, parts, chart, begun, seen, found, positions,
+        )?;
+    }
+    let to = chart.table.answers.len();
+    Ok(Stretch { from, to })
+}
+
+/// Adds the answer of the part whose turn it is, if there is such a part and it reaches something.
+fn fill_part<B: Basis>(
+    alloc: Global,
+    basis: &B,
+    net: &Net,
+    parts: &Parts,
+    chart: &mut Chart,
+    begun: Begun,
+    seen: &mut IndexSet<Config>,
+    found: &mut Vec<Config>,
+    positions: &mut Vec<usize>,
+) -> Mem<()>
+    requires parts { ArePartsOf net.now parts.now }
+    requires ahead { GoesAhead (B.input basis.now) chart.old.last }
+    requires last { B.last basis.now ≡ chart.old.last }
+    requires filled { IsFilled (B.input basis.now) net.now parts.now chart.old begun }
+    requires end { begun.row.to ≡ length chart.old.table.answers.items }
+    ensures same { chart.new.last ≡ chart.old.last }
+    ensures rows { chart.new.rows.items ≡ chart.old.rows.items }
+    ensures filled { OnOk result (IsFilled (B.input basis.now) net.now parts.now chart.new
+        (begun_at begun.at (begun.number + 1) begun.row.from
+        (length chart.new.table.answers.items))) }
+{
+    let Some(part) = parts.part(begun.number) else {
+        return Ok(());
+    };
+    let lists = search(
+        alloc, basis, net, parts, chart, begun, part, seen, found, positions,
+    )?;
+    put(chart, begun.number, &lists)?;
+    Ok(())
+}
+
+/// Adds the lists as an answer, unless both are empty.
+fn put(chart: &mut Chart, number: u32, lists: &Lists) -> Mem<()>
+    ensures same { chart.new.last ≡ chart.old.last }
+    ensures rows { chart.new.rows.items ≡ chart.old.rows.items }
+    ensures table { OnOk result (IsPut chart.old.table number lists.now.ends.items
+        lists.now.closers.items chart.new.table) }
+{
+    if lists.ends.is_empty() && lists.closers.is_empty() {
+        return Ok(());
+    }
+    chart.table.push(number, &lists.ends, &lists.closers)?;
+    Ok(())
+}
+
+/// What the part whose turn it is reaches.
+fn search<B: Basis>(
+    alloc: Global,
+    basis: &B,
+    net: &Net,
+    parts: &Parts,
+    chart: &Chart,
+    begun: Begun,
+    part: &Part,
+    seen: &mut IndexSet<Config>,
+    found: &mut Vec<Config>,
+    positions: &mut Vec<usize>,
+) -> Mem<Lists>
+    requires parts { ArePartsOf net.now parts.now }
+    requires ahead { GoesAhead (B.input basis.now) chart.now.last }
+    requires last { B.last basis.now ≡ chart.now.last }
+    requires filled { IsFilled (B.input basis.now) net.now parts.now chart.now begun }
+    requires part { slice_get parts.now.list begun.number ≡ Some part.now }
+    ensures { IfOk result (λ lists. IsAnswer (B.input basis.now) net.now parts.now
+        part.now.graph part.now.first begun.at lists.ends.items lists.closers.items) }
+{
+    reach(
+        alloc, basis, net, parts, chart, begun, part, seen, found, positions,
+    )?;
+    let ends = ends_in(alloc, net, part.graph, seen.as_slice())?;
+    let closers = closers_in(alloc, net, part.graph, seen.as_slice())?;
+    let lists = lists_of(alloc, &ends, &closers)?;
+    Ok(lists)
+}
+
+/// The sets as lists.
+fn lists_of(alloc: Global, ends: &BTreeSet<usize>, closers: &BTreeSet<u32>) -> Mem<Lists>
+    ensures ends { IfOk result (λ lists. lists.ends.items ≡ ends.now.keys) }
+    ensures closers { IfOk result (λ lists. lists.closers.items ≡ closers.now.keys) }
+    ensures ends_ascend { OnOk result (IsStrictlyIncreasing ends.now.keys) }
+    ensures closers_ascend { OnOk result (IsStrictlyIncreasing closers.now.keys) }
+{
+    let ends = listed(alloc, ends)?;
+    let closers = listed_states(alloc, closers)?;
+    Ok(Lists { ends, closers })
+}

@@ -1,0 +1,38 @@
+//! A table of what the parts of a grammar reach from each position of an input.
+//!
+//! `Chart::fill` searches each part at each position once, from the last position back, and at one
+//! position in the order of the parts (`ux_parts`). So a search asks of others only answers that
+//! are finished: behind a token all are, and with nothing taken those of the parts before. That
+//! holds for calls and for contexts of both signs alike, and nothing here calls itself.
+//!
+//! ```text
+//! Basis: what labels take, which parts are likely      Net, Parts
+//!         \                                             /
+//!          following: one edge --> reaching: a whole search --> gathering: ends and closers
+//!                                                                       |
+//!                          filling: part by part, position by position --> Chart: ends, closers
+//! ```
+//!
+//! An *end* of a part is a position at which a final state is reached, a *closer* the target of an
+//! edge that closes a context. One search gives both. The answers stand in flat lists (`table`): a
+//! part that reaches nothing has none, and a position without answers takes a stretch of two
+//! numbers, however many parts there are.
+//!
+//! Nothing here knows of tokens: what is matched is a `Basis`. It also tells which parts are worth
+//! a search at a position; `EmptyText` is the least one. Begin with `filling`, and with
+//! `specs/Rows.antt`, which says what a chart tells.
+#![tactic(auto)]
+
+pub mod basis;
+pub mod chart;
+pub mod config;
+pub mod empty_text;
+pub mod filling;
+pub mod following;
+pub mod gathering;
+pub mod reaching;
+pub mod table;
+
+pub use basis::Basis;
+pub use chart::Chart;
+pub use empty_text::EmptyText;

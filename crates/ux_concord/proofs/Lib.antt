@@ -1,0 +1,7 @@
+pub mod CharactersLemmas
+pub mod ContextLemmas
+pub mod LinesLemmas
+pub mod LyingLemmas
+pub mod OrderLemmas
+pub mod SplitLemmas
+pub mod WidthLemmas

@@ -1,0 +1,4 @@
+pub mod Concordance
+pub mod Contexts
+pub mod Lent
+pub mod Widths

@@ -1,0 +1,5 @@
+pub mod Runs
+pub mod Ordered
+pub mod Parts
+pub mod Marks
+pub mod Order

@@ -1,0 +1,298 @@
+//! Rows of small grammars, compiled from the files of their graphs.
+//!
+//! The states of a net are shown as `t` where they are final, else `:`, and then as label and target
+//! of each edge, with a space between graphs. A label is shown as in the notation of `graphs`, and what
+//! an edge puts out after a `/`.
+
+use crate::comparing::compare;
+use crate::graphs::compiled;
+use std::alloc::{AllocError, Global};
+use std::process::Abort;
+use std::test::Fail;
+use ux_alphabet::Alphabet;
+use ux_grf::Piece;
+use ux_net::{Edge, Label, Net, NetError, State};
+
+fn show_label(all: &mut String, label: &Label) -> Result<(), AllocError> {
+    match label {
+        Label::Empty => all.push('E'),
+        Label::Glue => all.push('#'),
+        Label::Space => all.push('_'),
+        Label::Fold(text) | Label::Exact(text) => all.push_str(text.as_str()),
+        Label::Call(1) => all.push('A'),
+        Label::Call(_) => all.push('B'),
+        Label::Begin(name) => put(all, "$", name.as_str(), "("),
+        Label::End(name) => put(all, "$", name.as_str(), ")"),
+        Label::Mask(_)
+        | Label::Brace(_)
+        | Label::Positive
+        | Label::Negative
+        | Label::ContextEnd
+        | Label::Cut => all.push('?'),
+    }
+}
+
+fn put(all: &mut String, before: &str, text: &str, after: &str) -> Result<(), AllocError> {
+    all.push_str(before)?;
+    all.push_str(text)?;
+    all.push_str(after)
+}
+
+fn show_output(all: &mut String, output: &[Piece]) -> Result<(), AllocError> {
+    if output.is_empty() {
+        return Ok(());
+    }
+    all.push('/')?;
+    for piece in output {
+        match piece {
+            Piece::Chars(text) => all.push_str(text.as_str())?,
+            Piece::Value(name) => put(all, "$", name.as_str(), "$")?,
+        }
+    }
+    Ok(())
+}
+
+fn show_edge(alloc: Global, all: &mut String, edge: &Edge) -> Result<(), AllocError> {
+    show_label(all, &edge.label)?;
+    show_output(all, edge.output.as_slice())?;
+    let text = format!(in alloc; "{}", edge.target)?;
+    all.push_str(text.as_str())
+}
+
+fn show_state(alloc: Global, all: &mut String, state: &State) -> Result<(), AllocError> {
+    all.push(if state.is_final { 't' } else { ':' })?;
+    for edge in state.edges.as_slice() {
+        show_edge(alloc, all, edge)?;
+    }
+    Ok(())
+}
+
+/// The first hundred states of a graph.
+fn show_graph(alloc: Global, all: &mut String, net: &Net, graph: u32) -> Result<(), AllocError> {
+    for number in 0..100 {
+        if let Some(state) = net.state(graph, number) {
+            show_state(alloc, all, state)?;
+        }
+    }
+    Ok(())
+}
+
+/// The states of the graphs, of which there are at most two.
+fn show_net(alloc: Global, net: &Net) -> Result<String, AllocError> {
+    let mut all = String::new(alloc);
+    for graph in 1..=net.graphs().min(2) {
+        if graph > 1 {
+            all.push(' ')?;
+        }
+        show_graph(alloc, &mut all, net, graph)?;
+    }
+    Ok(all)
+}
+
+/// The refusal, with its graph and node.
+fn told(alloc: Global, refusal: &NetError) -> Result<String, AllocError> {
+    match refusal {
+        NetError::MissingGraph { name } => format!(in alloc; "missing {}", name.as_str()),
+        NetError::BadMask { graph, node, place } => {
+            format!(in alloc; "bad mask {} {node} {place}", graph.as_str())
+        },
+        NetError::NotYet { graph, node } => {
+            format!(in alloc; "not yet {} {node}", graph.as_str())
+        },
+        NetError::EmptyLoop { graph, node } => {
+            format!(in alloc; "loop {} {node}", graph.as_str())
+        },
+        NetError::LeftRecursion { graph, node } => {
+            format!(in alloc; "recursion {} {node}", graph.as_str())
+        },
+        NetError::NoMemory => String::from_str(alloc, "no memory"),
+    }
+}
+
+/// The states of the graphs, or the refusal.
+fn shown(alloc: Global, graphs: &[&str], alphabet: &Alphabet) -> Result<String, AllocError> {
+    match compiled(alloc, graphs, alphabet) {
+        Ok(net) => show_net(alloc, &net),
+        Err(refusal) => told(alloc, &refusal),
+    }
+}
+
+/// A name, the graphs, and what is shown.
+type Row = (&'static str, &'static [&'static str], &'static str);
+
+/// The rows, over one alphabet.
+fn compare_by(
+    rt: &impl Abort,
+    alloc: Global,
+    alphabet: &Alphabet,
+    rows: &[Row],
+) -> Result<(), Fail> {
+    for row in rows {
+        let got = shown(alloc, row.1, alphabet)?;
+        compare(rt, row.0, got.as_str(), row.2);
+    }
+    Ok(())
+}
+
+fn compare_nets(rt: &impl Abort, alloc: Global, rows: &[Row]) -> Result<(), Fail> {
+    compare_by(rt, alloc, &Alphabet::empty(), rows)
+}
+
+#[test]
+fn makes_states(rt: HostRuntime) -> Result<(), Fail> {
+    const ROWS: &[Row] = &[
+        ("a word", &["E|2 | a|1"], ":a1t"),
+        ("a chain of two labels", &["E|2 | ab|1"], ":a2t:b1"),
+        ("a chain of four labels", &["E|2 | a_#b|1"], ":a2t:_3:#4:b1"),
+        ("two alternatives", &["E|2 | a+b|1"], ":a1b1t"),
+        (
+            "two chains of one box",
+            &["E|2 | ab+c+de|1"],
+            ":a2c1d3t:b1:e1",
+        ),
+        ("a box that leads to itself", &["E|2 | ab|21"], ":a2ta2:b1"),
+        (
+            "a chain that two boxes share",
+            &["E|23 | a|3 bc|1"],
+            ":a1b3:b3t:c2",
+        ),
+        (
+            "an unreached box in between",
+            &["E|3 | x|1 ab|1"],
+            ":a2t:b1",
+        ),
+        ("a start that is an end", &["E|1 |"], "t"),
+        ("a box that leads nowhere", &["E|2 | a|"], ":a1:"),
+        (
+            "a call of itself behind a word",
+            &["E|3 | A|1 a|12"],
+            ":a2ttA1",
+        ),
+        (
+            "each calls the other behind a word",
+            &["E|2 | a|13 B|1", "E|2 | b|13 A|1"],
+            ":a1tB2t :b1tA2t",
+        ),
+    ];
+    compare_nets(&rt, rt.alloc(), ROWS)
+}
+
+#[test]
+fn an_output_stands_on_the_first_edge_of_each_line(rt: HostRuntime) -> Result<(), Fail> {
+    const ROWS: &[Row] = &[
+        ("before a word", &["E|2 | a/x|1"], ":a/x1t"),
+        (
+            "of two lines, one of two labels",
+            &["E|2 | a+bc/x|1"],
+            ":a/x1b/x2t:c1",
+        ),
+        (
+            "before a call",
+            &["E|2 | B/x|1", "E|2 | b|1"],
+            ":E/x2t:B1 :b1t",
+        ),
+        (
+            "before a call between two words",
+            &["E|2 | a|3 B/x|4 b|1", "E|2 | b|1"],
+            ":a1:E/x4:b3t:B2 :b1t",
+        ),
+        (
+            "of two lines, one of them a call",
+            &["E|2 | a+B/x|1", "E|2 | b|1"],
+            ":a/x1E/x2t:B1 :b1t",
+        ),
+        ("with a value", &["E|2 | a/x$y$|1"], ":a/x$y$1t"),
+        (
+            "of a box to which two lead",
+            &["E|23 | a|3 b/x|1"],
+            ":a1b/x2:b/x2t",
+        ),
+        (
+            "around the begin and the end of a variable",
+            &["E|2 | $v(|3 a|4 $v)/x|1"],
+            ":$v(1:a2:$v)/x3t",
+        ),
+    ];
+    compare_nets(&rt, rt.alloc(), ROWS)
+}
+
+#[test]
+fn a_literal_is_cut_by_the_alphabet(rt: HostRuntime) -> Result<(), Fail> {
+    const WORDS: &[Row] = &[("a word", &["E|2 | ab|1"], ":ab1t")];
+    const LETTERS: &[Row] = &[
+        ("two letters", &["E|2 | ab|1"], ":a2t:b1"),
+        ("quoted letters", &["E|2 | \\\"ab\\\"|1"], ":a2t:b1"),
+        ("one letter", &["E|2 | a|1"], ":a1t"),
+    ];
+    let words = Alphabet::read(rt.alloc(), "a\nb")?;
+    compare_by(&rt, rt.alloc(), &words, WORDS)?;
+    compare_by(&rt, rt.alloc(), &words.by_character(), LETTERS)
+}
+
+#[test]
+fn names_what_is_missing_or_not_yet_read(rt: HostRuntime) -> Result<(), Fail> {
+    const ROWS: &[Row] = &[
+        ("a missing graph", &["E|2 | B|1"], "missing B"),
+        ("a context", &["E|2 | $[|1"], "not yet A 2"),
+    ];
+    compare_nets(&rt, rt.alloc(), ROWS)
+}
+
+#[test]
+fn names_the_first_loop_and_the_first_left_recursion(rt: HostRuntime) -> Result<(), Fail> {
+    const ROWS: &[Row] = &[
+        (
+            "a graph that begins with itself",
+            &["E|2 | A|3 a|1"],
+            "recursion A 2",
+        ),
+        (
+            "behind a call that may take nothing",
+            &["E|2 | B|3 A|4 a|1", "E|2 | E|1"],
+            "recursion A 3",
+        ),
+        (
+            "behind a call of a word",
+            &["E|2 | B|3 A|4 a|1", "E|2 | b|1"],
+            ":B1:A2:a3t :b1t",
+        ),
+        (
+            "two graphs in turn",
+            &["E|2 | B|1", "E|2 | A|1"],
+            "recursion A 2",
+        ),
+        ("two empty boxes", &["E|3 | E|3 E|12"], "loop A 2"),
+        ("glue that leads to itself", &["E|2 | #|12"], "loop A 2"),
+        (
+            "a begin with an output that leads to itself",
+            &["E|2 | $v(/x|12"],
+            "loop A 2",
+        ),
+        (
+            "a call of itself after an output",
+            &["E|2 | A/x|3 a|1"],
+            "recursion A 2",
+        ),
+        (
+            "a call that may take nothing",
+            &["E|2 | B|3 E|12", "E|2 | E|1"],
+            "loop A 2",
+        ),
+        (
+            "a call of a word that leads to itself",
+            &["E|2 | B|12", "E|2 | b|1"],
+            ":B1tB1 :b1t",
+        ),
+        (
+            "loops in two graphs",
+            &["E|3 | B|1 E|23", "E|2 | E|12"],
+            "loop A 3",
+        ),
+        (
+            "a loop behind a recursion",
+            &["E|2 | A+B|1", "E|2 | E|12"],
+            "loop B 2",
+        ),
+    ];
+    compare_nets(&rt, rt.alloc(), ROWS)
+}
