@@ -4,7 +4,7 @@ use Rattle.std.specs.Ordering.{nat_cmp}
 use Rattle.std.specs.Cmp.Lexicographic.{slice_cmp}
 use denote.Text.{Utf8}
 use denote.Shadow.{shadow}
-use Rattle.ux_concord.proofs.characters.compare_backwards.Given as goal
+use Rattle.ux_concord.proofs.characters.compare_ends.Given as goal
 
 -- the texts have the same end, and what is left is text and compares as the whole does
 abbrev pub invariant-loop-before_a : goal.invariant-loop-before_a
