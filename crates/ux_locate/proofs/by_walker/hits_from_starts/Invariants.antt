@@ -1,7 +1,7 @@
 use Rattle.std.specs.Prelude.{◌≡◌}
 use Rattle.ux_locate.specs.Finding.{AreKeptFor, IsFoundBefore, IsHitFrom, setting_in}
 use Rattle.ux_locate.specs.Keeping.{AreKept, first_of, last_of}
-use Rattle.ux_locate.proofs.locating.hits_from_starts.Given as goal
+use Rattle.ux_locate.proofs.by_walker.hits_from_starts.Given as goal
 
 -- the hits are those that the policy keeps of the ones from the starts so far
 abbrev pub invariant-loop-start : goal.invariant-loop-start

@@ -5,15 +5,15 @@ use Rattle.ux_walk.proofs.Collecting.{Among, includes_all, includes_more, includ
 use Rattle.ux_locate.specs.Finding.{IsRendered}
 use Rattle.ux_locate.specs.Keeping.{AreBest, last_of}
 use Rattle.ux_locate.proofs.BestLemmas.{best_none, best_same}
-use Rattle.ux_locate.proofs.locating.best_rendered.Goals as goal
+use Rattle.ux_locate.proofs.from_start.best_rendered.Goals as goal
 
 pub loop-derivation-init : goal.loop-derivation-init
 loop-derivation-init c =
     let search = c.args.search.now in (
       [],
       includes_none (IsRendered search c.args.start) [] c.args.found.now,
-      subst (AreBest search.policy last_of (Contains [])) (sym c.new-best.ensures.items)
-          (best_none search.policy last_of (Contains []) none_in),
+      subst (AreBest c.args.policy last_of (Contains [])) (sym c.new-best.ensures.items)
+          (best_none c.args.policy last_of (Contains []) none_in),
     )
 
 pub add_rendered-requires : goal.add_rendered-requires
@@ -46,7 +46,7 @@ returns c =
     let so_far = c.loop-derivation.invariant in
     let all = includes_all Hits [] so_far.0 found c.loop-derivation.derivation-index
     c.loop-derivation-test.false so_far.1 in
-    best_same search.policy last_of (Contains so_far.0) (Among Hits found) (λ hit. (
+    best_same c.args.policy last_of (Contains so_far.0) (Among Hits found) (λ hit. (
       λ c. elim (all.only hit c) [ inl old ↦ absurd (none_in hit old) | inr f ↦ f ],
       λ f. all.has hit f,
     )) c.loop-derivation.best.items so_far.2

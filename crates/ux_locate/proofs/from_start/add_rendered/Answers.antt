@@ -3,7 +3,7 @@ use Rattle.std.specs.Prelude.{Some}
 use Rattle.ux_outputs.specs.declared.event.Event.{Event}
 use Rattle.ux_outputs.specs.Rendering.{render}
 use Rattle.ux_locate.proofs.HitLemmas.{hit_pushed}
-use Rattle.ux_locate.proofs.locating.add_rendered.Goals as goal
+use Rattle.ux_locate.proofs.from_start.add_rendered.Goals as goal
 
 pub returns-in_ok-add_best : goal.returns-in_ok-add_best
 returns-in_ok-add_best c seen are =
