@@ -49,6 +49,7 @@ bench:
 	@bench/masks.py
 	@bench/outputs.py
 	@bench/policies.py
+	@bench/contexts.py
 	@bench/concord.py
 
 gate:

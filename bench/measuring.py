@@ -1,7 +1,6 @@
 """What the benchmarks share: where the program and their data are, and the time and memory of a run."""
 import os
 import sys
-import time
 
 HERE = os.path.dirname(os.path.abspath(__file__))
 PROGRAM = os.path.join(HERE, "..", "crates", "unitex", "out", "unitex")
@@ -28,12 +27,12 @@ def apart(make, *arguments):
 
 
 def run(arguments, output=OUT, environment=None):
-    """The seconds, and the peak of resident memory in bytes, of one run. Its output goes to a file, since grep stops at
-    its first match where it is thrown away.
+    """The seconds of a processor, and the peak of resident memory in bytes, of one run. Its output goes to a file, since
+    grep stops at its first match where it is thrown away. No program here has a second thread, so these seconds are
+    those that a user waits where nothing else runs.
 
     The peak is never below this script's own, which the new process begins with.
     """
-    begun = time.perf_counter()
     child = os.fork()
     if child == 0:
         os.dup2(os.open(output, os.O_WRONLY | os.O_CREAT | os.O_TRUNC, 0o644), 1)
@@ -41,7 +40,7 @@ def run(arguments, output=OUT, environment=None):
     _, status, usage = os.wait4(child, 0)
     if os.waitstatus_to_exitcode(status) != 0:
         sys.exit(f"{arguments[0]} failed with {status}")
-    return time.perf_counter() - begun, usage.ru_maxrss * 1024
+    return usage.ru_utime + usage.ru_stime, usage.ru_maxrss * 1024
 
 
 def best(arguments, output=OUT, environment=None):

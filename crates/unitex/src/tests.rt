@@ -1,10 +1,13 @@
 //! Rows of the top call over a folder and sinks in memory.
 
+mod bench;
 mod concordances;
+mod contexts;
 mod dictionaries;
 mod encodings;
 mod fakes;
 mod grammars;
+mod images;
 mod letters;
 mod mask_refusals;
 mod masks;

@@ -9,6 +9,7 @@ use Rattle.ux_net.specs.declared.label.Label.TheVariants as label
 use Rattle.ux_net.specs.declared.net_graph.NetGraph.{NetGraph}
 use Rattle.ux_net.specs.Words.{plain}
 use Rattle.ux_net.proofs.JoinedLemmas.{less_or}
+use Rattle.ux_meaning.specs.Inputs.{Input}
 use Rattle.ux_outputs.specs.declared.event.Event.TheVariants as event
 use Rattle.ux_parts.specs.declared.parts.Parts.{Parts}
 use Rattle.ux_parts.specs.Ordered.{MayStay, GoesAhead}
@@ -35,12 +36,12 @@ counts_more old new n is c =
     })
 
 -- all parts are listed
-pub all_likely : (net : List NetGraph) (parts : Parts) (count : ℕ) (shown numbers : List ℕ) →
-    shown ≡ numbers → CountsTo count numbers → length parts.list ≤ count →
-    AreLikely empty_input net parts 0 (λ i. shown)
-all_likely net parts count shown numbers is c all =
+pub all_likely : (input : Input) (last : ℕ) (net : List NetGraph) (parts : Parts) (count : ℕ)
+    (shown numbers : List ℕ) → shown ≡ numbers → CountsTo count numbers →
+    length parts.list ≤ count → AreLikely input net parts last (λ i. shown)
+all_likely input last net parts count shown numbers is c all =
     let len = c.len in
-    subst (λ (l : List ℕ). AreLikely empty_input net parts 0 (λ i. l)) (sym is) (record {
+    subst (λ (l : List ℕ). AreLikely input net parts last (λ i. l)) (sym is) (record {
       ascends = λ i to k inside.
           let low = c.each k 0 (omega (arith, len, inside)) in
           let high = c.each (k + 1) 0 (omega (arith, len, inside)) in

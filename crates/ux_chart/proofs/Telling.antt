@@ -9,6 +9,7 @@ use Rattle.ux_net.specs.declared.net_graph.NetGraph.{NetGraph}
 use Rattle.ux_net.specs.Nets.{net_grammar}
 use Rattle.ux_outputs.specs.declared.event.Event.{Event}
 use Rattle.ux_meaning.specs.Inputs.{Input}
+use Rattle.ux_meaning.specs.Contexts.{IsOpening, Holds, Applies}
 use Rattle.ux_meaning.specs.Meaning.{Der}
 use Rattle.ux_meaning.proofs.Levels.{refuses_iff, in_the_end}
 use Rattle.ux_parts.specs.declared.parts.Parts.{Parts}
@@ -20,7 +21,6 @@ use Rattle.ux_chart.specs.declared.chart.Chart.{Chart}
 use Rattle.ux_chart.specs.declared.table.Stretch.{Stretch}
 use Rattle.ux_chart.specs.Rows.{IsAnswer, IsWholeRow, IsChart, AreTold}
 use Rattle.ux_chart.specs.Search.{refused_in}
-use Rattle.ux_chart.specs.Telling.{IsOpening, Holds, Applies}
 use Rattle.ux_chart.proofs.Entering.{single, opens, told_whole, IsEdge}
 use Rattle.ux_chart.proofs.FollowingLemmas.{refused_here}
 
@@ -64,7 +64,7 @@ module _ (input : Input) (net : List NetGraph) (parts : Parts) (are : ArePartsOf
   module _ (ahead : GoesAhead input last) (g o i : ℕ) where
     holds_iff : (c : ℕ) →
         Closes input (net_grammar net) parts.levels g o i c
-        ↔ Holds input net parts.levels g o c i
+        ↔ Holds input (net_grammar net) parts.levels g o c i
     holds_iff c = (
       λ h. record {
         word = h.from.word;
@@ -79,7 +79,7 @@ module _ (input : Input) (net : List NetGraph) (parts : Parts) (are : ArePartsOf
 
     refused_iff : (c : ℕ) →
         IsRefused input (net_grammar net) parts.levels g o i c
-        ↔ Applies input net parts.levels g label.Negative o i c
+        ↔ Applies input (net_grammar net) parts.levels g label.Negative o i c
     refused_iff c =
         let iff = refuses_iff input (net_grammar net) are.level parts.levels are.levels g o c i in (
           λ r. (
@@ -96,9 +96,10 @@ module _ (input : Input) (net : List NetGraph) (parts : Parts) (are : ArePartsOf
 
     pub tells_positive : (x : Label) → x ≡ label.Positive → (js cs : List ℕ) →
         IsAnswer input net parts g o i js cs → (c : ℕ) →
-        Contains cs c ↔ Applies input net parts.levels g x o i c
+        Contains cs c ↔ Applies input (net_grammar net) parts.levels g x o i c
     tells_positive x named js cs answer c =
-        subst (λ y. Contains cs c ↔ Applies input net parts.levels g y o i c) (sym named) (
+        subst (λ y. Contains cs c ↔ Applies input (net_grammar net) parts.levels g y o i c)
+        (sym named) (
           λ h. (holds_iff c).0 ((answer.closers c).0 h),
           λ h. (answer.closers c).1 ((holds_iff c).1 h),
         )
@@ -106,11 +107,12 @@ module _ (input : Input) (net : List NetGraph) (parts : Parts) (are : ArePartsOf
     pub tells_negative : (x : Label) → x ≡ label.Negative → (closing : List ℕ) →
         IsClosedInto net g o closing → (js cs : List ℕ) →
         IsAnswer input net parts g o i js cs → (into : List ℕ) → into ≡ refused_in closing cs →
-        (c : ℕ) → Contains into c ↔ Applies input net parts.levels g x o i c
+        (c : ℕ) → Contains into c ↔ Applies input (net_grammar net) parts.levels g x o i c
     tells_negative x named closing closed js cs answer into same c =
         let here = refused_here input last ahead net parts are g o i closing closed js cs answer
         c in
-        subst (λ y. Contains into c ↔ Applies input net parts.levels g y o i c) (sym named) (
+        subst (λ y. Contains into c ↔ Applies input (net_grammar net) parts.levels g y o i c)
+        (sym named) (
           λ h. (refused_iff c).0 (here.0 (subst (λ l. Contains l c) same h)),
           λ h. subst (λ l. Contains l c) (sym same) (here.1 ((refused_iff c).1 h)),
         )

@@ -2,5 +2,4 @@ pub mod Tables
 pub mod Rows
 pub mod Likely
 pub mod Search
-pub mod Telling
 pub mod EmptyTexts

@@ -4,12 +4,12 @@ ghost use Rattle.std.specs.Prelude.{◌≡◌, ℕ, ◌+◌, ◌-◌, ◌≤◌,
 ghost use Rattle.std.specs.List.Sorted.{IsStrictlyIncreasing};
 ghost use Rattle.ux_net.specs.Nets.{net_grammar};
 ghost use Rattle.ux_outputs.specs.declared.event.Event.{Event};
+ghost use Rattle.ux_meaning.specs.Contexts.{Applies, IsOpening};
 ghost use Rattle.ux_meaning.specs.Meaning.{Der};
 ghost use Rattle.ux_parts.specs.Parts.{ArePartsOf};
 ghost use Rattle.ux_chart.specs.Rows.{AreTold, IsChart, IsLaidOut, IsRowAt};
 ghost use Rattle.ux_chart.specs.Search.{refused_in};
 ghost use Rattle.ux_chart.specs.Tables.{IsSorted};
-ghost use Rattle.ux_chart.specs.Telling.{Applies, IsOpening};
 ghost use Rattle.ux_chart.specs.declared.table.Stretch.{Stretch};
 
 use crate::basis::Basis;
@@ -77,8 +77,8 @@ impl Chart {
         requires opens { IsOpening net.now graph edge.now }
         requires inside { at ≤ B.last basis.now }
         ensures exact { (c : ℕ) → Contains result.now c ↔
-            Applies (B.input basis.now) net.now parts.now.levels graph edge.now.label
-            edge.now.target at c }
+            Applies (B.input basis.now) (net_grammar net.now) parts.now.levels graph
+            edge.now.label edge.now.target at c }
         ensures ascending { IsStrictlyIncreasing result.now }
     {
         let reached = self.told(parts, graph, edge.target, at);

@@ -59,6 +59,8 @@ impl Basis for EmptyText {
 
     ghost likely_at = { λ text i. text.numbers };
 
+    ghost knows = { λ text label. Unit {0} };
+
     fn last(&self) -> usize {
         0
     }
@@ -87,7 +89,7 @@ fn may_stay(label: &Label) -> bool
 }
 
 /// The numbers below this one, ascending.
-fn numbers_to(alloc: Global, count: u32) -> Mem<Vec<u32>>
+pub fn numbers_to(alloc: Global, count: u32) -> Mem<Vec<u32>>
     ensures { IfOk result (λ numbers. CountsTo count numbers.items) }
 {
     let mut numbers = Vec::new(alloc);

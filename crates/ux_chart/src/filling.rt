@@ -4,7 +4,7 @@ ghost use Rattle.std.specs.Prelude.{◌≡◌, ◌+◌, [], length, Some, slice_
 ghost use Rattle.std.specs.List.Sorted.{IsStrictlyIncreasing};
 ghost use Rattle.ux_parts.specs.Ordered.{GoesAhead};
 ghost use Rattle.ux_parts.specs.Parts.{ArePartsOf};
-ghost use Rattle.ux_chart.specs.Likely.{AreLikely};
+ghost use Rattle.ux_chart.specs.Likely.{AreKnown, AreLikely};
 ghost use Rattle.ux_chart.specs.Rows.{IsAnswer, IsFilled, IsChart, IsWholeRow, AreBegun, begun_at};
 ghost use Rattle.ux_chart.specs.Tables.{IsPut};
 
@@ -38,6 +38,7 @@ impl Chart {
         requires ahead { GoesAhead (B.input basis.now) (B.last basis.now) }
         requires likely { AreLikely (B.input basis.now) net.now parts.now (B.last basis.now)
             (B.likely_at basis.now) }
+        requires known { AreKnown (B.knows basis.now) net.now }
         ensures { IfOk result (λ chart.
             IsChart (B.input basis.now) net.now parts.now (B.last basis.now) chart) }
     {
@@ -72,6 +73,7 @@ fn fill_rows<B: Basis>(
     requires ahead { GoesAhead (B.input basis.now) (B.last basis.now) }
     requires likely { AreLikely (B.input basis.now) net.now parts.now (B.last basis.now)
         (B.likely_at basis.now) }
+    requires known { AreKnown (B.knows basis.now) net.now }
     requires last { chart.old.last ≡ B.last basis.now }
     requires rows { chart.old.rows.items ≡ [] }
     requires table { chart.old.table.answers.items ≡ [] }
@@ -116,6 +118,7 @@ fn fill_row<B: Basis>(
     requires ahead { GoesAhead (B.input basis.now) (B.last basis.now) }
     requires likely { AreLikely (B.input basis.now) net.now parts.now (B.last basis.now)
         (B.likely_at basis.now) }
+    requires known { AreKnown (B.knows basis.now) net.now }
     requires last { chart.old.last ≡ B.last basis.now }
     requires begun { AreBegun (B.input basis.now) net.now parts.now chart.old }
     requires count { length chart.old.rows.items + at ≡ chart.old.last }
@@ -155,6 +158,7 @@ fn fill_part<B: Basis>(
 ) -> Mem<()>
     requires parts { ArePartsOf net.now parts.now }
     requires ahead { GoesAhead (B.input basis.now) chart.old.last }
+    requires known { AreKnown (B.knows basis.now) net.now }
     requires last { B.last basis.now ≡ chart.old.last }
     requires filled { IsFilled (B.input basis.now) net.now parts.now chart.old begun }
     requires end { begun.row.to ≡ length chart.old.table.answers.items }
@@ -203,6 +207,7 @@ fn search<B: Basis>(
 ) -> Mem<Lists>
     requires parts { ArePartsOf net.now parts.now }
     requires ahead { GoesAhead (B.input basis.now) chart.now.last }
+    requires known { AreKnown (B.knows basis.now) net.now }
     requires last { B.last basis.now ≡ chart.now.last }
     requires filled { IsFilled (B.input basis.now) net.now parts.now chart.now begun }
     requires part { slice_get parts.now.list begun.number ≡ Some part.now }

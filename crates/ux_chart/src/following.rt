@@ -6,6 +6,7 @@ ghost use Rattle.ux_net.specs.Nets.{net_grammar, states_of};
 ghost use Rattle.ux_parts.specs.Ordered.{GoesAhead};
 ghost use Rattle.ux_parts.specs.Parts.{ArePartsOf};
 ghost use Rattle.ux_parts.specs.Runs.{NextBy};
+ghost use Rattle.ux_chart.specs.Likely.{AreKnown};
 ghost use Rattle.ux_chart.specs.Rows.{IsFilled};
 ghost use Rattle.ux_chart.specs.Search.{GoesTo, IsReady};
 ghost use Rattle.ux_chart.specs.declared.config.Config.{Config};
@@ -31,6 +32,7 @@ pub fn expand<B: Basis>(
 ) -> Mem<()>
     requires parts { ArePartsOf net.now parts.now }
     requires ahead { GoesAhead (B.input basis.now) chart.now.last }
+    requires known { AreKnown (B.knows basis.now) net.now }
     requires last { B.last basis.now ≡ chart.now.last }
     requires filled { IsFilled (B.input basis.now) net.now parts.now chart.now begun }
     requires ready { IsReady net.now parts.now chart.now.last begun.at begun.number graph from }
@@ -64,6 +66,7 @@ fn follow<B: Basis>(
 ) -> Mem<()>
     requires parts { ArePartsOf net.now parts.now }
     requires ahead { GoesAhead (B.input basis.now) chart.now.last }
+    requires known { B.knows basis.now edge.now.label }
     requires last { B.last basis.now ≡ chart.now.last }
     requires filled { IsFilled (B.input basis.now) net.now parts.now chart.now begun }
     requires ready { IsReady net.now parts.now chart.now.last begun.at begun.number graph from }

@@ -3,6 +3,7 @@
 ghost use Rattle.std.specs.Prelude.{◌≡◌, ℕ, ◌≤◌, ◌<◌, ◌↔◌, List, Some, slice_get, Contains, OnOk};
 ghost use Rattle.ux_parts.specs.Ordered.{GoesAhead};
 ghost use Rattle.ux_parts.specs.Parts.{ArePartsOf};
+ghost use Rattle.ux_chart.specs.Likely.{AreKnown};
 ghost use Rattle.ux_chart.specs.Rows.{IsFilled};
 ghost use Rattle.ux_chart.specs.Search.{IsReached};
 ghost use Rattle.ux_chart.specs.declared.config.Config.{Config};
@@ -35,6 +36,7 @@ pub fn reach<B: Basis>(
 ) -> Mem<()>
     requires parts { ArePartsOf net.now parts.now }
     requires ahead { GoesAhead (B.input basis.now) chart.now.last }
+    requires known { AreKnown (B.knows basis.now) net.now }
     requires last { B.last basis.now ≡ chart.now.last }
     requires filled { IsFilled (B.input basis.now) net.now parts.now chart.now begun }
     requires part { slice_get parts.now.list begun.number ≡ Some part.now }

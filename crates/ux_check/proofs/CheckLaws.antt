@@ -12,9 +12,11 @@ use Rattle.ux_dela.proofs.ExclusionLemmas.{says_excluded}
 use Rattle.ux_dela.proofs.StemExclusionLemmas.{stem_excluded}
 use Rattle.ux_dela.proofs.StemLaws.{stems_once}
 use Rattle.ux_dela.proofs.UniqueLaws.{entries_are_unique}
+use Rattle.ux_image_files.specs.ImageFiles.{image_format, is_image, made}
+use Rattle.ux_image_files.proofs.ImageFileLaws.{either_sound, image_sound, made_sound}
 use Rattle.ux_plan.proofs.PlanLaws.{IsSound, Laws, decoded_sound, said_sound}
-use Rattle.ux_check.specs.declared.reason.Reason.TheVariants.{Decode, Dela}
-use Rattle.ux_check.specs.Check.{check_entries, check_stems, count_format}
+use Rattle.ux_check.specs.declared.reason.Reason.TheVariants.{Decode, Dela, Image}
+use Rattle.ux_check.specs.Check.{IsCountOf, check_entries, check_stems, count_format, entries_format, text_format}
 
 -- no file of forms says entries and is refused
 entries_not_refused : (text : List ℕ) (entries : List Entry) (error : DelaError) →
@@ -44,9 +46,19 @@ module _ {T : Type 0} (AreOf : List ℕ → List T → Type 0) (Refuses : List �
       decoded_sound Decode _ (said_sound Dela (HasCount AreOf) Refuses
       (λ text count error has refused. excluded text has.said error has.are refused) one_count)
 
+-- a list has one count
+one_length : (entries : List Entry) (count other : ℕ) → IsCountOf entries count →
+    IsCountOf entries other → count ≡ other
+one_length entries count other a b = a ∙ sym b
+
+entries_sound : (name : List ℕ) → IsSound (entries_format name)
+entries_sound name =
+    either_sound (is_image name) (made (image_format Image) IsCountOf) text_format
+    (made_sound (image_format Image) IsCountOf (image_sound Image) one_length)
+    (count_sound AreEntries Refuses entries_not_refused entries_are_unique)
+
 pub entries_laws : (file : List ℕ) → Laws (check_entries file).plan
-entries_laws file =
-    (count_sound AreEntries Refuses entries_not_refused entries_are_unique, λ count. tt)
+entries_laws file = (entries_sound file, λ count. tt)
 
 pub stems_laws : (file : List ℕ) → Laws (check_stems file).plan
 stems_laws file = (count_sound AreStems RefusesStems stems_not_refused stems_once, λ count. tt)

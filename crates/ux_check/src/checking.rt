@@ -1,18 +1,21 @@
-//! Dictionaries whose entries are counted: files of forms, and files of lemmas.
+//! Dictionaries whose entries are counted: images and files of forms, and files of lemmas.
 
 ghost use Rattle.std.specs.Prelude.{IfErr, IfOk};
 ghost use Rattle.ux_base.specs.Outside.{IsLater};
 ghost use Rattle.ux_plan.specs.Plans.{Answers, Halts, Reads, StopsFile};
-ghost use Rattle.ux_check.specs.Check.{check_entries as check_entries_command, check_stems as check_stems_command, entries_format, stems_format};
+ghost use Rattle.ux_check.specs.Check.{IsCountOf, check_entries as check_entries_command, check_stems as check_stems_command, entries_format, stems_format, text_format};
+ghost use Rattle.ux_check.specs.declared.reason.Reason.TheVariants.{Image};
+ghost use Rattle.ux_image_files.specs.ImageFiles.{image_format, made};
 
 use crate::printing::entries_line;
 use crate::reason::Reason;
 use std::alloc::Global;
 use ux_base::Folder;
 use ux_dela::{DelaError, count_delaf, count_delas};
+use ux_image_files::{is_image, read_image};
 use ux_plan::{Stop, read_decoded, refused};
 
-/// Reads a file of forms, and tells the number of its entries.
+/// Reads a dictionary of forms, and tells the number of its entries.
 #[tactic(auto, using(ux_plan::proofs::PlanSteps::plan_steps))]
 pub fn check_entries<F: Folder>(
     alloc: Global,
@@ -48,17 +51,43 @@ pub fn check_stems<F: Folder>(
     Ok(line.into_bytes())
 }
 
-/// How many entries a file of forms has.
-#[tactic(auto, using(ux_plan::proofs::Decoded::decoding))]
+/// How many entries a dictionary has: an image, or a file of forms.
 fn count_entries<F: Folder>(
     alloc: Global,
     name: &str,
     folder: &mut F,
 ) -> Result<usize, Stop<Reason>>
     ensures later { IsLater (F.seen folder.old) (F.seen folder.new) }
-    ensures ok { IfOk result (Reads entries_format name.now (F.seen folder.old).files) }
+    ensures ok { IfOk result (Reads (entries_format name.now) name.now (F.seen folder.old).files) }
+    ensures err { IfErr result (StopsFile (entries_format name.now) name.now
+        (F.seen folder.old) (F.seen folder.new)) }
+{
+    if is_image(name) {
+        count_imaged(alloc, name, folder)
+    } else {
+        count_forms(alloc, name, folder)
+    }
+}
+
+/// How many entries an image has, each once.
+fn count_imaged<F: Folder>(alloc: Global, name: &str, folder: &mut F) -> Result<usize, Stop<Reason>>
+    ensures later { IsLater (F.seen folder.old) (F.seen folder.new) }
+    ensures ok { IfOk result
+        (Reads (made (image_format Image) IsCountOf) name.now (F.seen folder.old).files) }
+    ensures err { IfErr result (StopsFile (made (image_format Image) IsCountOf) name.now
+        (F.seen folder.old) (F.seen folder.new)) }
+{
+    let entries = read_image(alloc, name, folder)?;
+    Ok(entries.len())
+}
+
+/// How many entries a file of forms has.
+#[tactic(auto, using(ux_plan::proofs::Decoded::decoding))]
+fn count_forms<F: Folder>(alloc: Global, name: &str, folder: &mut F) -> Result<usize, Stop<Reason>>
+    ensures later { IsLater (F.seen folder.old) (F.seen folder.new) }
+    ensures ok { IfOk result (Reads text_format name.now (F.seen folder.old).files) }
     ensures err { IfErr result
-        (StopsFile entries_format name.now (F.seen folder.old) (F.seen folder.new)) }
+        (StopsFile text_format name.now (F.seen folder.old) (F.seen folder.new)) }
 {
     let text = read_decoded(alloc, name, folder)?;
     match count_delaf(alloc, text.as_str()) {

@@ -2,6 +2,8 @@
 
 use ux_decode::DecodeError;
 use ux_dela::DelaError;
+use ux_image_files::OfImage;
+use ux_image_reader::ImageError;
 use ux_plan::OfDecode;
 
 /// Why a file is refused.
@@ -11,6 +13,8 @@ pub enum Reason {
     Decode(DecodeError),
     /// The text is no dictionary.
     Dela(DelaError),
+    /// The file is no image of a dictionary.
+    Image(ImageError),
 }
 
 impl OfDecode for Reason {
@@ -20,5 +24,15 @@ impl OfDecode for Reason {
 
     fn of_decode(error: DecodeError) -> Reason {
         Reason::Decode(error)
+    }
+}
+
+impl OfImage for Reason {
+    ghost use Rattle.ux_check.specs.declared.reason.Reason.TheVariants as reason;
+
+    ghost image_as = { reason.Image };
+
+    fn of_image(error: ImageError) -> Reason {
+        Reason::Image(error)
     }
 }

@@ -28,6 +28,7 @@ module _ (setting : Setting) (at : ℕ) (is_spaced : Bool) (tells : TellsSpace s
     passes_lets label.Empty p = tt
     passes_lets (label.Begin name) p = tt
     passes_lets (label.End name) p = tt
+    passes_lets label.Cut p = tt
     passes_lets label.Glue p = go is_spaced tells.0
       where
         go : (b : Bool) → (IsTrue b → IsSpaceAt setting.tokens at) → b ≡ false
@@ -39,6 +40,7 @@ module _ (setting : Setting) (at : ℕ) (is_spaced : Bool) (tells : TellsSpace s
     lets_passes label.Empty l = tt
     lets_passes (label.Begin name) l = tt
     lets_passes (label.End name) l = tt
+    lets_passes label.Cut l = tt
     lets_passes label.Glue l = λ space. let yes = tells.1 space in cc
     lets_passes _ l = absurd l
 
@@ -97,7 +99,10 @@ module _ (setting : Setting) (at : ℕ) (is_spaced : Bool) (tells : TellsSpace s
         (subst (λ (x : Course). Split x.frames end) is
         (split_forth rest (ap (λ (x : Course). x.at) is ∙ here)))
     split_forth {stack = f ∷ fs} {end = end}
-        (goes w (state, found, inl (edge, inside, inr (inr (h, calls, is)))) rest) here =
+        (goes w (state, found, inl (edge, inside, inr (inr (inr (c, opens, applied, is))))) rest)
+        here = absurd applied
+    split_forth {stack = f ∷ fs} {end = end}
+        (goes w (state, found, inl (edge, inside, inr (inr (inl (h, calls, is))))) rest) here =
         let next : Frame = record { graph = f.graph; state = edge.target } in
         let start : Frame = record { graph = h; state = 0 } in
         further (f ∷ fs) (start ∷ next ∷ fs) end
@@ -125,7 +130,7 @@ module _ (setting : Setting) (at : ℕ) (is_spaced : Bool) (tells : TellsSpace s
         let behind : Frame = record { graph = f.graph; state = edge.target } in
         let start : Frame = record { graph = h; state = 0 } in
         goes (record { frames = start ∷ behind ∷ fs; at = at; before = put_before edge })
-        (state, found, inl (edge, inside, inr (inr (h, calls, refl))))
+        (state, found, inl (edge, inside, inr (inr (inl (h, calls, refl)))))
         (subst (λ (s : Stack). LeadsTo setting s at end) is leads)
 
     reach_back : {stack last : Stack} {end : ℕ} → Reaches setting.net is_spaced stack last →

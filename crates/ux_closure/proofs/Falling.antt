@@ -16,6 +16,7 @@ module _ (net : List NetGraph) (is_spaced : Bool) (measured : IsMeasured net) wh
   lower_of g from to label.Glue falls lets = falls
   lower_of g from to (label.Begin name) falls lets = falls
   lower_of g from to (label.End name) falls lets = falls
+  lower_of g from to label.Cut falls lets = falls
   lower_of g from to _ falls lets = absurd lets
 
   pub passes_lighter : (s t : Stack) → PassesOn net is_spaced s t →

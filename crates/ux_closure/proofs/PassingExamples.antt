@@ -28,7 +28,7 @@ abbrev last : State
 last = record { is_final = true; edges = [] }
 
 abbrev drawn : List State → NetGraph
-drawn states = record { name = []; states = states; ranks = []; free = [] }
+drawn states = record { name = []; states = states; ranks = []; free = []; closings = [] }
 
 only : (edge : Edge) → Contains (edge ∷ []) edge
 only edge = Contains-push [] edge

@@ -163,7 +163,7 @@ fn lets_pass(label: &Label, is_spaced: bool) -> bool
     ensures { IsTrue result ↔ LetsPass is_spaced label.now }
 {
     match label {
-        Label::Empty | Label::Begin(_) | Label::End(_) => true,
+        Label::Empty | Label::Begin(_) | Label::End(_) | Label::Cut => true,
         Label::Glue => !is_spaced,
         Label::Fold(_)
         | Label::Exact(_)
@@ -173,7 +173,6 @@ fn lets_pass(label: &Label, is_spaced: bool) -> bool
         | Label::Positive
         | Label::Negative
         | Label::ContextEnd
-        | Label::Cut
         | Label::Call(_) => false,
     }
 }

@@ -1,5 +1,6 @@
 pub mod CharactersLemmas
 pub mod ContextLemmas
+pub mod EndsLemmas
 pub mod LinesLemmas
 pub mod LyingLemmas
 pub mod OrderLemmas

@@ -6,6 +6,7 @@ use Rattle.std.specs.Str.{chars}
 use Rattle.std.proofs.lemmas.List.{length-append}
 use Rattle.std.proofs.lemmas.List.Sums.{sum_by-append, sum_by-cons}
 use Rattle.std.proofs.lemmas.Str.{chars-append, chars-nil, chars_past_char, encodes-chars, IsCharBoundary-at_seam, IsCharBoundary-from_take, IsUtf8-take, IsUtf8-drop}
+use Rattle.unicode_width.specs.Width.{char_width}
 use Rattle.ux_concord.specs.Widths.{columns_of, width}
 
 -- one character alone
@@ -89,3 +90,8 @@ wide-last begin part earlier c first whole some before last is =
     (sym (chars-append begin part first) ∙ ap chars is ∙ chars-append earlier (encode_utf8 c) before
     ∙ ap (λ (l : List ℕ). chars earlier ++ l) (chars-one c last))
     (some-chars part whole some)
+
+-- a character that ASCII prints takes one column
+pub printed_width : (c : ℕ) → 0x20 ≤ c → c < 0x7F → columns_of c ≡ 1
+unfolding char_width
+printed_width c from to = grind (arith, from, to)

@@ -7,10 +7,11 @@ ghost use Rattle.std.specs.Cmp.Lexicographic.{slice_cmp};
 ghost use Rattle.ux_concord.specs.Concordance.{keys, left_key, line_cmp, right_key, text_key};
 ghost use Rattle.ux_concord.specs.Lent.{AreSorted, line_of};
 
-use crate::characters::{compare_backwards, compare_forwards};
+use crate::characters::compare_backwards;
 use crate::line::LentLine;
 use std::cmp::Ordering;
 use ux_base::Sort;
+use ux_code_points::compare as compare_forwards;
 
 /// Puts the lines in order. Takes no memory.
 pub(crate) fn sort_lines(sort: Sort, lines: &mut Vec<LentLine>)

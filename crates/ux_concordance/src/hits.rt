@@ -1,13 +1,14 @@
 //! The hits of a search that a policy keeps, each with its text.
 //!
-//! Where outputs are ignored, walks that tell only where derivations end find the hits, and the texts are
-//! taken from the corpus.
+//! Where outputs are ignored, and the grammar has neither contexts nor cuts, walks that tell only where
+//! derivations end find the hits, and the texts are taken from the corpus.
 
 ghost use Rattle.std.specs.Prelude.{◌≡◌, ◌<◌, All, IfOk, map};
 ghost use Rattle.ux_net.specs.Nets.{net_grammar};
 ghost use Rattle.ux_apply.specs.Belonging.{Belongs};
 ghost use Rattle.ux_locate.specs.Hits.{IsHit};
 ghost use Rattle.ux_locate.specs.Index.{IsKeptListing};
+ghost use Rattle.ux_locate.specs.Searchable.{IsSearchable};
 ghost use Rattle.ux_locate.specs.Spans.{LiesIn, hit_at};
 
 use std::alloc::Global;
@@ -36,16 +37,17 @@ pub(crate) fn hits_of<L: Ledger>(
     requires parts { blank.parts ≡ L.parts }
     requires some { 0 < blank.parts }
     requires belongs { Belongs alphabet.now text.now applied.now }
+    requires searchable { IsSearchable net.now }
     ensures { IfOk result (λ hits. IsKeptListing policy
         (IsHit alphabet.now text.now applied.now (net_grammar net.now) mode novar) hits.items) }
 {
     let mut steps = Steps::<L>::new(blank);
     match mode {
-        Mode::Ignore => {
+        Mode::Ignore if net.is_plain() => {
             let spans = locate_spans(alloc, net, text, alphabet, applied, policy, &mut steps)?;
             hits_at(alloc, text, spans.as_slice())
         }
-        Mode::Merge | Mode::Replace => {
+        Mode::Ignore | Mode::Merge | Mode::Replace => {
             locate(
                 alloc, net, text, alphabet, applied, mode, novar, policy, &mut steps,
             )

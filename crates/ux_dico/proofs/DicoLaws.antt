@@ -14,19 +14,19 @@ use Rattle.ux_dictionaries.proofs.DictionaryLaws.{dictionaries_laws}
 use Rattle.ux_texts.specs.Texts.{letters_and_text}
 use Rattle.ux_texts.proofs.TextLaws.{letters_and_text_laws}
 use Rattle.ux_dico.specs.declared.reason.Reason.{Reason}
-use Rattle.ux_dico.specs.declared.reason.Reason.TheVariants.{Decode, Alphabet, Dela}
+use Rattle.ux_dico.specs.declared.reason.Reason.TheVariants.{Decode, Alphabet, Dela, Image}
 use Rattle.ux_dico.specs.Dico.{Read, dico, dico_plan}
 
 module _ (text alphabet : List ℕ) (names : List (List ℕ)) (chars : Bool) where
   -- what is read after the text
   abbrev rest : Letters × List Token → Plan Reason Read
-  rest read = then (each (dictionary_format Decode Dela) names) (λ dics. gives (read, dics))
+  rest read = then (each (dictionary_format Decode Dela Image) names) (λ dics. gives (read, dics))
 
   pub laws : Laws (dico text alphabet names chars).plan
   laws =
       laws_then rest
       (λ read. laws_then (λ dics. gives (read, dics)) (λ dics. tt)
-      (each (dictionary_format Decode Dela) names) (dictionaries_laws Decode Dela names))
+      (each (dictionary_format Decode Dela Image) names) (dictionaries_laws Decode Dela Image names))
       (letters_and_text Decode Alphabet text alphabet chars)
       (letters_and_text_laws Decode Alphabet text alphabet chars)
 
@@ -41,20 +41,20 @@ module _ (text alphabet : List ℕ) (names : List (List ℕ)) (chars : Bool) whe
       (first : Comes (letters_and_text Decode Alphabet text alphabet chars) old.files read) where
     -- the dictionaries were read too
     pub dico_comes : (dics : List (Priority × List Entry)) →
-        Comes (each (dictionary_format Decode Dela) names) mid.files dics →
+        Comes (each (dictionary_format Decode Dela Image) names) mid.files dics →
         Comes (dico_plan text alphabet names chars) old.files (read, dics)
     dico_comes dics second =
         comes_then (letters_and_text Decode Alphabet text alphabet chars) rest old.files read
-        (read, dics) first (comes_then (each (dictionary_format Decode Dela) names)
+        (read, dics) first (comes_then (each (dictionary_format Decode Dela Image) names)
         (λ dics. gives (read, dics)) old.files dics (read, dics)
-        (subst (λ (t : Option Files). Comes (each (dictionary_format Decode Dela) names) t dics)
+        (subst (λ (t : Option Files). Comes (each (dictionary_format Decode Dela Image) names) t dics)
         later.kept second) (comes_gives Reason (read, dics) old.files))
 
     -- a dictionary stops the reading
     pub dico_halts : (new : Seen) (stop : Stop Reason) →
-        Halts (each (dictionary_format Decode Dela) names) mid new stop →
+        Halts (each (dictionary_format Decode Dela Image) names) mid new stop →
         Halts (dico_plan text alphabet names chars) old new stop
     dico_halts new stop second =
         halts_second (letters_and_text Decode Alphabet text alphabet chars) rest old mid new stop
-        read first later (halts_first (each (dictionary_format Decode Dela) names)
+        read first later (halts_first (each (dictionary_format Decode Dela Image) names)
         (λ dics. gives (read, dics)) mid new stop second)

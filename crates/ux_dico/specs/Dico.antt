@@ -10,7 +10,7 @@ use Rattle.ux_tokens.specs.Tokens.{Token}
 use Rattle.ux_dictionaries.specs.Dictionaries.{dictionary_format}
 use Rattle.ux_texts.specs.Texts.{letters_and_text}
 use Rattle.ux_dico.specs.declared.reason.Reason.{Reason}
-use Rattle.ux_dico.specs.declared.reason.Reason.TheVariants.{Decode, Alphabet, Dela}
+use Rattle.ux_dico.specs.declared.reason.Reason.TheVariants.{Decode, Alphabet, Dela, Image}
 
 -- the letters and the tokens of a text, and the dictionaries that are applied to it
 abbrev pub Read : Type 0
@@ -21,7 +21,7 @@ abbrev pub dico_plan : (text alphabet : List ℕ) → (names : List (List ℕ)) 
     Plan Reason Read
 dico_plan text alphabet names chars =
     then (letters_and_text Decode Alphabet text alphabet chars) (λ read.
-    then (each (dictionary_format Decode Dela) names) (λ dics.
+    then (each (dictionary_format Decode Dela Image) names) (λ dics.
     gives (read, dics)))
 
 -- the report tells of the dictionaries' entries that apply to the tokens

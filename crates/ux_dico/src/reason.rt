@@ -4,6 +4,8 @@ use ux_alphabet::AlphabetError;
 use ux_decode::DecodeError;
 use ux_dela::DelaError;
 use ux_dictionaries::OfDela;
+use ux_image_files::OfImage;
+use ux_image_reader::ImageError;
 use ux_plan::OfDecode;
 use ux_texts::OfAlphabet;
 
@@ -16,6 +18,8 @@ pub enum Reason {
     Alphabet(AlphabetError),
     /// The text is no dictionary.
     Dela(DelaError),
+    /// The file is no image of a dictionary.
+    Image(ImageError),
 }
 
 impl OfDecode for Reason {
@@ -45,5 +49,15 @@ impl OfDela for Reason {
 
     fn of_dela(error: DelaError) -> Reason {
         Reason::Dela(error)
+    }
+}
+
+impl OfImage for Reason {
+    ghost use Rattle.ux_dico.specs.declared.reason.Reason.TheVariants as reason;
+
+    ghost image_as = { reason.Image };
+
+    fn of_image(error: ImageError) -> Reason {
+        Reason::Image(error)
     }
 }

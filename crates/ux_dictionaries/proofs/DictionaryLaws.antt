@@ -10,10 +10,13 @@ use Rattle.ux_dict.specs.Content.{IsContent}
 use Rattle.ux_dict.specs.FileContent.{IsFileContent}
 use Rattle.ux_dict.proofs.ContentLemmas.{IsContent-only}
 use Rattle.ux_dict.proofs.ReadLemmas.{content_not_refused}
+use Rattle.ux_image_files.specs.ImageFiles.{image_format, is_image}
+use Rattle.ux_image_files.proofs.ImageFileLaws.{either_sound, image_sound, made_sound}
+use Rattle.ux_image_reader.specs.declared.error.ImageError.{ImageError}
 use Rattle.ux_plan.specs.FileNames.{base_of}
 use Rattle.ux_plan.specs.Plans.{each}
 use Rattle.ux_plan.proofs.PlanLaws.{IsSound, Laws, decoded_sound, laws_each, said_sound}
-use Rattle.ux_dictionaries.specs.Dictionaries.{IsDictionary, dictionary_format}
+use Rattle.ux_dictionaries.specs.Dictionaries.{IsDictionary, IsDictionaryOf, dictionary_format, imaged_format, text_format}
 use Rattle.ux_dictionaries.proofs.PriorityLemmas.{one_priority}
 
 -- a text has one content
@@ -32,13 +35,32 @@ one_dictionary name text dic other a b =
     (one_priority (base_of name) dic.0 other.0 a.priority b.priority)
     ∙ ap (λ (c : List Entry). (other.0, c)) (one_content text dic.1 other.1 a.content b.content)
 
-module _ {R : Type 0} (decode_as : DecodeError → R) (dela_as : DelaError → R) where
-  pub dictionary_sound : (name : List ℕ) → IsSound (dictionary_format decode_as dela_as name)
-  dictionary_sound name =
+-- so are the entries of a named image
+one_imaged : (name : List ℕ) (entries : List Entry) (dic other : Priority × List Entry) →
+    IsDictionaryOf name entries dic → IsDictionaryOf name entries other → dic ≡ other
+one_imaged name entries dic other a b =
+    ap (λ (p : Priority). (p, dic.1))
+    (one_priority (base_of name) dic.0 other.0 a.priority b.priority)
+    ∙ ap (λ (c : List Entry). (other.0, c))
+    (IsContent-only entries dic.1 other.1 a.content b.content)
+
+module _ {R : Type 0} (decode_as : DecodeError → R) (dela_as : DelaError → R)
+    (image_as : ImageError → R) where
+  text_sound : (name : List ℕ) → IsSound (text_format decode_as dela_as name)
+  text_sound name =
       decoded_sound decode_as _ (said_sound dela_as (IsDictionary name) Refuses
       (λ text dic error is refused. content_not_refused text dic.1 is.content error refused)
       (one_dictionary name))
 
+  pub dictionary_sound : (name : List ℕ) →
+      IsSound (dictionary_format decode_as dela_as image_as name)
+  dictionary_sound name =
+      either_sound (is_image name) (imaged_format image_as name)
+      (text_format decode_as dela_as name)
+      (made_sound (image_format image_as) (IsDictionaryOf name) (image_sound image_as)
+      (one_imaged name)) (text_sound name)
+
   pub dictionaries_laws : (names : List (List ℕ)) →
-      Laws (each (dictionary_format decode_as dela_as) names)
-  dictionaries_laws names = laws_each (dictionary_format decode_as dela_as) dictionary_sound names
+      Laws (each (dictionary_format decode_as dela_as image_as) names)
+  dictionaries_laws names =
+      laws_each (dictionary_format decode_as dela_as image_as) dictionary_sound names

@@ -6,7 +6,10 @@ use Rattle.ux_decode.specs.declared.error.DecodeError.{DecodeError}
 use Rattle.ux_dela.specs.Files.{Refuses}
 use Rattle.ux_dela.specs.declared.entry.Entry.{Entry}
 use Rattle.ux_dela.specs.declared.error.DelaError.{DelaError}
+use Rattle.ux_dict.specs.Content.{IsContent}
 use Rattle.ux_dict.specs.FileContent.{IsFileContent}
+use Rattle.ux_image_files.specs.ImageFiles.{either, image_format, is_image, made}
+use Rattle.ux_image_reader.specs.declared.error.ImageError.{ImageError}
 use Rattle.ux_plan.specs.FileNames.{base_of}
 use Rattle.ux_plan.specs.Plans.{Format, decoded, said_as}
 
@@ -16,8 +19,25 @@ pub record IsDictionary (name text : List ℕ) (dic : Priority × List Entry) : 
   pub priority : IsPriorityOf (base_of name) dic.0
   pub content : IsFileContent text dic.1
 
--- the dictionary in the file of this name
-abbrev pub dictionary_format : {R : Type 0} → (DecodeError → R) → (DelaError → R) →
+-- the text of a file of this name, of which the dictionary is read
+abbrev pub text_format : {R : Type 0} → (DecodeError → R) → (DelaError → R) →
     (name : List ℕ) → Format R (Priority × List Entry)
-dictionary_format decode_as dela_as name =
+text_format decode_as dela_as name =
     decoded decode_as (said_as dela_as (IsDictionary name) Refuses)
+
+-- the entries that an image tells are a dictionary of this content, with the priority of its name
+pub record IsDictionaryOf (name : List ℕ) (entries : List Entry) (dic : Priority × List Entry) :
+    Type 0 where
+  pub priority : IsPriorityOf (base_of name) dic.0
+  pub content : IsContent entries dic.1
+
+-- an image of this name, of which the dictionary is read
+abbrev pub imaged_format : {R : Type 0} → (ImageError → R) →
+    (name : List ℕ) → Format R (Priority × List Entry)
+imaged_format image_as name = made (image_format image_as) (IsDictionaryOf name)
+
+-- the dictionary in the file of this name: an image, or a file of forms
+abbrev pub dictionary_format : {R : Type 0} → (DecodeError → R) → (DelaError → R) →
+    (ImageError → R) → (name : List ℕ) → Format R (Priority × List Entry)
+dictionary_format decode_as dela_as image_as name =
+    either (is_image name) (imaged_format image_as name) (text_format decode_as dela_as name)

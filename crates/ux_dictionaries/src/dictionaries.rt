@@ -1,15 +1,16 @@
-//! Files of forms, as the dictionaries of a command.
+//! Files of forms and images, as the dictionaries of a command.
 
 ghost use Rattle.std.specs.Prelude.{◌≡◌, IfErr, IfOk};
 ghost use Rattle.ux_base.specs.Outside.{IsLater};
 ghost use Rattle.ux_plan.specs.Plans.{Comes, Halts, Reads, StopsFile, each};
-ghost use Rattle.ux_dictionaries.specs.Dictionaries.{dictionary_format};
+ghost use Rattle.ux_dictionaries.specs.Dictionaries.{dictionary_format, imaged_format, text_format};
 
 use std::alloc::Global;
 use ux_apply::Priority;
 use ux_base::{Folder, Txt};
 use ux_dela::DelaError;
 use ux_dict::ListLexicon;
+use ux_image_files::{OfImage, is_image, read_image};
 use ux_plan::{OfDecode, Stop, base_of, read_decoded, refused};
 
 /// A command's reasons, where refused dictionaries have one among them.
@@ -27,15 +28,15 @@ pub trait OfDela: Drop {
 
 /// Reads the dictionaries of these names.
 #[tactic(auto, using(ux_plan::proofs::PlanSteps::plan_steps))]
-pub fn read_dictionaries<F: Folder, R: OfDecode + OfDela>(
+pub fn read_dictionaries<F: Folder, R: OfDecode + OfDela + OfImage>(
     alloc: Global,
     names: &[Txt],
     folder: &mut F,
 ) -> Result<Vec<(Priority, ListLexicon)>, Stop<R>>
     ensures later { IsLater (F.seen folder.old) (F.seen folder.new) }
-    ensures ok { IfOk result (λ dics. Comes (each (dictionary_format R.decode_as R.dela_as) names.now)
+    ensures ok { IfOk result (λ dics. Comes (each (dictionary_format R.decode_as R.dela_as R.image_as) names.now)
         (F.seen folder.old).files dics.items) }
-    ensures err { IfErr result (Halts (each (dictionary_format R.decode_as R.dela_as) names.now)
+    ensures err { IfErr result (Halts (each (dictionary_format R.decode_as R.dela_as R.image_as) names.now)
         (F.seen folder.old) (F.seen folder.new)) }
 {
     let mut dics = Vec::new(alloc);
@@ -46,17 +47,55 @@ pub fn read_dictionaries<F: Folder, R: OfDecode + OfDela>(
     Ok(dics)
 }
 
-/// Reads a dictionary, whose name without its folder gives its priority.
-#[tactic(auto, using(ux_plan::proofs::Decoded::decoding))]
-fn read_dictionary<F: Folder, R: OfDecode + OfDela>(
+/// Reads a dictionary: an image, or a file of forms. Its name without its folder gives its priority.
+fn read_dictionary<F: Folder, R: OfDecode + OfDela + OfImage>(
     alloc: Global,
     name: &str,
     folder: &mut F,
 ) -> Result<(Priority, ListLexicon), Stop<R>>
     ensures later { IsLater (F.seen folder.old) (F.seen folder.new) }
-    ensures ok { IfOk result (Reads (dictionary_format R.decode_as R.dela_as name.now) name.now
+    ensures ok { IfOk result (Reads
+        (dictionary_format R.decode_as R.dela_as R.image_as name.now) name.now
         (F.seen folder.old).files) }
-    ensures err { IfErr result (StopsFile (dictionary_format R.decode_as R.dela_as name.now)
+    ensures err { IfErr result (StopsFile
+        (dictionary_format R.decode_as R.dela_as R.image_as name.now) name.now
+        (F.seen folder.old) (F.seen folder.new)) }
+{
+    if is_image(name) {
+        read_imaged(alloc, name, folder)
+    } else {
+        read_text(alloc, name, folder)
+    }
+}
+
+/// Reads an image as a dictionary.
+fn read_imaged<F: Folder, R: OfImage>(
+    alloc: Global,
+    name: &str,
+    folder: &mut F,
+) -> Result<(Priority, ListLexicon), Stop<R>>
+    ensures later { IsLater (F.seen folder.old) (F.seen folder.new) }
+    ensures ok { IfOk result (Reads (imaged_format R.image_as name.now) name.now
+        (F.seen folder.old).files) }
+    ensures err { IfErr result (StopsFile (imaged_format R.image_as name.now) name.now
+        (F.seen folder.old) (F.seen folder.new)) }
+{
+    let entries = read_image(alloc, name, folder)?;
+    let lexicon = ListLexicon::new(alloc, entries)?;
+    Ok((Priority::of(base_of(name)), lexicon))
+}
+
+/// Reads a file of forms as a dictionary.
+#[tactic(auto, using(ux_plan::proofs::Decoded::decoding))]
+fn read_text<F: Folder, R: OfDecode + OfDela>(
+    alloc: Global,
+    name: &str,
+    folder: &mut F,
+) -> Result<(Priority, ListLexicon), Stop<R>>
+    ensures later { IsLater (F.seen folder.old) (F.seen folder.new) }
+    ensures ok { IfOk result (Reads (text_format R.decode_as R.dela_as name.now) name.now
+        (F.seen folder.old).files) }
+    ensures err { IfErr result (StopsFile (text_format R.decode_as R.dela_as name.now)
         name.now (F.seen folder.old) (F.seen folder.new)) }
 {
     let text = read_decoded(alloc, name, folder)?;

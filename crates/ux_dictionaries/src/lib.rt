@@ -2,9 +2,10 @@
 //!
 //! File names go in, and the dictionaries of those files with their priorities come out, or the stop
 //! that names the first file that isn't accepted. A command has reasons of its own, of which one is
-//! that of a file without a text (`OfDecode` of `ux_plan`) and one that of a refused dictionary
-//! (`OfDela`). What such a file is stands in `specs/Dictionaries.antt`, and that it is so in one way in
-//! `proofs/DictionaryLaws.antt`. Begin with `dictionaries`.
+//! that of a file without a text (`OfDecode` of `ux_plan`), one that of a refused dictionary (`OfDela`)
+//! and one that of a refused image (`OfImage` of `ux_image_files`). What such a file is stands in
+//! `specs/Dictionaries.antt`, and that it is so in one way in `proofs/DictionaryLaws.antt`. Begin with
+//! `dictionaries`.
 //!
 //! ```text
 //! let dics = read_dictionaries(alloc, &names, folder)?;      // each (dictionary_format ..) names

@@ -5,7 +5,7 @@ use Rattle.std.proofs.lemmas.Option.{get_or_from_slice_get, slice_get_within}
 use Rattle.ux_net.specs.Boxes.{Drawn}
 use Rattle.ux_net.specs.Refusing.{AreWhole, Refuses, calls_in}
 use Rattle.ux_net.specs.declared.error.NetError.{NetError}
-use Rattle.ux_net.specs.declared.error.NetError.TheVariants.{MissingGraph, BadMask, NotYet, EmptyLoop, LeftRecursion, NoMemory}
+use Rattle.ux_net.specs.declared.error.NetError.TheVariants.{MissingGraph, BadMask, ContextClose, NegativeRecursion, EmptyLoop, LeftRecursion, NoMemory}
 use Rattle.ux_alphabet.specs.Letters.{Letters}
 use Rattle.ux_grammars.specs.Reading.{IsPlaced}
 
@@ -18,7 +18,8 @@ none_missing letters graphs (MissingGraph name) whole r =
       get_or_from_slice_get (calls_in (slice_get graphs r.n)) r.k name name r.called,
     )))
 none_missing letters graphs (BadMask name node place) whole r = tt
-none_missing letters graphs (NotYet name node) whole r = tt
+none_missing letters graphs (ContextClose name node) whole r = tt
+none_missing letters graphs (NegativeRecursion name) whole r = tt
 none_missing letters graphs (EmptyLoop name node) whole r = tt
 none_missing letters graphs (LeftRecursion name node) whole r = tt
 none_missing letters graphs NoMemory whole r = tt

@@ -31,7 +31,8 @@ pub record IsNoGraph (text : List ℕ) (error : GrfError) : Type 0 where
 -- the file that a refusal of the graphs names: that of the graph at which it stands
 abbrev pub NamesFile : (word : List ℕ) → NetError → (file : List ℕ) → Type 0
 NamesFile word (net_error.BadMask name node place) file = file ≡ named_file word name
-NamesFile word (net_error.NotYet name node) file = file ≡ named_file word name
+NamesFile word (net_error.ContextClose name node) file = file ≡ named_file word name
+NamesFile word (net_error.NegativeRecursion name) file = file ≡ named_file word name
 NamesFile word (net_error.EmptyLoop name node) file = file ≡ named_file word name
 NamesFile word (net_error.LeftRecursion name node) file = file ≡ named_file word name
 NamesFile word (net_error.MissingGraph name) file = ⊥

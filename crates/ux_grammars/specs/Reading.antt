@@ -8,11 +8,13 @@ use Rattle.ux_grf.specs.Size.{size_of}
 use Rattle.ux_grf.specs.WellFormed.{IsWellFormed}
 use Rattle.ux_grf.specs.declared.graph.Graph.{Graph}
 use Rattle.ux_net.specs.Boxes.{Drawn, box_grammar}
+use Rattle.ux_net.specs.Closings.{TellsClosings}
+use Rattle.ux_net.specs.Marked.{IsMarked}
 use Rattle.ux_net.specs.Nets.{net_grammar}
 use Rattle.ux_net.specs.Refusing.{AreWhole, drawn}
 use Rattle.ux_net.specs.Words.{SayTheSame}
 use Rattle.ux_net.specs.declared.error.NetError.{NetError}
-use Rattle.ux_net.specs.declared.error.NetError.TheVariants.{MissingGraph, BadMask, NotYet, EmptyLoop, LeftRecursion, NoMemory}
+use Rattle.ux_net.specs.declared.error.NetError.TheVariants.{MissingGraph, BadMask, ContextClose, NegativeRecursion, EmptyLoop, LeftRecursion, NoMemory}
 use Rattle.ux_net.specs.declared.net_graph.NetGraph.{NetGraph}
 use Rattle.ux_grammars.specs.Graphs.{MOST_GRAPHS}
 use Rattle.ux_alphabet.specs.Letters.{Letters}
@@ -49,15 +51,19 @@ pub record AreWholeGraphs (graphs : List (String Global × Graph)) : Type 0 wher
 -- the refusal isn't that a graph is missing
 abbrev pub IsPlaced : NetError → Type 0
 IsPlaced (BadMask graph node place) = ⊤
-IsPlaced (NotYet graph node) = ⊤
+IsPlaced (ContextClose graph node) = ⊤
+IsPlaced (NegativeRecursion graph) = ⊤
 IsPlaced (EmptyLoop graph node) = ⊤
 IsPlaced (LeftRecursion graph node) = ⊤
 IsPlaced (MissingGraph name) = ⊥
 IsPlaced NoMemory = ⊤
 
--- the net says the same as the graphs
-abbrev pub Compiles : Letters → List Drawn → List NetGraph → Type 0
-Compiles letters graphs net = SayTheSame (box_grammar letters graphs) (net_grammar net)
+-- The net says the same as the graphs, and can be searched: it has marks, and tells where contexts that
+-- may not follow are closed.
+pub record Compiles (letters : Letters) (graphs : List Drawn) (net : List NetGraph) : Type 0 where
+  pub same : SayTheSame (box_grammar letters graphs) (net_grammar net)
+  pub marked : IsMarked net
+  pub told : TellsClosings net
 
 -- the net is that of the graphs to which the plan of a grammar comes
 pub record HasNet {R : Type 0} (plan : Plan R (List Drawn)) (told : Option Files)

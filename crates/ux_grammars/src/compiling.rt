@@ -65,7 +65,8 @@ fn refused_net<R: OfGrammar>(alloc: Global, word: &str, error: NetError) -> Stop
 {
     let file = match &error {
         NetError::BadMask { graph, .. }
-        | NetError::NotYet { graph, .. }
+        | NetError::ContextClose { graph, .. }
+        | NetError::NegativeRecursion { graph }
         | NetError::EmptyLoop { graph, .. }
         | NetError::LeftRecursion { graph, .. } => named_file(alloc, word, graph.as_str()),
         NetError::NoMemory => return Stop::NoMemory,

@@ -3,6 +3,7 @@ use Rattle.std.proofs.Common.{◌≡◌, ℕ, List, [], ◌∷◌, ◌++◌, sym
 use Rattle.std.specs.Prelude.{◌↔◌, Contains, None}
 use Rattle.std.proofs.lemmas.Option.{same_Some, none-some}
 use Rattle.std.proofs.lemmas.List.Elements.{Contains-append_left, Contains-push, Contains-push_cases}
+use Rattle.ux_base.specs.declared.settings.Policy.{Policy}
 use Rattle.ux_net.specs.Nets.{ArePlain, net_grammar}
 use Rattle.ux_outputs.specs.declared.event.Event.{Event}
 use Rattle.ux_outputs.specs.declared.hit.Hit.{Hit}
@@ -47,12 +48,13 @@ module _ (search : Search) (start : ℕ) where
     }
 
   -- of the hits of all derivations from the start, the best are the best from the start
-  pub hits_best : (found : List (ℕ × List Event)) → ((end : ℕ) (events : List Event) →
+  pub hits_best : (policy : Policy) (found : List (ℕ × List Event)) →
+      ((end : ℕ) (events : List Event) →
       Contains found (end, events) ↔ Derives (setting_in search) start end events) →
-      (best : List Hit) → AreBest search.policy last_of (λ hit. (derivation : ℕ × List Event)
+      (best : List Hit) → AreBest policy last_of (λ hit. (derivation : ℕ × List Event)
       × Contains found derivation × IsRendered search start derivation hit) best →
-      AreBest search.policy last_of (IsHitFrom search start) best
-  hits_best found exactly best are = best_same search.policy last_of
+      AreBest policy last_of (IsHitFrom search start) best
+  hits_best policy found exactly best are = best_same policy last_of
       (λ hit. (derivation : ℕ × List Event)
       × Contains found derivation × IsRendered search start derivation hit)
       (IsHitFrom search start) (λ hit. (

@@ -22,6 +22,34 @@ module _ (IsHit : Hit → Type 0) (kept : List Hit) (hit : Hit) where
   kept_by Longest k = record { is = k.0; best = k.1; apart = λ _. k.2 }
   kept_by Shortest k = record { is = k.0; best = k.1; apart = λ _. k.2 }
 
+module _ (Is Other : Hit → Type 0) (same : (hit : Hit) → Is hit ↔ Other hit) (kept : List Hit) where
+  keeps_same : (policy : Policy) (hit : Hit) → Keeps policy Is kept hit →
+      Keeps policy Other kept hit
+  keeps_same All hit k = (same hit).0 k
+  keeps_same Longest hit k =
+      ((same hit).0 k.0, λ other o first. k.1 other ((same other).1 o) first, k.2)
+  keeps_same Shortest hit k =
+      ((same hit).0 k.0, λ other o first. k.1 other ((same other).1 o) first, k.2)
+
+  keeps_back : (policy : Policy) (hit : Hit) → Keeps policy Other kept hit →
+      Keeps policy Is kept hit
+  keeps_back All hit k = (same hit).1 k
+  keeps_back Longest hit k =
+      ((same hit).1 k.0, λ other o first. k.1 other ((same other).0 o) first, k.2)
+  keeps_back Shortest hit k =
+      ((same hit).1 k.0, λ other o first. k.1 other ((same other).0 o) first, k.2)
+
+  -- of a set that has the same hits the same are listed
+  pub listing_same : (policy : Policy) → IsKeptListing policy Is kept →
+      IsKeptListing policy Other kept
+  listing_same policy listing = record {
+    exactly = λ hit. (
+      λ c. keeps_same policy hit ((listing.exactly hit).0 c),
+      λ k. (listing.exactly hit).1 (keeps_back policy hit k),
+    );
+    ordered = listing.ordered;
+  }
+
 module _ (policy : Policy) (IsHit : Hit → Type 0) where
   -- a list of the same hits keeps the same
   kept_alike : (kept other : List Hit) → ((hit : Hit) → Contains other hit → Contains kept hit) →

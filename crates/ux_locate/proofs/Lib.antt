@@ -1,5 +1,6 @@
 pub mod BeginLemmas
 pub mod BestLemmas
+pub mod ByChartLemmas
 pub mod CutLaws
 pub mod EndsLemmas
 pub mod FoundLemmas

@@ -19,6 +19,29 @@ earlier_or_here : (k n : ℕ) → k < n + 1 → (k < n) ⊎ (k ≡ n)
 earlier_or_here k n lt =
     elim (leb_tells n k) [ inl a ↦ inr (omega (arith, lt, a.1)) | inr b ↦ inl b.1 ]
 
+-- what comes from the starts up to a position comes from those before it, or from there
+pub found_splits : {X : Type 0} (tokens : List Token) (From : ℕ → X → Type 0) (start : ℕ) (x : X) →
+    IsFoundBefore tokens From (start + 1) x
+    ↔ (IsFoundBefore tokens From start x ⊎ (IsStart tokens start × From start x))
+found_splits tokens From start x = (
+  λ f. elim (earlier_or_here f.0 start f.1) [
+    | inl early ↦ inl (f.0, early, f.2, f.3)
+    | inr same ↦ inr (subst (IsStart tokens) same f.2, subst (λ (n : ℕ). From n x) same f.3)
+  ],
+  λ f. elim f [
+    | inl early ↦ (early.0, omega (arith, early.1), early.2, early.3)
+    | inr here ↦ (start, omega arith, here.0, here.1)
+  ],
+)
+
+-- after the last position, all starts were looked at
+pub found_all : {X : Type 0} (tokens : List Token) (From : ℕ → X → Type 0) (count : ℕ) →
+    length tokens ≤ count → (x : X) → IsFoundBefore tokens From count x ↔ IsFound tokens From x
+found_all tokens From count past x = (
+  λ f. (f.0, f.2, f.3),
+  λ f. let low = start_within tokens f.0 f.1 in (f.0, omega (arith, low, past), f.1, f.2),
+)
+
 module _ {X : Type 0} (policy : Policy) (first last : X → ℕ) (tokens : List Token)
     (From : ℕ → X → Type 0)
     (begins : (start : ℕ) → IsStart tokens start → (x : X) → From start x → first x ≡ start) where
@@ -38,17 +61,7 @@ module _ {X : Type 0} (policy : Policy) (first last : X → ℕ) (tokens : List 
   module _ (start : ℕ) where
     splits : (x : X) → IsFoundBefore tokens From (start + 1) x
         ↔ (IsFoundBefore tokens From start x ⊎ FromHere start x)
-    splits x = (
-      λ f. elim (earlier_or_here f.0 start f.1) [
-        | inl early ↦ inl (f.0, early, f.2, f.3)
-        | inr same ↦ inr
-            (subst (IsStart tokens) same f.2, subst (λ (n : ℕ). From n x) same f.3)
-      ],
-      λ f. elim f [
-        | inl early ↦ (early.0, omega (arith, early.1), early.2, early.3)
-        | inr here ↦ (start, omega arith, here.0, here.1)
-      ],
-    )
+    splits x = found_splits tokens From start x
 
     before : (x : X) → IsFoundBefore tokens From start x → first x < start
     before x f =
@@ -89,8 +102,4 @@ module _ {X : Type 0} (policy : Policy) (first last : X → ℕ) (tokens : List 
   pub kept_all : (count : ℕ) (kept : List X) → length tokens ≤ count → Kept count kept →
       AreKept policy first last (IsFound tokens From) kept
   kept_all count kept past are = kept_same policy first last (IsFoundBefore tokens From count)
-      (IsFound tokens From) (λ x. (
-        λ f. (f.0, f.2, f.3),
-        λ f. let low = start_within tokens f.0 f.1 in
-            (f.0, omega (arith, low, past), f.1, f.2),
-      )) kept are
+      (IsFound tokens From) (found_all tokens From count past) kept are

@@ -1,5 +1,5 @@
 -- What a search finds, start by start. Inner: the crate's own functions alone speak of it.
-use Rattle.std.specs.Prelude.{◌≡◌, ℕ, ◌-◌, ◌<◌, List, Some}
+use Rattle.std.specs.Prelude.{◌≡◌, ◌↔◌, ℕ, ◌-◌, ◌<◌, List, Some, Contains}
 use Rattle.ux_apply.specs.Belonging.{Belongs}
 use Rattle.ux_tokens.specs.Numbers.{different_texts}
 use Rattle.ux_tokens.specs.Tokens.{Token}
@@ -59,3 +59,17 @@ IsFound tokens From x = (start : ℕ) × IsStart tokens start × From start x
 abbrev pub IsFoundBefore : {X : Type 0} → List Token → (From : ℕ → X → Type 0) → ℕ → X → Type 0
 IsFoundBefore tokens From count x =
     (start : ℕ) × (start < count) × IsStart tokens start × From start x
+
+-- these are all that come from the starts
+abbrev pub AreAllHits : Search → List Hit → Type 0
+AreAllHits search hits = (hit : Hit) → Contains hits hit
+    ↔ IsFound search.text.now (IsHitFrom search) hit
+
+-- those from the starts before this one
+abbrev pub AreHitsBefore : Search → ℕ → List Hit → Type 0
+AreHitsBefore search count hits = (hit : Hit) → Contains hits hit
+    ↔ IsFoundBefore search.text.now (IsHitFrom search) count hit
+
+-- the position is a start, and the hit comes from it
+abbrev pub IsHitAt : Search → ℕ → Hit → Type 0
+IsHitAt search start hit = IsStart search.text.now start × IsHitFrom search start hit

@@ -5,3 +5,5 @@ pub mod Spans
 pub mod Finding
 pub mod Keeping
 pub mod Order
+pub mod ByChart
+pub mod Searchable

@@ -7,10 +7,11 @@
 //! A policy keeps all hits, or of those with the same first token the longest or the shortest, one after
 //! the other through the text (`specs/Policies.antt`). `keep` does that with any hits.
 //!
-//! `locate` renders the derivations from each start at which one ends (`locating`). Where outputs are
-//! ignored `locate_spans` lists the same hits by their first and last token (`spans`), and `span_index`
-//! takes their texts from the corpus as it writes: a text of millions of hits needs no copy of each.
-//! `walks` alone speaks of the walker.
+//! `locate` renders the derivations from each start at which one ends (`from_start`). A net with neither
+//! contexts nor cuts it searches by walks from start to start (`by_walker`), any other by a chart of the
+//! text (`by_chart`). Where outputs are ignored `locate_spans` lists the hits of such a plain net by
+//! their first and last token (`spans`), and `span_index` takes their texts from the corpus as it writes:
+//! a text of millions of hits needs no copy of each. `walks` alone speaks of the walker.
 //!
 //! ```text
 //! let (mode, novar, policy) = (Mode::Merge, NoVar::Nothing, Policy::Longest);
@@ -20,6 +21,9 @@
 #![tactic(auto)]
 
 mod best;
+mod by_chart;
+mod by_walker;
+mod from_start;
 mod index;
 mod keeping;
 mod locating;

@@ -1,6 +1,6 @@
 //! The hits by their first and last token, as long as outputs are ignored.
 //!
-//! A net has no label that cuts a hit off, so every derivation renders exactly the tokens up to its
+//! The net has neither contexts nor cuts, so every derivation renders exactly the tokens up to its
 //! end, and each end is a hit. A walk's ends come in order, so the policy keeps the last or the first of
 //! them, and starts inside a kept hit aren't walked from. No text is copied, and none is kept.
 
@@ -8,7 +8,7 @@ ghost use Rattle.std.specs.Prelude.{◌≡◌, ◌<◌, ◌++◌, ℕ, All, Cont
 ghost use Rattle.ux_base.specs.declared.settings.Mode.TheVariants.{Ignore};
 ghost use Rattle.ux_base.specs.declared.settings.NoVar.{NoVar};
 ghost use Rattle.ux_apply.specs.Belonging.{Belongs};
-ghost use Rattle.ux_net.specs.Nets.{net_grammar};
+ghost use Rattle.ux_net.specs.Nets.{ArePlain, net_grammar};
 ghost use Rattle.ux_walk.specs.Settings.{setting_of};
 ghost use Rattle.ux_locate.specs.Finding.{IsFound, IsSpanFrom, span_to};
 ghost use Rattle.ux_locate.specs.Hits.{IsHit};
@@ -30,8 +30,8 @@ use ux_outputs::Span;
 use ux_tokens::Text;
 use ux_walker::Walker;
 
-/// The spans of the hits that the policy keeps where outputs are ignored, each once and in order. The
-/// text of such a hit is that of its tokens. Takes no memory for texts, and no walk from a start inside a
+/// The spans of the hits of a net without contexts and cuts that the policy keeps where outputs are
+/// ignored, each once and in order. The text of such a hit is that of its tokens. Takes no memory for texts, and no walk from a start inside a
 /// kept hit, but with `Policy::All`, which keeps all hits.
 pub fn locate_spans<L: Ledger>(
     alloc: Global,
@@ -42,13 +42,13 @@ pub fn locate_spans<L: Ledger>(
     policy: Policy,
     steps: &mut Steps<L>,
 ) -> Mem<Vec<Span>>
-    requires { Belongs alphabet.now text.now applied.now }
+    requires belongs { Belongs alphabet.now text.now applied.now }
+    requires plain { ArePlain net.now }
     ensures listing { IfOk result (λ spans. (novar : NoVar) → IsKeptListing policy
         (IsHit alphabet.now text.now applied.now (net_grammar net.now) Ignore novar)
         (map (hit_at text.now) spans.items)) }
     ensures within { IfOk result (λ spans. All (LiesIn text.now) spans.items) }
 {
-    net.is_plain();
     let mut spans = kept_spans(alloc, net, text, alphabet, applied, policy, steps)?;
     sort_spans(&mut spans);
     Ok(spans)
@@ -64,7 +64,8 @@ fn kept_spans<L: Ledger>(
     policy: Policy,
     steps: &mut Steps<L>,
 ) -> Mem<Vec<Span>>
-    requires { Belongs alphabet.now text.now applied.now }
+    requires belongs { Belongs alphabet.now text.now applied.now }
+    requires plain { ArePlain net.now }
     ensures { IfOk result (λ spans. AreKept policy first_in last_in (IsFound text.now
         (IsSpanFrom (setting_of net.now text.now alphabet.now applied.now))) spans.items) }
 {

@@ -25,7 +25,7 @@ pub fn may_find(walker: &Walker, text: &Text, position: usize) -> bool
 }
 
 /// Whether a search begins at the position: no space stands there.
-fn is_start(text: &Text, position: usize) -> bool
+pub fn is_start(text: &Text, position: usize) -> bool
     requires { position < length text.now }
     ensures { IsTrue result ↔ IsStart text.now position }
 {

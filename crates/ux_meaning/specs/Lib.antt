@@ -1,3 +1,4 @@
 pub mod Inputs
 pub mod Meaning
+pub mod Contexts
 pub mod Texts

@@ -1,24 +1,24 @@
 -- The numbers of an admissible grammar, cut into rows, are ranks of its places.
-use Rattle.std.proofs.Common.{arith, ◌≡◌, ℕ, zero, suc, ◌<◌, ◌≤◌, List, [], ◌∷◌, ◌++◌, length, refl, ap, subst, sym, ◌∙◌, inl, inr, get_or, Bool, true, false}
+use Rattle.std.proofs.Common.{arith, ◌≡◌, ℕ, zero, suc, ◌<◌, ◌≤◌, List, [], length, refl, ap, subst, sym, ◌∙◌, inl, inr, get_or, Bool, true, false}
 use Rattle.std.specs.Prelude.{All}
 use Rattle.std.proofs.lemmas.List.{get_or_past}
 use Rattle.ux_digraph.proofs.Lists.{less_or}
-use Rattle.ux_net.specs.declared.label.Label.TheVariants.{Call}
 use Rattle.ux_net.specs.declared.place.Place.{Place}
-use Rattle.ux_net.specs.Words.{Step, stop, along, letters, put_by}
+use Rattle.ux_net.specs.Words.{Step, stop, letters}
 use Rattle.ux_net.specs.Places.{places_of, place_grammar, IsPlaceStep}
 use Rattle.ux_net.specs.Fit.{IsFit}
-use Rattle.ux_net.specs.Admissible.{IsFree, none, IsOnEmptyLoop, IsLeftRecursive}
+use Rattle.ux_net.specs.Admissible.{IsFree, none, MovesFreely, along_step, over_context, EntersAt, by_call, by_opening, IsOnEmptyLoop, IsLeftRecursive}
 use Rattle.ux_net.specs.Numbers.{number_of, all_places}
 use Rattle.ux_net.specs.Ways.{AreFreeMarks, EndsFreely}
-use Rattle.ux_net.specs.Cycles.{AreNumbered}
+use Rattle.ux_net.specs.Cycles.{AreNumbered, AreOpened}
 use Rattle.ux_net.specs.Rows.{cut}
 use Rattle.ux_net.specs.Admission.{place_rank, is_place_free, AreRows, IsLowerPlace, ArePlaceRanks}
 use Rattle.ux_net.proofs.NumbersLemmas.{places_at, before_more, before_rises}
-use Rattle.ux_net.proofs.FreeLemmas.{free_append, along_free, silent_free, nullable_call}
-use Rattle.ux_net.proofs.StepsLemmas.{step_inside, step_plain, start_inside, target_from}
-use Rattle.ux_net.proofs.MarksLemmas.{ends_nullable}
-use Rattle.ux_net.proofs.CyclesLemmas.{numbers_fall}
+use Rattle.ux_net.proofs.FreeLemmas.{silent_free, nullable_call}
+use Rattle.ux_net.proofs.StepsLemmas.{step_inside, start_inside, target_from}
+use Rattle.ux_net.proofs.UnitsLemmas.{move_inside, entered_inside}
+use Rattle.ux_net.proofs.MarksLemmas.{ends_nullable, moved_ends}
+use Rattle.ux_net.proofs.CyclesLemmas.{free_edge, numbers_fall}
 use Rattle.ux_net.proofs.CutLemmas.{length-cut, entry_is, entry_below, row_length}
 
 rank_is : (graphs : List (List Place)) (numbers : List ℕ) (g n : ℕ) →
@@ -48,6 +48,7 @@ rows_are graphs items len = record {
 module _ (graphs : List (List Place)) (fit : All (IsFit (length graphs)) graphs)
     (marks : List Bool) (marked : AreFreeMarks graphs marks) (numbers : List ℕ)
     (numbered : AreNumbered graphs numbers)
+    (opened : AreOpened graphs)
     (no_loop : (g node : ℕ) → IsOnEmptyLoop (place_grammar graphs) g node → ⊥)
     (no_recursion : (g node : ℕ) → IsLeftRecursive (place_grammar graphs) g node → ⊥) where
   -- a place that leads freely to an end is marked
@@ -59,51 +60,40 @@ module _ (graphs : List (List Place)) (fit : All (IsFit (length graphs)) graphs)
       is_place_free (cut graphs marks) g a ≡ true → EndsFreely graphs g a
   marked_ends g a h e = (marked.marked g a h).0 (sym (free_is graphs marks g a h) ∙ e)
 
-  lower : (g : ℕ) (s : Step) → IsPlaceStep (places_of graphs g) s →
-      IsFree (place_grammar graphs) (letters s.labels) →
-      IsLowerPlace (cut graphs numbers) (cut graphs marks) g s.from s.to
-  lower g s i f =
-      let inside = step_inside (places_of graphs g) s i in
-      let from = rank_is graphs numbers g s.from inside.0 in
-      let to = rank_is graphs numbers g s.to inside.1 in
+  -- a move leads lower
+  lower : (g : ℕ) {a b : ℕ} → MovesFreely (place_grammar graphs) g a b →
+      IsLowerPlace (cut graphs numbers) (cut graphs marks) g a b
+  lower g {a = a} {b = b} m =
+      let inside = move_inside graphs g m in
+      let from = rank_is graphs numbers g a inside.0 in
+      let to = rank_is graphs numbers g b inside.1 in
       let fall = numbers_fall graphs fit numbered.edges numbered.all numbers numbered.components
-      no_loop no_recursion (number_of graphs g s.from) (number_of graphs g s.to) (inl (record {
-        graph = g;
-        step = s;
-        of_graph = i;
-        free = f;
-        from = refl;
-        to = refl;
-      })) in
+      opened no_loop no_recursion (number_of graphs g a) (number_of graphs g b)
+      (inl (free_edge graphs g m)) in
       record {
         falls = omega arith;
-        marked = λ m.
-            let e = marked_ends g s.to inside.1 m in
-            ends_marked g s.from inside.0 (record {
-              last = e.last;
-              word = (put_by s ++ letters s.labels) ++ e.word;
-              ends = e.ends;
-              run = along s i (step_plain graphs fit g s i) e.run;
-              free =
-                  free_append (place_grammar graphs) (along_free (place_grammar graphs) s f) e.free;
-            });
+        marked = λ e. ends_marked g a inside.0
+            (moved_ends graphs fit g m (marked_ends g b inside.1 e));
       }
 
-  enters_lower : (g h : ℕ) (s : Step) → IsPlaceStep (places_of graphs g) s →
-      s.labels ≡ Call h ∷ [] →
-      place_rank (cut graphs numbers) h 0 < place_rank (cut graphs numbers) g s.from
-  enters_lower g h s i c =
+  -- a step leads lower to the first place of a unit that it enters
+  enters_lower : (g : ℕ) (s : Step) → IsPlaceStep (places_of graphs g) s → {h v : ℕ} →
+      EntersAt (place_grammar graphs) g s h v →
+      place_rank (cut graphs numbers) h v < place_rank (cut graphs numbers) g s.from
+  enters_lower g s i {h = h} {v = v} e =
       let inside = step_inside (places_of graphs g) s i in
-      let start = start_inside graphs fit g h s i c in
+      let start = entered_inside graphs fit g s i e in
       let from = rank_is graphs numbers g s.from inside.0 in
-      let to = rank_is graphs numbers h 0 start in
+      let to = rank_is graphs numbers h v start in
       let fall = numbers_fall graphs fit numbered.edges numbered.all numbers numbered.components
-      no_loop no_recursion (number_of graphs g s.from) (number_of graphs h 0) (inr (record {
+      opened no_loop no_recursion (number_of graphs g s.from) (number_of graphs h v)
+      (inr (record {
         graph = g;
         step = s;
         of_graph = i;
-        called = h;
-        calls = c;
+        entered = h;
+        first = v;
+        enters = e;
         from = refl;
         to = refl;
       })) in
@@ -127,14 +117,20 @@ module _ (graphs : List (List Place)) (fit : All (IsFit (length graphs)) graphs)
     ranked = rows_are graphs numbers (numbered.components.len ∙ numbered.all.len);
     marked = rows_are graphs marks marked.len;
     below = ranks_below;
-    silent = λ g s i st. lower g s i (silent_free (place_grammar graphs) s.labels st);
+    silent = λ g s i st.
+        lower g (along_step s i (silent_free (place_grammar graphs) s.labels st));
     calls = λ g h s i c. (
-      enters_lower g h s i c,
+      enters_lower g s i (by_call [] [] c none),
       λ m.
           let start = start_inside graphs fit g h s i c in
           let e = marked_ends h 0 start m in
-          lower g s i (subst (λ l. IsFree (place_grammar graphs) (letters l)) (sym c)
-          (nullable_call (place_grammar graphs) h (ends_nullable graphs fit h e))),
+          lower g (along_step s i
+          (subst (λ l. IsFree (place_grammar graphs) (letters l)) (sym c)
+          (nullable_call (place_grammar graphs) h (ends_nullable graphs fit h e)))),
+    );
+    opens = λ g s sign i m. (
+      enters_lower g s i (by_opening sign m),
+      λ c closes. lower g (over_context sign s i m closes),
     );
     ends = λ g a e. ends_marked g a (target_from (places_of graphs g) a 1 e.1) (record {
       last = a;

@@ -5,7 +5,7 @@ use Rattle.std.specs.Option.{option_map}
 use Rattle.std.proofs.lemmas.Bool.{eqb-true}
 use Rattle.std.proofs.lemmas.List.{length-map, get_or_default}
 use Rattle.std.proofs.lemmas.List.Elements.{All-tail, All-contains}
-use Rattle.std.proofs.lemmas.Option.{slice_get-map, slice_get_cases, slice_get_within, get_or_from_slice_get}
+use Rattle.std.proofs.lemmas.Option.{slice_get-map, slice_get_cases}
 use Rattle.ux_alphabet.specs.Letters.{Letters}
 use Rattle.ux_grf.specs.declared.graph.GrfBox.{GrfBox}
 use Rattle.ux_grf.specs.Reached.{start}
@@ -21,7 +21,7 @@ use Rattle.ux_net.specs.Nets.{IsCalled}
 use Rattle.ux_net.specs.Numbers.{all_places}
 use Rattle.ux_net.specs.Places.{ArePlaces, places_of, label_lines, is_reached}
 use Rattle.ux_net.specs.Ranks.{AreCallsInside, AreAllFit}
-use Rattle.ux_net.specs.Refusing.{drawn_of, drawn, HasNoBeyond, AreCompiled}
+use Rattle.ux_net.specs.Refusing.{drawn_of, drawn}
 use Rattle.ux_net.proofs.NumbersLemmas.{places_at, graph_so}
 use Rattle.ux_net.proofs.RefusingLemmas.{Given}
 use Rattle.ux_net.proofs.SizesLemmas.{places_few}
@@ -37,7 +37,6 @@ are_fit count places fit few = record {
   stateless = λ b none. by b (nat_eq b 1) refl none;
   lines = λ b line h.
       (All-contains (IsFitLine count) (label_lines places b) line (fit.lines b) h).line;
-  plain = fit.plain;
   few = few;
 }
   where
@@ -54,7 +53,7 @@ all_graphs P places each n d lt = subst P (places_at places n d lt) (each n lt)
 module _ (alphabet : Letters) (graphs : List Given) (places : List (List Place))
     (formed : All (λ (graph : Given). IsWellFormed graph.1) graphs)
     (small : All (λ (graph : Given). size_of graph.1 < 4294967296) graphs)
-    (compiled : AreCompiled (drawn graphs)) (are : AreSplit alphabet (drawn graphs) places) where
+    (are : AreSplit alphabet (drawn graphs) places) where
   abbrev names : List (List ℕ)
   names = names_of (drawn graphs)
 
@@ -63,7 +62,6 @@ module _ (alphabet : Letters) (graphs : List Given) (places : List (List Place))
     graph : Given
     formed_here : IsWellFormed graph.1
     small_here : size_of graph.1 < 4294967296
-    compiled_here : HasNoBeyond graph.1.boxes
     are_here : ArePlaces alphabet names graph.1.boxes (places_of places (suc n))
 
   at : (n : ℕ) → n < length places → IsAt n
@@ -83,9 +81,6 @@ module _ (alphabet : Letters) (graphs : List Given) (places : List (List Place))
             graph = h.0;
             formed_here = subst (λ (g : Given). IsWellFormed g.1) h.3 (formed n h.0 inside);
             small_here = subst (λ (g : Given). size_of g.1 < 4294967296) h.3 (small n h.0 inside);
-            compiled_here = subst (λ (d : Drawn). HasNoBeyond d.boxes)
-                (get_or_from_slice_get (drawn graphs) n (drawn_of h.0) (drawn_of h.0) found)
-                (compiled n (drawn_of h.0) (slice_get_within (drawn graphs) n (drawn_of h.0) found));
             are_here = subst (λ (boxes : List GrfBox).
                 ArePlaces alphabet names boxes (places_of places (suc n)))
                 (ap boxes_in found)
@@ -100,7 +95,7 @@ module _ (alphabet : Letters) (graphs : List Given) (places : List (List Place))
   fit_at n lt =
       let a = at n lt in
       subst (λ (count : ℕ). IsFit count (places_of places (suc n))) counted
-      (graph_fit alphabet names a.graph.1 (places_of places (suc n)) a.formed_here a.compiled_here
+      (graph_fit alphabet names a.graph.1 (places_of places (suc n)) a.formed_here
       a.are_here)
 
   -- the places are fit for the test of loops
@@ -141,7 +136,7 @@ module _ (places : List (List Place)) (fit : All (IsFit (length places)) places)
       (f.lines b) of_place).called of_line
 
 -- with at most so many graphs of at most so many places, all ranks have 32 bits
-all_places_few : (places : List (List Place)) → All (λ (p : List Place). length p ≤ 65535) places →
+pub all_places_few : (places : List (List Place)) → All (λ (p : List Place). length p ≤ 65535) places →
     all_places places ≤ length places * 65535
 all_places_few [] few = omega arith
 all_places_few (p ∷ places) few =

@@ -14,7 +14,6 @@ use Rattle.ux_net.specs.Nets.{graph_at, states_in, net_graph, net_grammar}
 use Rattle.ux_net.specs.Nets.{states_of as net_states}
 use Rattle.ux_net.specs.Places.{places_in, places_of, is_reached, reached_in, place_grammar}
 use Rattle.ux_net.specs.Ranks.{AreAllFit, AreBuilt}
-use Rattle.ux_net.specs.Refusing.{AreCompiled}
 use Rattle.ux_net.specs.Words.{SayTheSame}
 use Rattle.ux_net.proofs.ConstructLaw.{number_in, construction_same}
 use Rattle.ux_net.proofs.RefineLemmas.{IsSame, each_same}
@@ -23,8 +22,8 @@ use Rattle.ux_net.proofs.SplitLemmas.{none_there, to_places, to_boxes}
 use Rattle.ux_net.proofs.StepsLemmas.{target_from}
 
 module _ (alphabet : Letters) (graphs : List Drawn) (places : List (List Place))
-    (ranks : List (List ℕ)) (free : List (List Bool)) (net : List NetGraph)
-    (are : AreSplit alphabet graphs places) (made : AreBuilt places ranks free net) where
+    (rows ranks : List (List ℕ)) (free : List (List Bool)) (net : List NetGraph)
+    (are : AreSplit alphabet graphs places) (made : AreBuilt places rows ranks free net) where
   constructed_of : map (λ (graph : NetGraph). graph.name) net ≡ names_of graphs → (g : ℕ)
       (graph : NetGraph) → graph_at net g ≡ Some graph → IsConstructedOf alphabet graphs g graph
   constructed_of names zero graph found = cc
@@ -45,8 +44,8 @@ module _ (alphabet : Letters) (graphs : List Drawn) (places : List (List Place))
       IsConstructed alphabet graphs net
   constructed names = record { count = made.count ∙ are.count; each = constructed_of names }
 
-module _ (places : List (List Place)) (ranks : List (List ℕ)) (free : List (List Bool))
-    (net : List NetGraph) (fit : AreAllFit places) (made : AreBuilt places ranks free net) where
+module _ (places : List (List Place)) (rows ranks : List (List ℕ)) (free : List (List Bool))
+    (net : List NetGraph) (fit : AreAllFit places) (made : AreBuilt places rows ranks free net) where
   -- without places and states there is no word and no body
   none_same : (g : ℕ) (states : List State) → places_of places g ≡ [] → states ≡ [] →
       IsSame (place_grammar places) (number_in places) g (net_graph states)
@@ -90,10 +89,10 @@ module _ (places : List (List Place)) (ranks : List (List ℕ)) (free : List (Li
 
   -- and so the net says the same as the boxes
   pub boxes_same : (alphabet : Letters) (graphs : List Drawn) → StandOnce (names_of graphs) →
-      AreSplit alphabet graphs places → AreCompiled graphs →
+      AreSplit alphabet graphs places →
       SayTheSame (box_grammar alphabet graphs) (net_grammar net)
-  boxes_same alphabet graphs once are compiled =
+  boxes_same alphabet graphs once are =
       say_within (box_grammar alphabet graphs) (place_grammar places) (net_grammar net)
-      (to_places alphabet graphs places once are compiled)
-      (to_boxes alphabet graphs places once are compiled)
+      (to_places alphabet graphs places once are)
+      (to_boxes alphabet graphs places once are)
       (each_same (place_grammar places) (number_in places) (net_grammar net) place_same)

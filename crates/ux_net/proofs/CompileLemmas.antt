@@ -19,8 +19,9 @@ use Rattle.ux_net.specs.Boxes.{Drawn, boxes_of, names_of}
 use Rattle.ux_net.specs.Compiling.{AreSplit}
 use Rattle.ux_net.specs.Nets.{graph_at}
 use Rattle.ux_net.specs.Places.{ArePlaces, places_of}
-use Rattle.ux_net.specs.Ranks.{IsBuilt, AreBuilt}
-use Rattle.ux_net.specs.Refusing.{drawn_of, drawn, is_name_at, is_beyond, has_beyond_line, has_beyond, HasNoBeyond, AreCompiled, AreMasked, AreWhole, calls_in, calls_of}
+use Rattle.ux_net.specs.Numbers.{places_before}
+use Rattle.ux_net.specs.Ranks.{row_of, IsBuilt, AreBuilt}
+use Rattle.ux_net.specs.Refusing.{drawn_of, drawn, is_name_at, AreMasked, AreWhole, calls_in, calls_of}
 use Rattle.ux_net.specs.MaskTexts.{mask_texts_of_item, mask_texts_of, AreMasks, HaveMasks}
 use Rattle.ux_net.specs.Splitting.{IsSplittable, IsSplittableBox}
 use Rattle.ux_net.proofs.MaskTextsLemmas.{item_masks}
@@ -93,30 +94,32 @@ split_all alphabet graphs names places i past is so_far =
     }
 
 -- so many graphs are built, and have their names
-pub record AreBuiltTo (names : List (String Global)) (places : List (List Place)) (ranks : List (List ℕ))
-    (free : List (List Bool)) (net : List NetGraph) (i : ℕ) : Type 0 where
+pub record AreBuiltTo (names : List (String Global)) (places : List (List Place))
+    (rows ranks : List (List ℕ)) (free : List (List Bool)) (net : List NetGraph) (i : ℕ) : Type 0 where
   pub count : length net ≡ i
   pub each : (n : ℕ) (graph : NetGraph) → slice_get net n ≡ Some graph →
-      IsBuilt ranks free (suc n) (places_of places (suc n)) graph
+      IsBuilt ranks free (suc n) (row_of places rows (suc n)) (places_of places (suc n)) graph
   pub named : map (λ (graph : NetGraph). graph.name) net ≡ bytes_of (take i names)
 
-module _ (names : List (String Global)) (places : List (List Place)) (ranks : List (List ℕ))
+module _ (names : List (String Global)) (places : List (List Place)) (rows ranks : List (List ℕ))
     (free : List (List Bool)) where
   -- one graph more
   pub built_more : (net : List NetGraph) (i : ℕ) (name : String Global) (one : NetGraph) →
       i < length names → name ≡ get_or names i name →
-      AreBuiltTo names places ranks free net i →
-      IsBuilt ranks free (suc i) (places_of places (suc i)) one →
+      AreBuiltTo names places rows ranks free net i →
+      IsBuilt ranks free (suc i) (row_of places rows (suc i)) (places_of places (suc i)) one →
       one.name ≡ string_bytes name →
-      AreBuiltTo names places ranks free (net ++ one ∷ []) (i + 1)
+      AreBuiltTo names places rows ranks free (net ++ one ∷ []) (i + 1)
   built_more net i name one within is so_far here same = record {
     count = let len = length-append net (one ∷ []) in let c = so_far.count in omega (arith, len, c);
     each = λ n other found. elim (slice_get-push_cases net one n other found) [
       | inl h ↦ so_far.each n other h.1
       | inr h ↦
           let at : i ≡ n = sym so_far.count ∙ sym h.0 in
-          subst (λ (k : ℕ). IsBuilt ranks free (suc k) (places_of places (suc k)) other) at
-          (subst (IsBuilt ranks free (suc i) (places_of places (suc i))) h.1 here)
+          subst (λ (k : ℕ). IsBuilt ranks free (suc k) (row_of places rows (suc k))
+          (places_of places (suc k)) other) at
+          (subst (IsBuilt ranks free (suc i) (row_of places rows (suc i)) (places_of places (suc i)))
+          h.1 here)
     ];
     named =
         map-append (λ (g : NetGraph). g.name) net (one ∷ [])
@@ -128,45 +131,46 @@ module _ (names : List (String Global)) (places : List (List Place)) (ranks : Li
 
   pub built_all : (net : List NetGraph) (i : ℕ) → i ≡ length names →
       length places ≡ length names →
-      AreBuiltTo names places ranks free net i → AreBuilt places ranks free net
+      AreBuiltTo names places rows ranks free net i → AreBuilt places rows ranks free net
   built_all net i is same so_far = record {
     count = so_far.count ∙ (is ∙ sym same);
     each = each;
   }
     where
       each : (g : ℕ) (graph : NetGraph) → graph_at net g ≡ Some graph →
-          IsBuilt ranks free g (places_of places g) graph
+          IsBuilt ranks free g (row_of places rows g) (places_of places g) graph
       each zero graph found = cc
       each (suc n) graph found = so_far.each n graph found
 
 -- a graph that is built of the places that stand in the list
-pub built_at : (places : List (List Place)) (ranks : List (List ℕ)) (free : List (List Bool))
-    (i : ℕ) (p here : List Place) (one : NetGraph) → i < length places →
-    here ≡ get_or places i here → p ≡ here → IsBuilt ranks free (i + 1) p one →
-    IsBuilt ranks free (suc i) (places_of places (suc i)) one
-built_at places ranks free i p here one within at same built =
+pub built_at : (places : List (List Place)) (rows ranks : List (List ℕ)) (free : List (List Bool))
+    (i before : ℕ) (p here : List Place) (one : NetGraph) → i < length places →
+    here ≡ get_or places i here → p ≡ here → before ≡ places_before places (suc i) →
+    IsBuilt ranks free (i + 1) (λ b. get_or rows (before + b) []) p one →
+    IsBuilt ranks free (suc i) (row_of places rows (suc i)) (places_of places (suc i)) one
+built_at places rows ranks free i before p here one within at same offset built =
     let next : i + 1 ≡ suc i = omega arith in
-    subst (λ (l : List Place). IsBuilt ranks free (suc i) l one)
+    subst (λ (l : List Place). IsBuilt ranks free (suc i) (row_of places rows (suc i)) l one)
     (same ∙ (at ∙ sym (places_at places i here within)))
-    (subst (λ (g : ℕ). IsBuilt ranks free g p one) next built)
+    (subst (λ (n : ℕ). IsBuilt ranks free (suc i) (λ b. get_or rows (n + b) []) p one) offset
+    (subst (λ (g : ℕ). IsBuilt ranks free g (λ b. get_or rows (before + b) []) p one) next built))
 
--- an item that is compiled, of which each mask text is a mask's and each call finds a graph, has labels
-splittable : (names : List (List ℕ)) (x : Item) → is_beyond x ≡ false →
-    AreMasks (mask_texts_of_item x) →
+-- an item of which each mask text is a mask's and each call finds a graph has labels
+splittable : (names : List (List ℕ)) (x : Item) → AreMasks (mask_texts_of_item x) →
     ((name : List ℕ) → x ≡ item.Call name → Contains names name) → IsSplittable names x
-splittable names (item.Literal text) b masks there = tt
-splittable names (item.Quoted text) b masks there = tt
-splittable names item.Glue b masks there = tt
-splittable names item.Empty b masks there = tt
-splittable names (item.Call name) b masks there = there name refl
-splittable names (item.Mask text) b masks there = masks 0 text (omega arith)
-splittable names (item.Brace text) b masks there = tt
-splittable names (item.Begin name) b masks there = tt
-splittable names (item.End name) b masks there = tt
-splittable names item.Positive b masks there = cc
-splittable names item.Negative b masks there = cc
-splittable names item.ContextEnd b masks there = cc
-splittable names item.Cut b masks there = cc
+splittable names (item.Literal text) masks there = tt
+splittable names (item.Quoted text) masks there = tt
+splittable names item.Glue masks there = tt
+splittable names item.Empty masks there = tt
+splittable names (item.Call name) masks there = there name refl
+splittable names (item.Mask text) masks there = masks 0 text (omega arith)
+splittable names (item.Brace text) masks there = tt
+splittable names (item.Begin name) masks there = tt
+splittable names (item.End name) masks there = tt
+splittable names item.Positive masks there = tt
+splittable names item.Negative masks there = tt
+splittable names item.ContextEnd masks there = tt
+splittable names item.Cut masks there = tt
 
 -- where no element passes a test, each fails it
 pub none_passes : {A : Type 0} (p : A → Bool) (xs : List A) (x : A) → list_any p xs ≡ false →
@@ -184,7 +188,7 @@ all_in : {A : Type 0} (P : A → Type 0) (xs : List A) → ((x : A) → Contains
 all_in P xs each i d lt = each (get_or xs i d) (Contains-get_or xs i d lt)
 
 module _ (graphs : List Given) (whole : AreWhole (drawn graphs))
-    (masked : AreMasked (drawn graphs)) (compiled : AreCompiled (drawn graphs)) where
+    (masked : AreMasked (drawn graphs)) where
   abbrev names : List (List ℕ)
   names = names_of (drawn graphs)
 
@@ -202,10 +206,6 @@ module _ (graphs : List Given) (whole : AreWhole (drawn graphs))
           (x : Item) → Contains line x → IsSplittable names x
       one graph (n, lt, is) box of_graph line of_box x of_line =
           splittable names x
-          (none_passes is_beyond line x
-          (none_passes has_beyond_line box.lines line
-          (All-contains (λ (b : GrfBox). has_beyond b ≡ false) graph.1.boxes box
-          here of_graph) of_box) of_line)
           (item_masks box line x (All-contains (λ (b : GrfBox). AreMasks (mask_texts_of b))
           graph.1.boxes box masks_here of_graph) of_box of_line)
           (λ name call. whole n name
@@ -220,12 +220,6 @@ module _ (graphs : List Given) (whole : AreWhole (drawn graphs))
 
           calls_at : calls_in (slice_get (drawn graphs) n) ≡ calls_of (drawn_of graph)
           calls_at = ap calls_in at
-
-          here : HasNoBeyond graph.1.boxes
-          here =
-              subst (λ (d : Drawn). HasNoBeyond d.boxes)
-              (get_or_from_slice_get (drawn graphs) n (drawn_of graph) (drawn_of graph) at)
-              (compiled n (drawn_of graph) (slice_get_within (drawn graphs) n (drawn_of graph) at))
 
           masks_here : HaveMasks graph.1.boxes
           masks_here =

@@ -1,24 +1,24 @@
 -- The states that are made of places say the same as the places, and their edges stay inside.
 use Rattle.std.proofs.Common.{arith, ◌≡◌, ◌≢◌, ℕ, zero, suc, ◌+◌, ◌-◌, ◌<◌, ◌≤◌, List, [], ◌∷◌, ◌++◌, refl, sym, ◌∙◌, ap, subst, ◌⊎◌, inl, inr, length, append_assoc, append-nil, get_or, drop, drop-cons, Bool, true, false, cond, add-one, rules}
-use Rattle.std.specs.Prelude.{Some, slice_get, Contains, ltb, nat_eq, ◌||◌, map, All}
+use Rattle.std.specs.Prelude.{Some, slice_get, Contains, ltb, nat_eq, ◌||◌, map}
 use Rattle.std.specs.List.{range_with_len, list_any, flat_map}
 use Rattle.std.proofs.lemmas.Option.{same_Some, slice_get_within, slice_get-get_or}
 use Rattle.std.proofs.lemmas.Bool.{eqb-true}
-use Rattle.std.proofs.lemmas.List.Elements.{All-nil, All-cons, All-contains, Contains-get_or}
+use Rattle.std.proofs.lemmas.List.Elements.{Contains-get_or}
 use Rattle.ux_grf.specs.declared.item.Piece.{Piece}
 use Rattle.ux_net.specs.declared.label.Label.{Label}
 use Rattle.ux_net.specs.declared.label.Label.TheVariants.{Empty}
 use Rattle.ux_net.specs.declared.place.Place.{Place}
 use Rattle.ux_net.specs.declared.state.Edge.{Edge}
 use Rattle.ux_net.specs.declared.state.State.{State}
-use Rattle.ux_net.specs.Words.{Step, StepGraph, Letter, piece, ordinary, mark_of, letter_of, letters, put_by, Run, stop, along}
+use Rattle.ux_net.specs.Words.{Step, StepGraph, Letter, piece, ordinary, mark_of, letter_of, letters, put_by, Run, stop, along, IsBody}
+use Rattle.ux_net.specs.Closers.{ClosesInto}
 use Rattle.ux_net.specs.Places.{label_lines, place_output, place_targets, is_reached, places_of, IsPlaceStep, IsEndPlace, place_grammar}
-use Rattle.ux_net.specs.Nets.{IsNetStep, IsNetEnd, net_graph, IsPlain}
-use Rattle.ux_net.specs.Construct.{labels_in, has_state, number, line_at, called_at, labels_at, chain_len, first_chain, target_of, output_before, edge_of, edges_to, place_state, chain_state, at_place, along_lines, by_state, states_of, AreFit, AreTargetsInside}
+use Rattle.ux_net.specs.Nets.{IsNetStep, IsNetEnd, net_graph}
+use Rattle.ux_net.specs.Construct.{labels_in, IsLine, has_state, number, line_at, called_at, labels_at, chain_len, first_chain, target_of, output_before, edge_of, edges_to, place_state, chain_state, at_place, along_lines, by_state, states_of, AreFit, AreTargetsInside}
 use Rattle.ux_net.proofs.JoinedLemmas.{less_or, nothing_in, first_or_later, contains_first, contains_later, contains_joined, contained_joined, contains_mapped, contained_mapped, contains_range, contained_range}
-use Rattle.ux_net.proofs.EdgeLabelsLemmas.{same_letters, each_label}
-use Rattle.ux_net.proofs.FreeLemmas.{plain_ordinary}
-use Rattle.ux_net.proofs.RefineLemmas.{letters_along, IsSame, Refines, refined_same}
+use Rattle.ux_net.proofs.EdgeLabelsLemmas.{same_letters, each_label, ordinary_labels, several_edges, first_edge, one_edge}
+use Rattle.ux_net.proofs.RefineLemmas.{letters_along, IsSame, IsNumbered, Refines, body_forth, body_back, refined_same}
 use Rattle.ux_net.proofs.StatesLemmas.{total, total_few, line_there, line_some, place_inside, get_place, get_chain, length_by_state, Stands, of_a_place, of_a_line, stands}
 
 -- tests
@@ -78,22 +78,35 @@ module _ (places : List Place) (fit : AreFit places) where
   abbrev label : ℕ → ℕ → ℕ → Label
   label b l k = get_or (labels_at places b l) k Empty
 
-  -- the labels of a line are plain
-  label_plain : (b l k : ℕ) → l < length (lines_of b) → k < length (labels_at places b l) →
-      IsPlain (label b l k)
-  label_plain b l k at lt =
-      each_label IsPlain (called_at places b l) (line_at places b l) tt
-      (λ x there. All-contains IsPlain (line_at places b l) x
-      (All-contains (All IsPlain) (label_lines places b) (line_at places b l) (fit.plain b)
-      (line_there places b l at)) there)
+  pub line_is : (b l : ℕ) → l < length (lines_of b) → IsLine (line_at places b l)
+  line_is b l at = fit.lines b (line_at places b l) (line_there places b l at)
+
+  -- the labels of the edges of an ordinary line are ordinary
+  label_ordinary : (b l k : ℕ) → l < length (lines_of b) → mark_of (line_at places b l) ≡ ordinary →
+      k < length (labels_at places b l) → mark_of (label b l k ∷ []) ≡ ordinary
+  label_ordinary b l k at mark lt =
+      each_label (λ (x : Label). mark_of (x ∷ []) ≡ ordinary) (called_at places b l)
+      (line_at places b l) refl (ordinary_labels (line_at places b l) (line_is b l at) mark)
       (label b l k) (Contains-get_or (labels_at places b l) k Empty lt)
 
-  label_ordinary : (x : Label) → IsPlain x → mark_of (x ∷ []) ≡ ordinary
-  label_ordinary x is = plain_ordinary (x ∷ []) (All-cons IsPlain x [] is (All-nil IsPlain))
+  -- the first edge of a line does to contexts what the line does
+  pub first_mark : (b l : ℕ) → l < length (lines_of b) →
+      mark_of (label b l 0 ∷ []) ≡ mark_of (line_at places b l)
+  first_mark b l at = first_edge (place_output places b) (line_at places b l) (line_is b l at)
 
-  place_ordinary : (s : Step) → IsPlaceStep places s → mark_of s.labels ≡ ordinary
-  place_ordinary s step = plain_ordinary s.labels
-      (All-contains (All IsPlain) (label_lines places s.to) s.labels (fit.plain s.to) step.line)
+  -- the later ones do nothing to them
+  pub later_mark : (b l k : ℕ) → l < length (lines_of b) → k + 1 < length (labels_at places b l) →
+      mark_of (label b l (k + 1) ∷ []) ≡ ordinary
+  later_mark b l k at lt = label_ordinary b l (k + 1) at
+      (several_edges (place_output places b) (line_at places b l) (line_is b l at) (omega arith)) lt
+
+  -- a line that opens or closes a context leads to its place at once
+  pub lone_target : (b l : ℕ) → l < length (lines_of b) →
+      (mark_of (line_at places b l) ≡ ordinary → ⊥) → target_of places b l 0 ≡ number places b
+  lone_target b l at marked =
+      let one = one_edge (place_output places b) (line_at places b l) (line_is b l at) marked in
+      lt_else (0 + 1) (length (labels_at places b l)) (first_chain places b l + 0)
+      (number places b) (omega (arith, one))
 
   -- a place with a line has a state
   pub has_line : (b l : ℕ) → l < length (lines_of b) → has_state places b ≡ true
@@ -247,9 +260,9 @@ module _ (places : List Place) (fit : AreFit places) where
   -- from where the edge of label k begins, the letters from there lead to the place
   edge_run : (g m b l k n : ℕ) (state : State) → l < length (lines_of b) →
       k + 1 + m ≡ length (labels_at places b l) → slice_get (states_of places) n ≡ Some state →
-      Contains state.edges (edge_of places b l k) →
+      Contains state.edges (edge_of places b l k) → mark_of (line_at places b l) ≡ ordinary →
       Run g new n (number places b) (letters_from b l k)
-  edge_run g zero b l k n state at e found inside =
+  edge_run g zero b l k n state at e found inside mark_line =
       let t : Step = step_at b l k n in
       let along_label : AlongLabel t b l k =
       record { to = refl; output = refl; labels = refl } in
@@ -262,7 +275,7 @@ module _ (places : List Place) (fit : AreFit places) where
         label = refl;
         puts = refl;
       } in
-      let mark = label_ordinary (label b l k) (label_plain b l k at (omega arith)) in
+      let mark = label_ordinary b l k at mark_line (omega arith) in
       let to : target_of places b l k ≡ number places b =
       lt_else (k + 1) (length (labels_at places b l)) (first_chain places b l + k)
       (number places b) (omega arith) in
@@ -273,7 +286,7 @@ module _ (places : List Place) (fit : AreFit places) where
       ∙ sym (step_letters t b l k along_label (omega arith)) in
       subst (λ w. Run g new n (number places b) w) word
       (along t step mark (subst (λ m. Run g new m (number places b) []) (sym to) stop))
-  edge_run g (suc m) b l k n state at e found inside =
+  edge_run g (suc m) b l k n state at e found inside mark_line =
       let t : Step = step_at b l k n in
       let along_label : AlongLabel t b l k =
       record { to = refl; output = refl; labels = refl } in
@@ -286,7 +299,7 @@ module _ (places : List Place) (fit : AreFit places) where
         label = refl;
         puts = refl;
       } in
-      let mark = label_ordinary (label b l k) (label_plain b l k at (omega arith)) in
+      let mark = label_ordinary b l k at mark_line (omega arith) in
       let to : target_of places b l k ≡ first_chain places b l + k =
       lt_then (k + 1) (length (labels_at places b l)) (first_chain places b l + k)
       (number places b) (omega arith) in
@@ -297,15 +310,16 @@ module _ (places : List Place) (fit : AreFit places) where
       subst (λ w. Run g new (first_chain places b l + k) (number places b) w)
       (later_letters b l k)
       (edge_run g m b l (k + 1) (first_chain places b l + k) (chain_state places b l k) at
-      (omega arith) there (contains_first (edge_of places b l (k + 1)) [])) in
+      (omega arith) there (contains_first (edge_of places b l (k + 1)) []) mark_line) in
       subst (λ w. Run g new n (number places b) w)
       (sym (step_letters t b l k along_label (omega arith)))
       (along t step mark (subst (λ i. Run g new i (number places b)
       (letters (drop (k + 1) (labels_at places b l)))) (sym to) later))
 
   forth : (g : ℕ) (s : Step) → has_state places s.from ≡ true → IsPlaceStep places s →
+      mark_of s.labels ≡ ordinary →
       Run g new (number places s.from) (number places s.to) (letters_along s)
-  forth g s has step =
+  forth g s has step mark =
       let l = line_number places s.to s.labels step.line in
       let some = line_some places fit s.to l.0 l.1 in
       subst (λ w. Run g new (number places s.from) (number places s.to) w)
@@ -316,7 +330,7 @@ module _ (places : List Place) (fit : AreFit places) where
       (edge_run g (length (labels_at places s.to l.0) - 1) s.to l.0 0 (number places s.from)
       (place_state places s.from) l.1 (omega arith)
       (get_place places (place_state places) (chain_state places) s.from has)
-      (to_target s.from s.to l.0 step.leads l.1))
+      (to_target s.from s.to l.0 step.leads l.1) (ap mark_of l.2 ∙ mark))
 
   abbrev Back : Step → ℕ → List Letter → Type 0
   Back t b u = ((v : List Letter) × Ahead t.to b v × (u ≡ letters_along t ++ v))
@@ -324,46 +338,91 @@ module _ (places : List Place) (fit : AreFit places) where
       × (s.from ≡ b) × (v : List Letter) × Ahead t.to s.to v
       × (letters_along s ≡ letters_along t ++ v))
 
-  back_place : (t : Step) (a : ℕ) (u : List Letter) → has_state places a ≡ true →
-      IsNetStep (states_of places) t → t.from ≡ number places a → u ≡ [] → Back t a u
-  back_place t a u has step from none =
+  -- a step from the state of a place is along the first label of a line of a target
+  record AlongLine (t : Step) (a : ℕ) : Type 0 where
+    target : ℕ
+    leads : Contains (place_targets places a) target
+    line : ℕ
+    inside : line < length (lines_of target)
+    label : AlongLabel t target line 0
+
+  from_place : (t : Step) (a : ℕ) → has_state places a ≡ true → IsNetStep (states_of places) t →
+      t.from ≡ number places a → AlongLine t a
+  from_place t a has step from =
       let same = place_is a t.from step.state has from step.found in
       let e = of_target a step.edge
       (subst (λ (x : State). Contains x.edges step.edge) same step.inside) in
-      let label = along_edge t e.0 e.2 0 step.edge e.4 step.to step.puts step.label in
-      let some = line_some places fit e.0 e.2 e.3 in
-      let s : Step = record {
-        from = a;
-        to = e.0;
-        output = place_output places e.0;
-        labels = line_at places e.0 e.2;
-      } in
-      let old : IsPlaceStep places s = record {
-        before_end = not_end a has;
+      record {
+        target = e.0;
         leads = e.1;
-        line = line_there places e.0 e.2 e.3;
-        puts = refl;
-      } in
+        line = e.2;
+        inside = e.3;
+        label = along_edge t e.0 e.2 0 step.edge e.4 step.to step.puts step.label;
+      }
+
+  -- the step of the places along that line
+  abbrev pub old_step : ℕ → ℕ → ℕ → Step
+  old_step a b l = record {
+    from = a;
+    to = b;
+    output = place_output places b;
+    labels = line_at places b l;
+  }
+
+  pub old_is_step : (a b l : ℕ) → has_state places a ≡ true → Contains (place_targets places a) b →
+      l < length (lines_of b) → IsPlaceStep places (old_step a b l)
+  old_is_step a b l has leads at = record {
+    before_end = not_end a has;
+    leads = leads;
+    line = line_there places b l at;
+    puts = refl;
+  }
+
+  old_mark : (t : Step) (a : ℕ) (e : AlongLine t a) →
+      mark_of t.labels ≡ mark_of (line_at places e.target e.line)
+  old_mark t a e = ap mark_of e.label.labels ∙ first_mark e.target e.line e.inside
+
+  back_place : (t : Step) (a : ℕ) (u : List Letter) → has_state places a ≡ true →
+      IsNetStep (states_of places) t → mark_of t.labels ≡ ordinary → t.from ≡ number places a →
+      u ≡ [] → Back t a u
+  back_place t a u has step mark from none =
+      let e = from_place t a has step from in
+      let b = e.target in
+      let l = e.line in
+      let some = line_some places fit b l e.inside in
       inr (
         none,
-        s,
-        old,
-        place_ordinary s old,
+        old_step a b l,
+        old_is_step a b l has e.leads e.inside,
+        sym (old_mark t a e) ∙ mark,
         refl,
-        letters (drop (0 + 1) (labels_at places e.0 e.2)),
-        step_behind t e.0 e.2 0 label e.3 some,
-        ap (λ (word : List Letter). map piece (place_output places e.0) ++ word)
-            (sym (same_letters (called_at places e.0 e.2) (line_at places e.0 e.2)))
-            ∙ step_letters t e.0 e.2 0 label some,
+        letters (drop (0 + 1) (labels_at places b l)),
+        step_behind t b l 0 e.label e.inside some,
+        ap (λ (word : List Letter). map piece (place_output places b) ++ word)
+            (sym (same_letters (called_at places b l) (line_at places b l)))
+            ∙ step_letters t b l 0 e.label some,
       )
+
+  -- a step from a chain state is along a later label of its line
+  from_chain : (t : Step) (b : ℕ) (u : List Letter) → IsNetStep (states_of places) t →
+      (c : InChain t.from b u) → AlongLabel t b c.line (c.k + 1)
+  from_chain t b u step c =
+      let same = chain_is b c.line c.k t.from step.state c.inside c.more c.at step.found in
+      let is = only_edge (edge_of places b c.line (c.k + 1)) step.edge
+      (subst (λ (x : State). Contains x.edges step.edge) same step.inside) in
+      along_edge t b c.line (c.k + 1) step.edge is step.to step.puts step.label
+
+  -- and so it is ordinary
+  chain_ordinary : (t : Step) (b : ℕ) (u : List Letter) → IsNetStep (states_of places) t →
+      InChain t.from b u → mark_of t.labels ≡ ordinary
+  chain_ordinary t b u step c =
+      ap mark_of (from_chain t b u step c).labels
+      ∙ later_mark b c.line c.k c.inside (let m = c.more in omega arith)
 
   back_chain : (t : Step) (b : ℕ) (u : List Letter) → IsNetStep (states_of places) t →
       InChain t.from b u → Back t b u
   back_chain t b u step c =
-      let same = chain_is b c.line c.k t.from step.state c.inside c.more c.at step.found in
-      let is = only_edge (edge_of places b c.line (c.k + 1)) step.edge
-      (subst (λ (x : State). Contains x.edges step.edge) same step.inside) in
-      let label = along_edge t b c.line (c.k + 1) step.edge is step.to step.puts step.label in
+      let label = from_chain t b u step c in
       let lt : c.k + 1 < length (labels_at places b c.line) = let m = c.more in omega arith in
       inl (
         letters (drop ((c.k + 1) + 1) (labels_at places b c.line)),
@@ -468,23 +527,55 @@ module _ (places : List Place) (fit : AreFit places) where
             from = inr (k, lt, refl, is);
           }
 
+  -- an edge that opens or closes a context is a step of the places
+  pub record IsDrawn (n : ℕ) (edge : Edge) (b l : ℕ) : Type 0 where
+    pub from : ℕ
+    pub has : has_state places from ≡ true
+    pub at : n ≡ number places from
+    pub step : IsPlaceStep places (old_step from b l)
+    pub mark : mark_of (line_at places b l) ≡ mark_of (edge.label ∷ [])
+    pub leads : edge.target ≡ number places b
+
+  module _ (n : ℕ) (edge : Edge) (o : OfLabel n edge) where
+    label_is : label o.place o.line o.k ≡ edge.label
+    label_is = ap (λ (e : Edge). e.label) o.is
+
+    -- the first edge of a line does to contexts what the line does
+    pub line_mark : o.k ≡ 0 → mark_of (line_at places o.place o.line) ≡ mark_of (edge.label ∷ [])
+    line_mark none =
+        sym (first_mark o.place o.line o.inside)
+        ∙ (ap (λ k. mark_of (label o.place o.line k ∷ [])) (sym none)
+        ∙ ap (λ (x : Label). mark_of (x ∷ [])) label_is)
+
+    -- and a later one is ordinary
+    pub later_plain : (i : ℕ) → o.k ≡ i + 1 → mark_of (edge.label ∷ []) ≡ ordinary
+    later_plain i e =
+        ap (λ (x : Label). mark_of (x ∷ [])) (sym label_is)
+        ∙ (ap (λ k. mark_of (label o.place o.line k ∷ [])) e
+        ∙ later_mark o.place o.line i o.inside (let lt = o.below in omega (arith, lt, e)))
+
+    pub drawn : (mark_of (edge.label ∷ []) ≡ ordinary → ⊥) → IsDrawn n edge o.place o.line
+    drawn marked = elim o.from [
+      | inl first ↦
+          let mark = line_mark first.3 in
+          record {
+            from = first.0;
+            has = first.1;
+            at = first.2;
+            step = old_is_step first.0 o.place o.line first.1 first.4 o.inside;
+            mark = mark;
+            leads =
+                sym (ap (λ (e : Edge). e.target) o.is)
+                ∙ (ap (target_of places o.place o.line) first.3
+                ∙ lone_target o.place o.line o.inside (λ plain. marked (sym mark ∙ plain)));
+          }
+      | inr later ↦ absurd (marked (later_plain later.0 later.2))
+    ]
+
   pub targets_inside : AreTargetsInside (states_of places)
   targets_inside n state edge found inside =
       let o = of_label n state edge found inside in
       edge_inside o.place o.line o.k edge o.inside o.below o.is
-
-  -- each edge of a state has a plain label
-  pub edges_plain : (n : ℕ) (state : State) (edge : Edge) →
-      slice_get (states_of places) n ≡ Some state → Contains state.edges edge → IsPlain edge.label
-  edges_plain n state edge found inside =
-      let o = of_label n state edge found inside in
-      subst (λ (e : Edge). IsPlain e.label) o.is (label_plain o.place o.line o.k o.inside o.below)
-
-  net_ordinary : (t : Step) → IsNetStep (states_of places) t → mark_of t.labels ≡ ordinary
-  net_ordinary t step =
-      ap mark_of step.label
-      ∙ label_ordinary step.edge.label
-      (edges_plain t.from step.state step.edge step.found step.inside)
 
   -- the places other than the end that are reached are those with a state
   stateful : (a : ℕ) → (a ≢ 1) × (is_reached places a ≡ true) → has_state places a ≡ true
@@ -519,6 +610,57 @@ module _ (graphs : List (List Place)) (g : ℕ) (fit : AreFit (places_of graphs 
   abbrev here : List Place
   here = places_of graphs g
 
+  abbrev SameStep : Step → Step → Type 0
+  SameStep s t = IsNumbered (place_grammar graphs) (number_in graphs) g s t
+
+  -- a step that opens or closes a context is one edge
+  forth_marked : (s : Step) → has_state here s.from ≡ true → IsPlaceStep here s →
+      (mark_of s.labels ≡ ordinary → ⊥) →
+      (t : Step) × IsNetStep (states_of here) t × SameStep s t
+  forth_marked s has step marked =
+      let l = line_number here s.to s.labels step.line in (
+        step_at here fit s.to l.0 0 (number here s.from),
+        record {
+          state = place_state here s.from;
+          found = get_place here (place_state here) (chain_state here) s.from has;
+          edge = edge_of here s.to l.0 0;
+          inside = to_target here fit s.from s.to l.0 step.leads l.1;
+          to = refl;
+          label = refl;
+          puts = refl;
+        },
+        record {
+          from = refl;
+          to = lone_target here fit s.to l.0 l.1 (λ o. marked (ap mark_of (sym l.2) ∙ o));
+          output = sym step.puts;
+          mark = first_mark here fit s.to l.0 l.1 ∙ ap mark_of l.2;
+        },
+      )
+
+  -- such an edge is a step that does
+  back_marked : (t : Step) (b : ℕ) (u : List Letter) → IsNetStep (states_of here) t →
+      (mark_of t.labels ≡ ordinary → ⊥) → Ahead here fit t.from b u →
+      (u ≡ []) × (s : Step) × IsPlaceStep here s × (s.from ≡ b) × SameStep s t
+  back_marked t b u step marked ahead = elim ahead.1 [
+    | inl at ↦
+        let e = from_place here fit t b ahead.0 step at.0 in
+        let mark = old_mark here fit t b e in (
+          at.1,
+          old_step here fit b e.target e.line,
+          old_is_step here fit b e.target e.line ahead.0 e.leads e.inside,
+          refl,
+          record {
+            from = at.0;
+            to =
+                e.label.to
+                ∙ lone_target here fit e.target e.line e.inside (λ o. marked (mark ∙ o));
+            output = e.label.output;
+            mark = mark;
+          },
+        )
+    | inr c ↦ absurd (marked (chain_ordinary here fit t b u step c))
+  ]
+
   refines : Refines (place_grammar graphs) (number_in graphs) g (Ahead here fit)
       (net_graph (states_of here))
   refines = record {
@@ -537,17 +679,17 @@ module _ (graphs : List (List Place)) (g : ℕ) (fit : AreFit (places_of graphs 
       final = has_one (place_targets here a) e.1;
     };
     ends_back = λ n b u ahead e. ending here fit n b u ahead e;
-    forth = λ s at step mark. forth here fit g s (stateful here fit s.from at) step;
-    forth_opens = λ s sign at step mark. let never = place_ordinary here fit s step in absurd cc;
-    forth_closes = λ s at step mark. let never = place_ordinary here fit s step in absurd cc;
+    forth = λ s at step mark. forth here fit g s (stateful here fit s.from at) step mark;
+    forth_opens = λ s sign at step mark.
+        forth_marked s (stateful here fit s.from at) step (λ o. absurd cc);
+    forth_closes = λ s at step mark.
+        forth_marked s (stateful here fit s.from at) step (λ o. absurd cc);
     back = λ t b u step mark ahead. elim ahead.1 [
-      | inl there ↦ back_place here fit t b u ahead.0 step there.0 there.1
+      | inl there ↦ back_place here fit t b u ahead.0 step mark there.0 there.1
       | inr c ↦ back_chain here fit t b u step c
     ];
-    back_opens = λ t sign b u step mark ahead.
-        let never = net_ordinary here fit t step in absurd cc;
-    back_closes = λ t b u step mark ahead.
-        let never = net_ordinary here fit t step in absurd cc;
+    back_opens = λ t sign b u step mark ahead. back_marked t b u step (λ o. absurd cc) ahead;
+    back_closes = λ t b u step mark ahead. back_marked t b u step (λ o. absurd cc) ahead;
   }
 
   -- the law: the states say the same as the places
@@ -556,3 +698,24 @@ module _ (graphs : List (List Place)) (g : ℕ) (fit : AreFit (places_of graphs 
   construction_same =
       refined_same (place_grammar graphs) (number_in graphs) g (Ahead here fit)
       (net_graph (states_of here)) refines
+
+  -- where a body from a place is closed, one from its state is
+  pub closes_forth : (a c : ℕ) → has_state here a ≡ true →
+      ClosesInto (place_grammar graphs) g a c →
+      (has_state here c ≡ true)
+      × (word : List Letter)
+      × IsBody g (net_graph (states_of here)) (number here a) (number here c) word
+  closes_forth a c has into =
+      let r = body_forth (place_grammar graphs) (number_in graphs) g (Ahead here fit)
+      (net_graph (states_of here)) refines a c (placed here fit a has) into.0 into.1 in
+      (stateful here fit c r.0, r.1, r.3)
+
+  -- and conversely
+  pub closes_back : (a n : ℕ) → has_state here a ≡ true → (word : List Letter) →
+      IsBody g (net_graph (states_of here)) (number here a) n word →
+      (c : ℕ) × (has_state here c ≡ true) × (n ≡ number here c)
+      × ClosesInto (place_grammar graphs) g a c
+  closes_back a n has word body =
+      let r = body_back (place_grammar graphs) (number_in graphs) g (Ahead here fit)
+      (net_graph (states_of here)) refines a n (placed here fit a has) word body in
+      (r.0, stateful here fit r.0 r.1, r.2, (r.3, r.5))

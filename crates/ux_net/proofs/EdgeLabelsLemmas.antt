@@ -1,14 +1,14 @@
 -- The labels of a line's edges say what the line says.
-use Rattle.std.proofs.Common.{arith, ◌≡◌, ℕ, ◌+◌, ◌≤◌, List, [], ◌∷◌, refl, ◌∙◌, ap, subst, inl, inr, length, true, false}
+use Rattle.std.proofs.Common.{arith, ◌≡◌, ℕ, ◌+◌, ◌<◌, ◌≤◌, List, [], ◌∷◌, refl, sym, ◌∙◌, ap, subst, ◌⊎◌, inl, inr, length, get_or, true, false}
 use Rattle.std.specs.Prelude.{Option, Some, None, Contains}
 use Rattle.std.proofs.lemmas.Option.{same_Some}
-use Rattle.std.proofs.lemmas.List.Elements.{All-head}
+use Rattle.std.proofs.lemmas.List.Elements.{All-head, All-contains}
 use Rattle.ux_grf.specs.declared.item.Piece.{Piece}
 use Rattle.ux_net.specs.declared.label.Label.{Label}
 use Rattle.ux_net.specs.declared.label.Label.TheVariants.{Empty, Fold, Exact, Mask, Brace, Space, Glue, Begin, End, Positive, Negative, ContextEnd, Cut, Call}
-use Rattle.ux_net.specs.Words.{letters}
-use Rattle.ux_net.specs.Construct.{is_call, IsLine, called_behind, edge_labels}
-use Rattle.ux_net.proofs.JoinedLemmas.{first_or_later}
+use Rattle.ux_net.specs.Words.{ordinary, mark_of, letters}
+use Rattle.ux_net.specs.Construct.{is_call, is_mark, IsLine, called_behind, edge_labels}
+use Rattle.ux_net.proofs.JoinedLemmas.{nothing_in, first_or_later, contains_first}
 
 -- they have the letters of the line
 pub same_letters : (called : Option ℕ) (line : List Label) →
@@ -65,3 +65,92 @@ call_whole (o ∷ os) (Positive ∷ xs) h is e = cc
 call_whole (o ∷ os) (Negative ∷ xs) h is e = cc
 call_whole (o ∷ os) (ContextEnd ∷ xs) h is e = cc
 call_whole (o ∷ os) (Cut ∷ xs) h is e = cc
+
+-- a label that is no mark neither opens nor closes a context
+unmarked : (x : Label) → is_mark x ≡ false → mark_of (x ∷ []) ≡ ordinary
+unmarked Positive h = cc
+unmarked Negative h = cc
+unmarked ContextEnd h = cc
+unmarked x h = refl
+
+-- nor does a line of several labels
+several_ordinary : (x y : Label) (rest : List Label) → mark_of (x ∷ y ∷ rest) ≡ ordinary
+several_ordinary Empty y rest = refl
+several_ordinary x y rest = refl
+
+-- each label of an ordinary line is ordinary
+pub ordinary_labels : (line : List Label) → IsLine line → mark_of line ≡ ordinary → (x : Label) →
+    Contains line x → mark_of (x ∷ []) ≡ ordinary
+ordinary_labels [] is mark x there = absurd (nothing_in there)
+ordinary_labels (y ∷ []) is mark x there = elim (first_or_later y [] x there) [
+  | inl e ↦ subst (λ (z : Label). mark_of (z ∷ []) ≡ ordinary) e mark
+  | inr later ↦ absurd (nothing_in later)
+]
+ordinary_labels (y ∷ z ∷ rest) is mark x there =
+    unmarked x
+    (All-contains (λ (label : Label). is_mark label ≡ false) (y ∷ z ∷ rest) x
+    (is.marks (omega arith)) there)
+
+-- The edges of a line, and what they do to contexts.
+module _ (output : List Piece) (line : List Label) (is : IsLine line) where
+  abbrev edges : List Label
+  edges = edge_labels (called_behind output line) line
+
+  -- it is a call behind an output, or its edges are those that are drawn
+  called_or : ((h : ℕ) × (line ≡ Call h ∷ []) × (edges ≡ Empty ∷ Call h ∷ [])) ⊎ (edges ≡ line)
+  called_or = go (called_behind output line) refl
+    where
+      go : (called : Option ℕ) → called_behind output line ≡ called →
+          ((h : ℕ) × (line ≡ Call h ∷ []) × (edges ≡ Empty ∷ Call h ∷ [])) ⊎ (edges ≡ line)
+      go None e = inr (ap (λ (called : Option ℕ). edge_labels called line) e)
+      go (Some h) e =
+          let whole = call_whole output line h is e in
+          inl (
+            h,
+            whole,
+            ap (λ (called : Option ℕ). edge_labels called line) e
+                ∙ ap (λ (l : List Label). Empty ∷ l) whole,
+          )
+
+  -- with several edges it is ordinary
+  pub several_edges : 1 < length edges → mark_of line ≡ ordinary
+  several_edges more = elim called_or [
+    | inl c ↦ ap mark_of c.1
+    | inr drawn ↦ go line (let e = ap (length {A = Label}) drawn in omega (arith, more, e))
+  ]
+    where
+      go : (line : List Label) → 1 < length line → mark_of line ≡ ordinary
+      go [] h = refl
+      go (x ∷ []) h = absurd (omega (arith, h))
+      go (x ∷ y ∷ rest) h = several_ordinary x y rest
+
+  -- the first edge does to contexts what the line does
+  pub first_edge : mark_of (get_or edges 0 Empty ∷ []) ≡ mark_of line
+  first_edge = elim called_or [
+    | inl c ↦
+        ap (λ (l : List Label). mark_of (get_or l 0 Empty ∷ [])) c.2 ∙ sym (ap mark_of c.1)
+    | inr drawn ↦
+        ap (λ (l : List Label). mark_of (get_or l 0 Empty ∷ [])) drawn ∙ go line is
+  ]
+    where
+      go : (line : List Label) → IsLine line →
+          mark_of (get_or line 0 Empty ∷ []) ≡ mark_of line
+      go [] is = refl
+      go (x ∷ []) is = refl
+      go (x ∷ y ∷ rest) is =
+          ordinary_labels (x ∷ y ∷ rest) is (several_ordinary x y rest) x
+          (contains_first x (y ∷ rest))
+          ∙ sym (several_ordinary x y rest)
+
+  -- where it opens or closes a context, it has one edge
+  pub one_edge : (mark_of line ≡ ordinary → ⊥) → length edges ≡ 1
+  one_edge marked = elim called_or [
+    | inl c ↦ absurd (marked (ap mark_of c.1))
+    | inr drawn ↦ ap (length {A = Label}) drawn ∙ go line marked is.some
+  ]
+    where
+      go : (line : List Label) → (mark_of line ≡ ordinary → ⊥) → 0 < length line →
+          length line ≡ 1
+      go [] marked some = absurd (marked refl)
+      go (x ∷ []) marked some = refl
+      go (x ∷ y ∷ rest) marked some = absurd (marked (several_ordinary x y rest))

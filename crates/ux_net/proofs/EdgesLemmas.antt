@@ -1,89 +1,97 @@
 -- The edges and spots of the ways are those of the steps.
-use Rattle.std.proofs.Common.{arith, ◌≡◌, ℕ, ◌<◌, List, [], ◌∷◌, length, refl, ap, subst, sym, ◌∙◌, ◌⊎◌, inl, inr, ◌↔◌, get_or, Bool}
-use Rattle.std.specs.Prelude.{Contains, All, Option, Some, None}
+use Rattle.std.proofs.Common.{arith, ◌≡◌, ℕ, ◌<◌, List, [], length, refl, ap, subst, sym, ◌∙◌, ◌⊎◌, inl, inr, ◌↔◌, get_or, Bool}
+use Rattle.std.specs.Prelude.{Contains, All, Some}
 use Rattle.std.proofs.lemmas.List.Elements.{All-contains_itself, All-weaker}
 use Rattle.ux_digraph.specs.Paths.{row_of}
-use Rattle.ux_net.specs.declared.label.Label.{Label}
-use Rattle.ux_net.specs.declared.label.Label.TheVariants.{Call}
 use Rattle.ux_net.specs.declared.place.Place.{Place}
 use Rattle.ux_net.specs.declared.way.Way.{Way}
+use Rattle.ux_net.specs.declared.way.Passage.{Passage}
+use Rattle.ux_net.specs.declared.way.Passage.TheVariants.{Silent, Calls, Opens, Jumps}
 use Rattle.ux_net.specs.declared.spot.Spot.{Spot}
 use Rattle.ux_net.specs.Words.{Step, letters}
 use Rattle.ux_net.specs.Places.{places_of, place_grammar, IsPlaceStep}
 use Rattle.ux_net.specs.Fit.{IsFit}
-use Rattle.ux_net.specs.Admissible.{IsFree}
+use Rattle.ux_net.specs.Admissible.{IsFree, none, MovesFreely, along_step, over_context, EntersAt, by_call, by_opening}
 use Rattle.ux_net.specs.Numbers.{number_of, all_places}
-use Rattle.ux_net.specs.Ways.{CallsAt, IsWay, AreWays, AreFreeMarks, IsOpen, IsFreeEdge, IsEntryEdge, step_along, way_at}
+use Rattle.ux_net.specs.Ways.{Passes, IsWay, AreWays, AreFreeMarks, LeadsOn, IsOpen, entered_by, IsFreeEdge, IsEntryEdge, way_at}
 use Rattle.ux_net.specs.Cycles.{IsLoopStep, IsEntryStep, AreFreeEdges, AreAllEdges}
 use Rattle.ux_net.specs.Gains.{Gains, SoOfOne}
 use Rattle.ux_net.specs.Spots.{IsFreePair, IsEntryPair, IsLoopSpot, IsEntrySpot}
 use Rattle.ux_net.proofs.FreeLemmas.{free_silent, call_nullable}
-use Rattle.ux_net.proofs.StepsLemmas.{step_inside, step_cases, start_inside}
+use Rattle.ux_net.proofs.StepsLemmas.{step_inside, step_line, step_cases, start_inside, call_alone}
 use Rattle.ux_net.proofs.NumbersLemmas.{number_below}
 use Rattle.ux_net.proofs.GainsLemmas.{gains_all}
-use Rattle.ux_net.proofs.MarksLemmas.{is_way, line_free, nullable_ends}
+use Rattle.ux_net.proofs.MarksLemmas.{is_way, passes_move, nullable_ends}
+use Rattle.ux_net.proofs.UnitsLemmas.{move_inside}
 
-way_step : (graphs : List (List Place)) (way : Way) → List Label → Step
-way_step graphs way line = step_along graphs way line
-
--- the start of the graph that a line calls is the one that is called
-calls_start : (graphs : List (List Place)) (called : Option ℕ) (line : List Label) (start : ℕ) →
-    CallsAt graphs called line → called ≡ Some start →
-    (h : ℕ) × (line ≡ Call h ∷ []) × (start ≡ number_of graphs h 0)
-calls_start graphs None line start c e = absurd (cc)
-calls_start graphs (Some other) line start c e =
-    let same : other ≡ start = cc in
-    (c.0, c.1, sym same ∙ c.2)
+-- a way that may take nothing leads on
+open_on : (marks : List Bool) (passage : Passage) → IsOpen marks passage → LeadsOn passage
+open_on marks Silent o = tt
+open_on marks (Calls start) o = tt
+open_on marks Opens o = o
+open_on marks Jumps o = tt
 
 module _ (graphs : List (List Place)) (fit : All (IsFit (length graphs)) graphs)
     (ways : List Way) (are : AreWays graphs ways) where
   module _ (marks : List Bool) (marked : AreFreeMarks graphs marks) where
-    -- an open way may take nothing
-    open_free : (way : Way) (w : IsWay graphs way) → IsOpen marks way.called →
-        IsFree (place_grammar graphs) (letters w.line)
-    unfolding way_step
-    open_free way w opened = line_free graphs fit way.called w.line w.along.calls (λ h l c.
-        let start = start_inside graphs fit way.graph h (way_step graphs way w.line) w.step l in
-        (marked.marked h 0 start).0 (subst (λ o. IsOpen marks o) c opened))
+    -- an open way is a move
+    open_moves : (way : Way) → IsWay graphs way → IsOpen marks way.passage →
+        MovesFreely (place_grammar graphs) way.graph way.source way.target
+    open_moves way w opened =
+        subst (λ a. MovesFreely (place_grammar graphs) way.graph a way.target)
+        (sym w.along.source)
+        (passes_move graphs fit way.graph w.step w.of_graph way.target way.passage w.along.passes
+        (open_on marks way.passage opened) (λ h l c.
+        let start = start_inside graphs fit way.graph h w.step w.of_graph l in
+        (marked.marked h 0 start).0 (subst (λ p. IsOpen marks p) c opened)))
 
-    -- a step that may take nothing is an open way
-    free_open : (g : ℕ) (s : Step) → IsPlaceStep (places_of graphs g) s →
-        IsFree (place_grammar graphs) (letters s.labels) →
-        (called : Option ℕ) × CallsAt graphs called s.labels × IsOpen marks called
-    free_open g s i f = elim (step_cases graphs fit g s i) [
+    -- a move is an open way
+    abbrev OpenWay : (g a c : ℕ) → Type 0
+    OpenWay g a c =
+        (passage : Passage) × IsWay graphs (way_at graphs g a c passage) × IsOpen marks passage
+
+    moves_open : (g : ℕ) {a c : ℕ} → MovesFreely (place_grammar graphs) g a c → OpenWay g a c
+    moves_open g (along_step s i f) = elim (step_cases graphs fit g s i) [
       | inl c ↦
           let start = start_inside graphs fit g c.0 s i c.1 in
           let free = subst (λ l. IsFree (place_grammar graphs) (letters l)) c.1 f in (
-            Some (number_of graphs c.0 0),
-            (c.0, c.1, refl),
+            Calls (number_of graphs c.0 0),
+            is_way graphs fit g s i s.to (Calls (number_of graphs c.0 0)) (refl, (c.0, c.1, refl)),
             (marked.marked c.0 0 start).1
                 (nullable_ends graphs fit c.0 (call_nullable (place_grammar graphs) free)),
           )
-      | inr n ↦ (None, free_silent (place_grammar graphs) s.labels n f, tt)
+      | inr n ↦ (
+        Silent,
+        is_way graphs fit g s i s.to Silent
+            (refl, free_silent (place_grammar graphs) s.labels n f),
+        tt,
+      )
     ]
+    moves_open g (over_context {closing = c} sign s i m closes) =
+        (Jumps, is_way graphs fit g s i c Jumps ((sign, m), closes), tt)
 
     pub free_pairs : (u v : ℕ) → SoOfOne ways (IsFreePair marks) (u, v) ↔ IsFreeEdge graphs u v
-    unfolding way_step
     free_pairs u v = (
       λ s.
           let way = s.0 in
           let w = (are.exact way).0 s.1 in
           record {
             graph = way.graph;
-            step = way_step graphs way w.line;
-            of_graph = w.step;
-            free = open_free way w s.2.0;
-            from = sym (ap (λ (p : ℕ × ℕ). p.0) s.2.1) ∙ w.along.from;
+            source = way.source;
+            target = way.target;
+            moves = open_moves way w s.2.0;
+            from = sym (ap (λ (p : ℕ × ℕ). p.0) s.2.1)
+                ∙ (w.along.from ∙ ap (λ n. number_of graphs way.graph n) (sym w.along.source));
             to = sym (ap (λ (p : ℕ × ℕ). p.1) s.2.1) ∙ w.along.to;
           },
       λ f.
-          let o = free_open f.graph f.step f.of_graph f.free in
-          let way = way_at graphs f.graph f.step.from f.step.to o.0 in (
+          let o = moves_open f.graph f.moves in
+          let way = way_at graphs f.graph f.source f.target o.0 in (
             way,
-            (are.exact way).1 (is_way graphs fit f.graph f.step f.of_graph o.0 o.1),
+            (are.exact way).1 o.1,
             (
               o.2,
-              ap (λ n. (n, number_of graphs f.graph f.step.to)) (sym f.from)
+              ap (λ n. (n, number_of graphs f.graph f.target)) (sym f.from)
                   ∙ ap (λ n. (u, n)) (sym f.to),
             ),
           ),
@@ -92,53 +100,85 @@ module _ (graphs : List (List Place)) (fit : All (IsFit (length graphs)) graphs)
     pub loop_spots : (numbers : List ℕ) (spot : Spot) →
         SoOfOne ways (IsLoopSpot marks numbers) spot ↔
         IsLoopStep graphs numbers spot.graph spot.node
-    unfolding way_step
     loop_spots numbers spot = (
       λ s.
           let way = s.0 in
           let w = (are.exact way).0 s.1 in
           subst (λ (z : Spot). IsLoopStep graphs numbers z.graph z.node) s.2.2 (record {
-            step = way_step graphs way w.line;
-            of_graph = w.step;
-            begins = refl;
-            free = open_free way w s.2.0;
-            same = ap (λ n. get_or numbers n 0) (sym w.along.from)
+            target = way.target;
+            moves = open_moves way w s.2.0;
+            same = ap (λ n. get_or numbers n 0) (sym (w.along.from
+                ∙ ap (λ n. number_of graphs way.graph n) (sym w.along.source)))
                 ∙ (s.2.1 ∙ ap (λ n. get_or numbers n 0) w.along.to);
           }),
       λ l.
-          let o = free_open spot.graph l.step l.of_graph l.free in
-          let way = way_at graphs spot.graph l.step.from l.step.to o.0 in (
-            way,
-            (are.exact way).1 (is_way graphs fit spot.graph l.step l.of_graph o.0 o.1),
-            (o.2, l.same, ap (λ n. record { graph = spot.graph; node = n }) l.begins),
-          ),
+          let o = moves_open spot.graph l.moves in
+          let way = way_at graphs spot.graph spot.node l.target o.0 in
+          (way, (are.exact way).1 o.1, (o.2, l.same, refl)),
     )
 
+  -- a way that enters a unit is a step that does
+  abbrev EnteredBy : (g : ℕ) (s : Step) (c start : ℕ) → Type 0
+  EnteredBy g s c start = (h : ℕ) × (v : ℕ) × EntersAt (place_grammar graphs) g s h v
+      × (start ≡ number_of graphs h v) × (c ≡ s.to)
+
+  passes_enter : (g : ℕ) (s : Step) (c to start : ℕ) (passage : Passage) →
+      Passes graphs g s.to s.labels c passage → to ≡ number_of graphs g c →
+      entered_by passage to ≡ Some start → EnteredBy g s c start
+  passes_enter g s c to start Silent p at e = absurd (cc)
+  passes_enter g s c to start (Calls other) p at e =
+      let same : other ≡ start = cc in
+      (p.1.0, 0, by_call [] [] p.1.1 none, sym same ∙ p.1.2, p.0)
+  passes_enter g s c to start Opens p at e =
+      let same : to ≡ start = cc in (
+        g,
+        s.to,
+        by_opening p.1.0 p.1.1,
+        sym same ∙ (at ∙ ap (λ n. number_of graphs g n) p.0),
+        p.0,
+      )
+  passes_enter g s c to start Jumps p at e = absurd (cc)
+
+  -- a step that enters a unit is a way that does
+  abbrev EnteringWay : (g : ℕ) (s : Step) (h v : ℕ) → Type 0
+  EnteringWay g s h v = (passage : Passage) × IsWay graphs (way_at graphs g s.from s.to passage)
+      × (entered_by passage (number_of graphs g s.to) ≡ Some (number_of graphs h v))
+
+  enters_way : (g : ℕ) (s : Step) → IsPlaceStep (places_of graphs g) s → {h v : ℕ} →
+      EntersAt (place_grammar graphs) g s h v → EnteringWay g s h v
+  enters_way g s i (by_call {h = h} front back e f) =
+      let line = call_alone (length graphs) s.labels front back h (step_line graphs fit g s i) e in
+      let passage : Passage = Calls (number_of graphs h 0) in
+      (passage, is_way graphs fit g s i s.to passage (refl, (h, line, refl)), refl)
+  enters_way g s i (by_opening sign m) =
+      (Opens, is_way graphs fit g s i s.to Opens (refl, (sign, m)), refl)
+
   pub entry_pairs : (u v : ℕ) → SoOfOne ways IsEntryPair (u, v) ↔ IsEntryEdge graphs u v
-  unfolding way_step
   entry_pairs u v = (
     λ s.
         let way = s.0 in
         let w = (are.exact way).0 s.1 in
-        let c = calls_start graphs way.called w.line s.2.0 w.along.calls s.2.1 in
+        let c = passes_enter way.graph w.step way.target way.to s.2.0 way.passage w.along.passes
+        w.along.to s.2.1 in
         record {
           graph = way.graph;
-          step = way_step graphs way w.line;
-          of_graph = w.step;
-          called = c.0;
-          calls = c.1;
+          step = w.step;
+          of_graph = w.of_graph;
+          entered = c.0;
+          first = c.1;
+          enters = c.2;
           from = sym (ap (λ (p : ℕ × ℕ). p.0) s.2.2) ∙ w.along.from;
-          to = sym (ap (λ (p : ℕ × ℕ). p.1) s.2.2) ∙ c.2;
+          to = sym (ap (λ (p : ℕ × ℕ). p.1) s.2.2) ∙ c.3;
         },
     λ t.
-        let start = number_of graphs t.called 0 in
-        let way = way_at graphs t.graph t.step.from t.step.to (Some start) in (
+        let start = number_of graphs t.entered t.first in
+        let e = enters_way t.graph t.step t.of_graph t.enters in
+        let way = way_at graphs t.graph t.step.from t.step.to e.0 in (
           way,
-          (are.exact way).1 (is_way graphs fit t.graph t.step t.of_graph (Some start)
-              (t.called, t.calls, refl)),
+          (are.exact way).1 e.1,
           (
             start,
-            refl,
+            e.2,
             ap (λ n. (n, start)) (sym t.from) ∙ ap (λ n. (u, n)) (sym t.to),
           ),
         ),
@@ -147,30 +187,31 @@ module _ (graphs : List (List Place)) (fit : All (IsFit (length graphs)) graphs)
   pub entry_spots : (numbers : List ℕ) (spot : Spot) →
       SoOfOne ways (IsEntrySpot numbers) spot ↔
       IsEntryStep graphs numbers spot.graph spot.node
-  unfolding way_step
   entry_spots numbers spot = (
     λ s.
         let way = s.0 in
         let w = (are.exact way).0 s.1 in
-        let c = calls_start graphs way.called w.line s.2.0 w.along.calls s.2.1 in
+        let c = passes_enter way.graph w.step way.target way.to s.2.0 way.passage w.along.passes
+        w.along.to s.2.1 in
         subst (λ (z : Spot). IsEntryStep graphs numbers z.graph z.node) s.2.3 (record {
-          step = way_step graphs way w.line;
-          of_graph = w.step;
-          to_node = refl;
-          called = c.0;
-          calls = c.1;
+          step = w.step;
+          of_graph = w.of_graph;
+          to_node = sym c.4;
+          entered = c.0;
+          first = c.1;
+          enters = c.2;
           same = ap (λ n. get_or numbers n 0) (sym w.along.from)
-              ∙ (s.2.2 ∙ ap (λ n. get_or numbers n 0) c.2);
+              ∙ (s.2.2 ∙ ap (λ n. get_or numbers n 0) c.3);
         }),
     λ t.
-        let start = number_of graphs t.called 0 in
-        let way = way_at graphs spot.graph t.step.from t.step.to (Some start) in (
+        let start = number_of graphs t.entered t.first in
+        let e = enters_way spot.graph t.step t.of_graph t.enters in
+        let way = way_at graphs spot.graph t.step.from t.step.to e.0 in (
           way,
-          (are.exact way).1 (is_way graphs fit spot.graph t.step t.of_graph (Some start)
-              (t.called, t.calls, refl)),
+          (are.exact way).1 e.1,
           (
             start,
-            refl,
+            e.2,
             t.same,
             ap (λ n. record { graph = spot.graph; node = n }) t.to_node,
           ),
@@ -180,8 +221,8 @@ module _ (graphs : List (List Place)) (fit : All (IsFit (length graphs)) graphs)
 module _ (graphs : List (List Place)) (fit : All (IsFit (length graphs)) graphs) where
   free_below : (u v : ℕ) → IsFreeEdge graphs u v → u < all_places graphs
   free_below u v f =
-      let below = number_below graphs f.graph f.step.from
-      (step_inside (places_of graphs f.graph) f.step f.of_graph).0 in
+      let below =
+      number_below graphs f.graph f.source (move_inside graphs f.graph f.moves).0 in
       omega (arith, f.from)
 
   entry_below : (u v : ℕ) → IsEntryEdge graphs u v → u < all_places graphs

@@ -1,33 +1,14 @@
--- Words that may take nothing, and the runs along them as paths through nullable edges.
+-- Words that may take nothing, and the runs along them, one move after another.
 use Rattle.std.proofs.Common.{◌≡◌, ◌⊎◌, inl, inr, ℕ, List, [], ◌∷◌, ◌++◌, map, refl, subst, sym, ◌∙◌, true, false, append_assoc, append-nil}
 use Rattle.std.specs.Prelude.{All}
 use Rattle.std.proofs.lemmas.List.Elements.{All-head, All-tail}
 use Rattle.ux_grf.specs.declared.item.Piece.{Piece}
 use Rattle.ux_net.specs.declared.label.Label.{Label}
 use Rattle.ux_net.specs.declared.label.Label.TheVariants.{Empty, Fold, Exact, Mask, Brace, Space, Glue, Begin, End, Positive, Negative, ContextEnd, Cut, Call}
-use Rattle.ux_net.specs.Words.{Step, StepGraph, Grammar, Letter, plain, piece, context, ordinary, mark_of, Run, stop, along, across, letters, put_by}
-use Rattle.ux_net.specs.Nets.{IsPlain}
+use Rattle.ux_net.specs.Words.{Sign, Step, StepGraph, Grammar, Letter, plain, piece, context, ordinary, opens, mark_of, Run, stop, along, across, letters, put_by, IsBody}
 use Rattle.ux_net.specs.Construct.{is_call}
-use Rattle.ux_net.specs.Admissible.{IsSilent, IsFree, none, silent, call, IsNullable, LeadsFreely}
+use Rattle.ux_net.specs.Admissible.{IsSilent, IsFree, none, silent, call, IsNullable, LeadsFreely, MovesFreely, along_step, over_context}
 use Rattle.ux_net.specs.Silent.{is_silent, are_silent}
-
--- a line of labels that are compiled neither opens nor closes a context
-pub plain_ordinary : (line : List Label) → All IsPlain line → mark_of line ≡ ordinary
-plain_ordinary [] all = refl
-plain_ordinary (Empty ∷ line) all = refl
-plain_ordinary (Fold text ∷ line) all = refl
-plain_ordinary (Exact text ∷ line) all = refl
-plain_ordinary (Mask text ∷ line) all = refl
-plain_ordinary (Brace text ∷ line) all = refl
-plain_ordinary (Space ∷ line) all = refl
-plain_ordinary (Glue ∷ line) all = refl
-plain_ordinary (Begin name ∷ line) all = refl
-plain_ordinary (End name ∷ line) all = refl
-plain_ordinary (Positive ∷ line) all = absurd (All-head IsPlain Positive line all)
-plain_ordinary (Negative ∷ line) all = absurd (All-head IsPlain Negative line all)
-plain_ordinary (ContextEnd ∷ line) all = absurd (All-head IsPlain ContextEnd line all)
-plain_ordinary (Cut ∷ line) all = refl
-plain_ordinary (Call graph ∷ line) all = refl
 
 module _ (grammar : Grammar) where
   pub free_append : {u v : List Letter} → IsFree grammar u → IsFree grammar v →
@@ -130,6 +111,43 @@ module _ (grammar : Grammar) where
   free_silent (Call h ∷ line) calls f =
       let no = All-head (λ (x : Label). is_call x ≡ false) (Call h) line calls in absurd (cc)
 
+  -- a line that opens or closes a context takes something
+  pub free_ordinary : (line : List Label) → IsFree grammar (letters line) →
+      mark_of line ≡ ordinary
+  free_ordinary [] f = refl
+  free_ordinary (Empty ∷ line) f = refl
+  free_ordinary (Fold text ∷ line) f = refl
+  free_ordinary (Exact text ∷ line) f = refl
+  free_ordinary (Mask text ∷ line) f = refl
+  free_ordinary (Brace text ∷ line) f = refl
+  free_ordinary (Space ∷ line) f = refl
+  free_ordinary (Glue ∷ line) f = refl
+  free_ordinary (Begin name ∷ line) f = refl
+  free_ordinary (End name ∷ line) f = refl
+  free_ordinary (Positive ∷ line) f = absurd (no_token Positive refl refl (free_first f).0)
+  free_ordinary (Negative ∷ line) f = absurd (no_token Negative refl refl (free_first f).0)
+  free_ordinary (ContextEnd ∷ line) f = absurd (no_token ContextEnd refl refl (free_first f).0)
+  free_ordinary (Cut ∷ line) f = refl
+  free_ordinary (Call graph ∷ line) f = refl
+
+  -- a context takes nothing
+  context_free : (sign : Sign) (g opening closing : ℕ) →
+      IsFree grammar (context sign g opening closing ∷ [])
+  context_free sign g opening closing =
+      silent {letter = context sign g opening closing} tt none
+
+  -- an output before a context takes nothing
+  pub over_free : (s : Step) (sign : Sign) (g opening closing : ℕ) →
+      IsFree grammar (put_by s ++ context sign g opening closing ∷ [])
+  over_free s sign g opening closing =
+      free_append (put_free s.output) (context_free sign g opening closing)
+
+  -- what follows a context is free where all is
+  pub behind_context : (s : Step) (sign : Sign) (g opening closing : ℕ) (word : List Letter) →
+      IsFree grammar (put_by s ++ context sign g opening closing ∷ word) → IsFree grammar word
+  behind_context s sign g opening closing word f =
+      (free_first (free_parts (put_by s) (context sign g opening closing ∷ word) f).1).1
+
   pub call_nullable : {h : ℕ} → IsFree grammar (plain (Call h) ∷ []) → IsNullable grammar h
   call_nullable (silent s f) = absurd (cc)
   call_nullable (call {called = called} w c f) = (called, w, c)
@@ -154,17 +172,56 @@ module _ (g : ℕ) (graph : StepGraph) where
   one_step s i m = subst (λ w. Run g graph s.from s.to w)
       (append-nil (put_by s ++ letters s.labels)) (along s i m stop)
 
+  -- a run across a context
+  pub over_step : {closing : ℕ} {body : List Letter} (sign : Sign) (s : Step) → graph.IsStep s →
+      mark_of s.labels ≡ opens sign → IsBody g graph s.to closing body →
+      Run g graph s.from closing (put_by s ++ context sign g s.to closing ∷ [])
+  over_step sign s i m b =
+      subst (λ c. Run g graph s.from c (put_by s ++ context sign g s.to c ∷ [])) b.after
+      (across sign s b.step i m b.run b.inside b.closed stop)
+
 module _ (grammar : Grammar) where
   pub leads_joined : (g : ℕ) {a b c : ℕ} → LeadsFreely grammar g a b → LeadsFreely grammar g b c →
       LeadsFreely grammar g a c
   leads_joined g p q =
       (p.0 ++ q.0, run_joined g (grammar.graph g) p.1 q.1, free_append grammar p.2 q.2)
 
-  pub step_leads : (g : ℕ) (s : Step) → (grammar.graph g).IsStep s →
-      mark_of s.labels ≡ ordinary → IsFree grammar (letters s.labels) →
-      LeadsFreely grammar g s.from s.to
-  step_leads g s i m f = (
+  -- a move is a run that may take nothing
+  pub move_leads : (g : ℕ) {a b : ℕ} → MovesFreely grammar g a b → LeadsFreely grammar g a b
+  move_leads g (along_step s i f) = (
     put_by s ++ letters s.labels,
-    one_step g (grammar.graph g) s i m,
+    one_step g (grammar.graph g) s i (free_ordinary grammar s.labels f),
     along_free grammar s f,
   )
+  move_leads g (over_context sign s i m closes) = (
+    put_by s ++ context sign g s.to _ ∷ [],
+    over_step g (grammar.graph g) sign s i m closes.1,
+    over_free grammar s sign g s.to _,
+  )
+
+  -- a run that may take nothing is one move after another
+  pub data Moves (g : ℕ) : ℕ → ℕ → Type 0 where
+    rest : {a : ℕ} → Moves g a a
+    move : {a b c : ℕ} → MovesFreely grammar g a b → Moves g b c → Moves g a c
+
+  run_moves : (g : ℕ) {a b : ℕ} {word : List Letter} → Run g (grammar.graph g) a b word →
+      IsFree grammar word → Moves g a b
+  run_moves g stop f = rest
+  run_moves g (along {word = word} s i m r) f =
+      let p = free_parts grammar (put_by s ++ letters s.labels) word f in
+      let l = free_parts grammar (put_by s) (letters s.labels) p.0 in
+      move (along_step s i l.1) (run_moves g r p.1)
+  run_moves g (across {body = body} {word = word} sign s t i m r j n later) f =
+      move (over_context sign s i m (
+        body,
+        record {
+          step = t;
+          inside = j;
+          closed = n;
+          after = refl;
+          run = r;
+        },
+      )) (run_moves g later (behind_context grammar s sign g s.to t.to word f))
+
+  pub leads_moves : (g : ℕ) {a b : ℕ} → LeadsFreely grammar g a b → Moves g a b
+  leads_moves g l = run_moves g l.1 l.2

@@ -1,5 +1,5 @@
 -- A loop that adds what is so for one number after another.
-use Rattle.std.proofs.Common.{arith, ◌≡◌, ℕ, ◌+◌, ◌<◌, ◌≤◌, List, [], ◌∷◌, ◌++◌, length, refl, subst, sym, ◌∙◌, inl, inr, ◌↔◌, get_or}
+use Rattle.std.proofs.Common.{arith, ◌≡◌, ℕ, ◌+◌, ◌<◌, ◌≤◌, ◌⊎◌, List, [], ◌∷◌, ◌++◌, length, refl, subst, sym, ◌∙◌, inl, inr, ◌↔◌, get_or}
 use Rattle.std.specs.Prelude.{Contains, Some}
 use Rattle.std.proofs.lemmas.Option.{slice_get_read, slice_get_within, get_or_from_slice_get}
 use Rattle.std.proofs.lemmas.List.Elements.{Contains-append_left, Contains-push, Contains-push_cases}
@@ -32,6 +32,27 @@ gains_one {A} before after y IsSo is so alone =
             (Contains-push before y)
       ],
     ))
+
+-- one kind and then another
+pub gains_then : {A : Type 0} (before now after : List A) (First Then : A → Type 0) →
+    Gains before now First → Gains now after Then →
+    Gains before after (λ x. First x ⊎ Then x)
+gains_then before now after First Then first then = λ x. (
+  λ h. elim ((then x).0 h) [
+    | inl a ↦ elim ((first x).0 a) [
+      | inl b ↦ inl b
+      | inr s ↦ inr (inl s)
+    ]
+    | inr s ↦ inr (inr s)
+  ],
+  λ h. elim h [
+    | inl b ↦ (then x).1 (inl ((first x).1 (inl b)))
+    | inr e ↦ elim e [
+      | inl s ↦ (then x).1 (inl ((first x).1 (inr s)))
+      | inr s ↦ (then x).1 (inr s)
+    ]
+  ],
+)
 
 -- what is so for the next number
 pub gains_next : {A : Type 0} (before now after : List A) (count : ℕ) (IsSo : ℕ → A → Type 0) →

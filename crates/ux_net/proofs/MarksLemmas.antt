@@ -1,6 +1,6 @@
 -- What follows by the rules of the ways is which places lead freely to an end of their graph.
-use Rattle.std.proofs.Common.{arith, ◌≡◌, ℕ, ◌<◌, List, [], ◌∷◌, ◌++◌, length, refl, ap, subst, sym, ◌∙◌, inl, inr, ◌↔◌, true, false, map}
-use Rattle.std.specs.Prelude.{All, Option, Some, None, unwrap_or}
+use Rattle.std.proofs.Common.{arith, ◌≡◌, ℕ, ◌<◌, List, [], ◌∷◌, ◌++◌, length, refl, ap, subst, sym, ◌∙◌, inl, inr, ◌↔◌, true, false}
+use Rattle.std.specs.Prelude.{All}
 use Rattle.std.proofs.lemmas.List.Elements.{All-head, All-tail}
 use Rattle.ux_digraph.specs.declared.closing.Rule.{Rule}
 use Rattle.ux_digraph.specs.Rules.{Derived, fact, by, AreRulesInside}
@@ -8,34 +8,32 @@ use Rattle.ux_net.specs.declared.label.Label.{Label}
 use Rattle.ux_net.specs.declared.label.Label.TheVariants.{Empty, Fold, Exact, Mask, Brace, Space, Glue, Begin, End, Positive, Negative, ContextEnd, Cut, Call}
 use Rattle.ux_net.specs.declared.place.Place.{Place}
 use Rattle.ux_net.specs.declared.way.Way.{Way}
+use Rattle.ux_net.specs.declared.way.Passage.{Passage}
+use Rattle.ux_net.specs.declared.way.Passage.TheVariants.{Silent, Calls, Opens, Jumps}
 use Rattle.ux_net.specs.Words.{Step, Letter, plain, piece, context, Run, stop, along, across, letters, put_by}
 use Rattle.ux_net.specs.Places.{places_of, place_graph, place_grammar, IsPlaceStep, IsEndPlace}
 use Rattle.ux_net.specs.Fit.{IsFit}
 use Rattle.ux_net.specs.Construct.{is_call}
-use Rattle.ux_net.specs.Admissible.{IsSilent, IsFree, none, silent, call, IsNullable}
+use Rattle.ux_net.specs.Admissible.{IsSilent, IsFree, none, silent, call, IsNullable, MovesFreely, along_step, over_context}
+use Rattle.ux_net.specs.Gains.{Gains, SoOfOne}
 use Rattle.ux_net.specs.Numbers.{number_of, all_places}
 use Rattle.ux_net.specs.Silent.{are_silent}
-use Rattle.ux_net.specs.Ways.{CallsAt, IsWay, EndsFreely, step_along, way_at, rule_of, AreFreeRules, AreEnds, AreWays}
-use Rattle.ux_net.proofs.MapLemmas.{map_exactly}
+use Rattle.ux_net.specs.Ways.{Passes, IsWay, EndsFreely, way_at, LeadsOn, second_of, rule_of, IsRuleOf, AreFreeRules, AreEnds, AreWays}
+use Rattle.ux_net.proofs.GainsLemmas.{gains_all}
 use Rattle.ux_net.proofs.NumbersLemmas.{place_so, number_below}
-use Rattle.ux_net.proofs.FreeLemmas.{free_append, along_free, silent_free, nullable_call}
-use Rattle.ux_net.proofs.StepsLemmas.{put_step, step_inside, step_cases, step_plain, start_inside, target_from}
+use Rattle.ux_net.proofs.FreeLemmas.{silent_free, nullable_call, leads_joined, move_leads}
+use Rattle.ux_net.proofs.StepsLemmas.{step_inside, step_cases, start_inside, target_from}
+use Rattle.ux_net.proofs.WaysExact.{closer_inside}
 
 module _ (graphs : List (List Place)) (fit : All (IsFit (length graphs)) graphs) where
-  -- a step has a way
-  pub is_way : (g : ℕ) (s : Step) → IsPlaceStep (places_of graphs g) s → (called : Option ℕ) →
-      CallsAt graphs called s.labels → IsWay graphs (way_at graphs g s.from s.to called)
-  is_way g s i called c = record {
-    line = s.labels;
-    step = put_step (places_of graphs g) s i;
-    along = record {
-      graph = refl;
-      source = refl;
-      target = refl;
-      from = refl;
-      to = refl;
-      calls = c;
-    };
+  -- a step has its ways
+  pub is_way : (g : ℕ) (s : Step) → IsPlaceStep (places_of graphs g) s → (c : ℕ)
+      (passage : Passage) → Passes graphs g s.to s.labels c passage →
+      IsWay graphs (way_at graphs g s.from c passage)
+  is_way g s i c passage p = record {
+    step = s;
+    of_graph = i;
+    along = record { graph = refl; source = refl; from = refl; to = refl; passes = p };
   }
 
   pub nullable_ends : (h : ℕ) → IsNullable (place_grammar graphs) h → EndsFreely graphs h 0
@@ -50,15 +48,41 @@ module _ (graphs : List (List Place)) (fit : All (IsFit (length graphs)) graphs)
   pub ends_nullable : (h : ℕ) → EndsFreely graphs h 0 → IsNullable (place_grammar graphs) h
   ends_nullable h e = (e.word, record { last = e.last; ends = e.ends; run = e.run }, e.free)
 
-  -- a line that calls nothing, or a graph with a nullable word, is nullable
-  pub line_free : (called : Option ℕ) (line : List Label) → CallsAt graphs called line →
-      ((h : ℕ) → line ≡ Call h ∷ [] → called ≡ Some (number_of graphs h 0) →
-      EndsFreely graphs h 0) → IsFree (place_grammar graphs) (letters line)
-  line_free None line c ends = silent_free (place_grammar graphs) line c
-  line_free (Some start) line c ends =
-      subst (λ l. IsFree (place_grammar graphs) (letters l)) (sym c.1)
-      (nullable_call (place_grammar graphs) c.0
-      (ends_nullable c.0 (ends c.0 c.1 (ap (λ n. Some n) c.2))))
+  -- a way that leads on is a move, where the start that it calls leads freely to an end
+  pub passes_move : (g : ℕ) (s : Step) → IsPlaceStep (places_of graphs g) s → (c : ℕ)
+      (passage : Passage) → Passes graphs g s.to s.labels c passage → LeadsOn passage →
+      ((h : ℕ) → s.labels ≡ Call h ∷ [] → passage ≡ Calls (number_of graphs h 0) →
+      EndsFreely graphs h 0) → MovesFreely (place_grammar graphs) g s.from c
+  passes_move g s i c Silent p on ends =
+      subst (λ n. MovesFreely (place_grammar graphs) g s.from n) (sym p.0)
+      (along_step s i (silent_free (place_grammar graphs) s.labels p.1))
+  passes_move g s i c (Calls start) p on ends =
+      subst (λ n. MovesFreely (place_grammar graphs) g s.from n) (sym p.0)
+      (along_step s i (subst (λ l. IsFree (place_grammar graphs) (letters l)) (sym p.1.1)
+      (nullable_call (place_grammar graphs) p.1.0
+      (ends_nullable p.1.0 (ends p.1.0 p.1.1 (ap (λ n. Calls n) p.1.2))))))
+  passes_move g s i c Opens p on ends = absurd on
+  passes_move g s i c Jumps p on ends = over_context p.0.0 s i p.0.1 p.1
+
+  -- a way leads to a place
+  pub way_inside : (g : ℕ) (s : Step) → IsPlaceStep (places_of graphs g) s → (c : ℕ)
+      (passage : Passage) → Passes graphs g s.to s.labels c passage →
+      c < length (places_of graphs g)
+  way_inside g s i c Silent p = subst (λ n. n < length (places_of graphs g)) (sym p.0)
+      (step_inside (places_of graphs g) s i).1
+  way_inside g s i c (Calls start) p = subst (λ n. n < length (places_of graphs g)) (sym p.0)
+      (step_inside (places_of graphs g) s i).1
+  way_inside g s i c Opens p = subst (λ n. n < length (places_of graphs g)) (sym p.0)
+      (step_inside (places_of graphs g) s i).1
+  way_inside g s i c Jumps p = closer_inside graphs g s.to c p.1
+
+  -- what leads freely to an end does so behind a move
+  pub moved_ends : (g : ℕ) {a b : ℕ} → MovesFreely (place_grammar graphs) g a b →
+      EndsFreely graphs g b → EndsFreely graphs g a
+  moved_ends g m e =
+      let l = leads_joined (place_grammar graphs) g (move_leads (place_grammar graphs) g m)
+      (e.word, e.run, e.free) in
+      record { last = e.last; word = l.0; ends = e.ends; run = l.1; free = l.2 }
 
   module _ (rules : List Rule) (facts : List ℕ) (by_ways : AreFreeRules graphs rules)
       (at_ends : AreEnds graphs facts) where
@@ -77,32 +101,28 @@ module _ (graphs : List (List Place)) (fit : All (IsFit (length graphs)) graphs)
     sound (by r h first second) g a i e =
         let f = (by_ways r).0 h in
         let way = f.0 in
-        let is = f.1 in
-        let s : Step = step_along graphs way is.line in
-        let inside = step_inside (places_of graphs way.graph) s is.step in
-        let here = sound first way.graph way.target inside.1
-        (sym (ap (λ (q : Rule). q.first) f.2) ∙ is.along.to) in
-        let free = line_free way.called is.line is.along.calls (λ h l c.
-        sound second h 0 (start_inside graphs fit way.graph h s is.step l)
-        (sym (ap (λ (q : Rule). q.second) f.2) ∙ ap (λ o. unwrap_or o way.to) c)) in
-        place_so graphs (EndsFreely graphs) g way.graph a way.source i inside.0
-        (sym e ∙ (sym (ap (λ (q : Rule). q.place) f.2) ∙ is.along.from)) (record {
-          last = here.last;
-          word = (put_by s ++ letters is.line) ++ here.word;
-          ends = here.ends;
-          run = along s is.step (step_plain graphs fit way.graph s is.step) here.run;
-          free =
-              free_append (place_grammar graphs) (along_free (place_grammar graphs) s free) here.free;
-        })
+        let w = f.1 in
+        let rule = f.2.1 in
+        let from = (step_inside (places_of graphs way.graph) w.step w.of_graph).0 in
+        let to = way_inside way.graph w.step w.of_graph way.target way.passage w.along.passes in
+        let there = sound first way.graph way.target to
+        (sym (ap (λ (q : Rule). q.first) rule) ∙ w.along.to) in
+        let moves = passes_move way.graph w.step w.of_graph way.target way.passage
+        w.along.passes f.2.0 (λ h l c.
+        sound second h 0 (start_inside graphs fit way.graph h w.step w.of_graph l)
+        (sym (ap (λ (q : Rule). q.second) rule) ∙ ap (λ p. second_of p way.to) c)) in
+        place_so graphs (EndsFreely graphs) g way.graph a w.step.from i from
+        (sym e ∙ (sym (ap (λ (q : Rule). q.place) rule) ∙ w.along.from))
+        (moved_ends way.graph moves there)
 
     -- a letter that takes nothing: what it calls has a marked start
-    abbrev Passes : Letter → Type 0
-    Passes (plain (Call h)) = Derived rules facts (number_of graphs h 0)
-    Passes letter = IsSilent letter
+    abbrev IsPassed : Letter → Type 0
+    IsPassed (plain (Call h)) = Derived rules facts (number_of graphs h 0)
+    IsPassed letter = IsSilent letter
 
     abbrev AllPass : List Letter → Type 0
     AllPass [] = Unit {0}
-    AllPass (x ∷ word) = Passes x × AllPass word
+    AllPass (x ∷ word) = IsPassed x × AllPass word
 
     pass_parts : (u v : List Letter) → AllPass (u ++ v) → AllPass u × AllPass v
     pass_parts [] v p = (tt, p)
@@ -132,15 +152,16 @@ module _ (graphs : List (List Place)) (fit : All (IsFit (length graphs)) graphs)
     pass_silent (Call h ∷ line) calls p =
         let no = All-head (λ (x : Label). is_call x ≡ false) (Call h) line calls in absurd (cc)
 
-    -- a rule for a step whose target, and the start that it calls, follow
-    by_step : (g : ℕ) (s : Step) → IsPlaceStep (places_of graphs g) s → (called : Option ℕ) →
-        CallsAt graphs called s.labels → Derived rules facts (number_of graphs g s.to) →
-        Derived rules facts (unwrap_or called (number_of graphs g s.to)) →
+    -- a rule for a way whose target, and the start that it calls, follow
+    by_way : (g : ℕ) (s : Step) → IsPlaceStep (places_of graphs g) s → (c : ℕ)
+        (passage : Passage) → Passes graphs g s.to s.labels c passage → LeadsOn passage →
+        Derived rules facts (number_of graphs g c) →
+        Derived rules facts (second_of passage (number_of graphs g c)) →
         Derived rules facts (number_of graphs g s.from)
-    by_step g s i called c first second =
-        let way = way_at graphs g s.from s.to called in
+    by_way g s i c passage p on first second =
+        let way = way_at graphs g s.from c passage in
         let d : Derived rules facts (rule_of way).place = by (rule_of way)
-        ((by_ways (rule_of way)).1 (way, is_way g s i called c, refl)) first second in
+        ((by_ways (rule_of way)).1 (way, is_way g s i c passage p, (on, refl))) first second in
         d
 
     run_derived : (g : ℕ) {a b : ℕ} {word : List Letter} →
@@ -148,8 +169,13 @@ module _ (graphs : List (List Place)) (fit : All (IsFit (length graphs)) graphs)
         IsEndPlace (places_of graphs g) b → Derived rules facts (number_of graphs g a)
     run_derived g (stop {a = a}) p ends =
         fact ((at_ends (number_of graphs g a)).1 (g, a, ends, refl))
-    run_derived g (across sign s t i m body j n r) p ends =
-        let never = step_plain graphs fit g s i in absurd cc
+    run_derived g (across {body = body} {word = word} sign s t i m r j n later) p ends =
+        let rest = pass_parts (put_by s) (context sign g s.to t.to ∷ word) p in
+        let derived = run_derived g later rest.1.1 ends in
+        by_way g s i t.to Jumps (
+          (sign, m),
+          (body, record { step = t; inside = j; closed = n; after = refl; run = r }),
+        ) tt derived derived
     run_derived g (along {word = word} s i m r) p ends =
         let parts = pass_parts (put_by s ++ letters s.labels) word p in
         let line = (pass_parts (put_by s) (letters s.labels) parts.0).1 in
@@ -157,11 +183,12 @@ module _ (graphs : List (List Place)) (fit : All (IsFit (length graphs)) graphs)
         elim (step_cases graphs fit g s i) [
           | inl c ↦
               let called = subst (λ l. AllPass (letters l)) c.1 line in
-              by_step g s i (Some (number_of graphs c.0 0)) (c.0, c.1, refl) later called.0
-          | inr n ↦ by_step g s i None (pass_silent s.labels n line) later later
+              by_way g s i s.to (Calls (number_of graphs c.0 0)) (refl, (c.0, c.1, refl)) tt
+              later called.0
+          | inr n ↦ by_way g s i s.to Silent (refl, pass_silent s.labels n line) tt later later
         ]
 
-    silent_passes : (x : Letter) → IsSilent x → Passes x
+    silent_passes : (x : Letter) → IsSilent x → IsPassed x
     silent_passes (plain Empty) s = s
     silent_passes (plain (Fold text)) s = s
     silent_passes (plain (Exact text)) s = s
@@ -195,17 +222,18 @@ module _ (graphs : List (List Place)) (fit : All (IsFit (length graphs)) graphs)
       rule = λ r h.
           let f = (by_ways r).0 h in
           let way = f.0 in
-          let is = f.1 in
-          let s : Step = step_along graphs way is.line in
-          let inside = step_inside (places_of graphs way.graph) s is.step in
-          let from = number_below graphs way.graph way.source inside.0 in
-          let to = number_below graphs way.graph way.target inside.1 in
-          let rest = second_below way.called is.line way.to is.along.calls
-          (omega (arith, is.along.to))
-          (λ h l. number_below graphs h 0 (start_inside graphs fit way.graph h s is.step l)) in (
-            subst (λ (q : Rule). q.place < all_places graphs) f.2 (omega (arith, is.along.from)),
-            subst (λ (q : Rule). q.first < all_places graphs) f.2 (omega (arith, is.along.to)),
-            subst (λ (q : Rule). q.second < all_places graphs) f.2 rest,
+          let w = f.1 in
+          let rule = f.2.1 in
+          let inside = step_inside (places_of graphs way.graph) w.step w.of_graph in
+          let from = number_below graphs way.graph w.step.from inside.0 in
+          let to = number_below graphs way.graph way.target
+          (way_inside way.graph w.step w.of_graph way.target way.passage w.along.passes) in
+          let rest = second_below way.graph w.step w.of_graph way.target way.to way.passage
+          w.along.passes (omega (arith, w.along.to, to)) in (
+            subst (λ (q : Rule). q.place < all_places graphs) rule
+                (omega (arith, w.along.from, from)),
+            subst (λ (q : Rule). q.first < all_places graphs) rule (omega (arith, w.along.to, to)),
+            subst (λ (q : Rule). q.second < all_places graphs) rule rest,
           );
       start = λ x h.
           let f = (at_ends x).0 h in
@@ -214,20 +242,21 @@ module _ (graphs : List (List Place)) (fit : All (IsFit (length graphs)) graphs)
           omega (arith, f.3);
     }
       where
-        second_below : (called : Option ℕ) (line : List Label) (to : ℕ) →
-            CallsAt graphs called line → to < all_places graphs →
-            ((h : ℕ) → line ≡ Call h ∷ [] → number_of graphs h 0 < all_places graphs) →
-            unwrap_or called to < all_places graphs
-        second_below None line to c l starts = l
-        second_below (Some start) line to c l starts =
-            let b = starts c.0 c.1 in omega (arith, c.2)
+        second_below : (g : ℕ) (s : Step) → IsPlaceStep (places_of graphs g) s → (c to : ℕ)
+            (passage : Passage) → Passes graphs g s.to s.labels c passage →
+            to < all_places graphs → second_of passage to < all_places graphs
+        second_below g s i c to Silent p l = l
+        second_below g s i c to (Calls start) p l =
+            let b = number_below graphs p.1.0 0 (start_inside graphs fit g p.1.0 s i p.1.1) in
+            omega (arith, p.1.2)
+        second_below g s i c to Opens p l = l
+        second_below g s i c to Jumps p l = l
 
 -- the rules that are made of the ways are those of the ways
 pub rules_by_ways : (graphs : List (List Place)) (ways : List Way) → AreWays graphs ways →
-    (rules : List Rule) → rules ≡ map rule_of ways → AreFreeRules graphs rules
-rules_by_ways graphs ways are rules is =
-    subst (λ (rs : List Rule). AreFreeRules graphs rs) (sym is) (λ r.
-    let m = map_exactly rule_of ways r in (
-      λ h. let w = m.0 h in (w.0, (are.exact w.0).0 w.1, w.2),
-      λ w. m.1 (w.0, (are.exact w.0).1 w.1, w.2),
-    ))
+    (rules : List Rule) → Gains [] rules (SoOfOne ways IsRuleOf) → AreFreeRules graphs rules
+rules_by_ways graphs ways are rules made = λ r.
+    let all = gains_all rules (SoOfOne ways IsRuleOf) made r in (
+      λ h. let w = all.0 h in (w.0, (are.exact w.0).0 w.1, w.2),
+      λ w. all.1 (w.0, (are.exact w.0).1 w.1, w.2),
+    )

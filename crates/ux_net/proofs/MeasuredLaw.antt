@@ -14,20 +14,23 @@ use Rattle.ux_net.specs.declared.net_graph.NetGraph.{NetGraph}
 use Rattle.ux_net.specs.declared.net_graph.Rank.{Rank}
 use Rattle.ux_net.specs.declared.state.Edge.{Edge}
 use Rattle.ux_net.specs.declared.state.State.{State}
-use Rattle.ux_net.specs.Words.{Step}
-use Rattle.ux_net.specs.Places.{label_lines, place_output, place_targets, IsPlaceStep, places_of}
-use Rattle.ux_net.specs.Nets.{graph_at, states_in, IsCalled, AreInside, ArePlain}
+use Rattle.ux_net.specs.Words.{Letter, Sign, positive, negative, opens, mark_of, IsBody}
+use Rattle.ux_net.specs.Places.{label_lines, place_targets, IsPlaceStep, places_of}
+use Rattle.ux_net.specs.Closers.{ClosesInto}
+use Rattle.ux_net.specs.Closings.{closings_at, Ascend}
+use Rattle.ux_net.specs.Nets.{graph_at, states_in, net_graph, net_grammar, IsCalled, AreInside}
 use Rattle.ux_net.specs.Nets.{states_of as net_states}
-use Rattle.ux_net.specs.Measured.{width_of, weigh, rank_in, rank_of, frees_in, must, IsLower, Falls, IsMeasured}
+use Rattle.ux_net.specs.Measured.{width_of, weigh, rank_in, rank_of, frees_in, must, IsLower, FallsOver, Falls, IsMeasured}
 use Rattle.ux_net.specs.Sound.{IsSound}
 use Rattle.ux_net.specs.Construct.{is_call, IsLine, edge_labels, has_state, number, line_at, called_at, labels_at, chain_len, first_chain, target_of, states_of, AreFit}
 use Rattle.ux_net.specs.Silent.{is_silent, are_silent}
 use Rattle.ux_net.specs.Admission.{place_rank, is_place_free, IsLowerPlace, ArePlaceRanks}
-use Rattle.ux_net.specs.Ranks.{silent_len, rest_rank, rest_free, above, call_rank, call_free, chain_rank, chain_free, chain_rank_at, chain_free_at, state_ranks, state_frees, AreCallsInside, AreAllFit, AreBuilt}
+use Rattle.ux_net.specs.Ranks.{silent_len, rest_rank, rest_free, above, call_rank, call_free, chain_rank, chain_free, chain_rank_at, chain_free_at, state_ranks, state_frees, AreCallsInside, AreAllFit, row_of, AreBuilt}
+use Rattle.ux_net.proofs.ClosingsLemmas.{none_ascend, closings_ascend}
 use Rattle.ux_net.proofs.EdgeLabelsLemmas.{each_label}
 use Rattle.ux_net.proofs.JoinedLemmas.{less_or, contains_first}
 use Rattle.ux_net.proofs.StatesLemmas.{line_there, line_called, labels_called, place_inside, get_place, get_chain, Stands, of_a_place, of_a_line, stands}
-use Rattle.ux_net.proofs.ConstructLaw.{one_in, lt_then, lt_else, drop_whole, has_line, not_end, starts, place_is, chain_is, OfLabel, of_label, edges_plain, targets_inside, states_some, states_few, states_length}
+use Rattle.ux_net.proofs.ConstructLaw.{one_in, lt_then, lt_else, drop_whole, has_line, not_end, starts, place_is, chain_is, old_step, old_is_step, OfLabel, of_label, drawn, closes_back, targets_inside, states_some, states_few, states_length}
 
 -- an element's number is at most the sum of all
 sum_has : {A : Type 0} (f : A → ℕ) (xs : List A) (i : ℕ) (x : A) → slice_get xs i ≡ Some x →
@@ -206,9 +209,9 @@ module _ (places : List Place) (fit : AreFit places) where
           let yes : is_call (get_or (x ∷ y ∷ ys) k Empty) ≡ true = ap is_call is in
           cc
 
-module _ (graphs : List (List Place)) (ranks : List (List ℕ)) (free : List (List Bool))
+module _ (graphs : List (List Place)) (rows ranks : List (List ℕ)) (free : List (List Bool))
     (built : List NetGraph) (fit : AreAllFit graphs) (inside : AreCallsInside graphs)
-    (ranked : ArePlaceRanks graphs ranks free) (made : AreBuilt graphs ranks free built) where
+    (ranked : ArePlaceRanks graphs ranks free) (made : AreBuilt graphs rows ranks free built) where
   abbrev places : ℕ → List Place
   places g = places_of graphs g
 
@@ -232,7 +235,7 @@ module _ (graphs : List (List Place)) (ranks : List (List ℕ)) (free : List (Li
       (graph : NetGraph) × (graph_at built g ≡ Some graph)
   graph_there zero from to = absurd (omega arith)
   graph_there (suc n) from to =
-      let d : NetGraph = record { name = []; states = []; ranks = []; free = [] } in
+      let d : NetGraph = record { name = []; states = []; ranks = []; free = []; closings = [] } in
       let e = made.count in
       (get_or built n d, slice_get-get_or built n d (omega arith))
 
@@ -276,17 +279,25 @@ module _ (graphs : List (List Place)) (ranks : List (List ℕ)) (free : List (Li
     pub mark : Bool
     pub marked_so : slice_get (state_frees ranks free g (places g)) n ≡ Some mark
 
+  rank_lower : (g from to : ℕ) (graph : NetGraph) → graph_at built g ≡ Some graph →
+      (high : Marked g from) (low : Marked g to) → IsLowerRank low.rank high.rank →
+      rank_of built g to < rank_of built g from
+  rank_lower g from to graph there high low falls =
+      let h = rank_is g from graph high.rank there high.ranked_so in
+      let l = rank_is g to graph low.rank there low.ranked_so in
+      let w = lower_weighs (width_of built) low.rank high.rank l.1 falls in
+      let a = h.0 in
+      let b = l.0 in
+      omega arith
+
   lower : (g from to : ℕ) (graph : NetGraph) → graph_at built g ≡ Some graph →
       (high : Marked g from) (low : Marked g to) → IsLowerRank low.rank high.rank →
       (low.mark ≡ true → high.mark ≡ true) → IsLower built g from to
   lower g from to graph there high low falls marks =
-      let h = rank_is g from graph high.rank there high.ranked_so in
-      let l = rank_is g to graph low.rank there low.ranked_so in
-      let w = lower_weighs (width_of built) low.rank high.rank l.1 falls in
       let f = free_is g from graph high.mark there high.marked_so in
       let t = free_is g to graph low.mark there low.marked_so in
       let m = at_most high.mark low.mark marks in
-      ((let a = h.0 in let b = l.0 in omega arith), omega arith)
+      (rank_lower g from to graph there high low falls, omega arith)
     where
       at_most : (from to : Bool) → (to ≡ true → from ≡ true) → cond from 0 1 ≤ cond to 0 1
       at_most true to h = omega arith
@@ -351,25 +362,6 @@ module _ (graphs : List (List Place)) (ranks : List (List ℕ)) (free : List (Li
             (is_place_free free g b) (drop (0 + 1) (labels g b l)))) is;
       }
 
-  -- the step of the places along a line of a target
-  abbrev step_of : ℕ → ℕ → ℕ → ℕ → Step
-  step_of g a b l = record {
-    from = a;
-    to = b;
-    output = place_output (places g) b;
-    labels = line g b l;
-  }
-
-  is_step : (g a b l : ℕ) → AreFit (places g) → has_state (places g) a ≡ true →
-      Contains (place_targets (places g) a) b → l < length (label_lines (places g) b) →
-      IsPlaceStep (places g) (step_of g a b l)
-  is_step g a b l ok has leads at = record {
-    before_end = not_end (places g) ok a has;
-    leads = leads;
-    line = line_there (places g) b l at;
-    puts = refl;
-  }
-
   -- the first label of a line, from a place
   first_lower : (g a b l : ℕ) (graph : NetGraph) → graph_at built g ≡ Some graph →
       (ok : AreFit (places g)) → has_state (places g) a ≡ true →
@@ -394,7 +386,7 @@ module _ (graphs : List (List Place)) (ranks : List (List ℕ)) (free : List (Li
   first_silent g a b l graph there ok has leads at lt none silent =
       let rest = drop (0 + 1) (labels g b l) in
       first_lower g a b l graph there ok has at lt none (λ h.
-      ranked.silent g (step_of g a b l) (is_step g a b l ok has leads at)
+      ranked.silent g (old_step (places g) ok a b l) (old_is_step (places g) ok a b l has leads at)
       (ap are_silent (sym (as_drawn (places g) ok b l none) ∙ line_from (labels g b l) 0 lt)
       ∙ (ap (λ b. b && are_silent rest) silent ∙ h)))
 
@@ -504,7 +496,8 @@ module _ (graphs : List (List Place)) (ranks : List (List ℕ)) (free : List (Li
       × (must built h 0 ≡ 0 → IsLower built g (number (places g) a) (target_of (places g) b l 0))
   first_call g h a b l graph there ok has leads at lt none only =
       let start = start_of g h b l at only in
-      let falls = ranked.calls g h (step_of g a b l) (is_step g a b l ok has leads at) only in (
+      let falls = ranked.calls g h (old_step (places g) ok a b l)
+      (old_is_step (places g) ok a b l has leads at) only in (
         above_start g h (number (places g) a) graph there (of_place g a has) start
             (inl (let f = falls.0 in omega arith)),
         λ free_start. first_lower g a b l graph there ok has at lt none
@@ -539,6 +532,47 @@ module _ (graphs : List (List Place)) (ranks : List (List ℕ)) (free : List (Li
         | inr later ↦ absurd (let a = only.0 in let e = later.2 in omega arith)
       ]
 
+  -- a body of the net is one of its states
+  net_body : (g : ℕ) (graph : NetGraph) → graph_at built g ≡ Some graph → (n c : ℕ) →
+      ClosesInto (net_grammar built) g n c →
+      (word : List Letter) × IsBody g (net_graph (states_of (places g))) n c word
+  net_body g graph there n c into =
+      let same : net_states built g ≡ states_of (places g) =
+      ap states_in there ∙ (made.each g graph there).states in (
+        into.0,
+        subst (λ (s : List State). IsBody g (net_graph s) n c into.0) same into.1,
+      )
+
+  -- a step of the places that opens a context
+  step_opens : (g a b l : ℕ) (graph : NetGraph) → graph_at built g ≡ Some graph →
+      (ok : AreFit (places g)) → (sign : Sign) → has_state (places g) a ≡ true →
+      IsPlaceStep (places g) (old_step (places g) ok a b l) →
+      l < length (label_lines (places g) b) → mark_of (line g b l) ≡ opens sign →
+      FallsOver built g (number (places g) a) (number (places g) b)
+  step_opens g a b l graph there ok sign has step at mark =
+      let falls = ranked.opens g (old_step (places g) ok a b l) sign step mark in
+      let has_b = has_line (places g) ok b l at in (
+        rank_lower g (number (places g) a) (number (places g) b) graph there (of_place g a has)
+            (of_place g b has_b) (inl (let f = falls.0 in omega arith)),
+        λ n into.
+            let body = net_body g graph there (number (places g) b) n into in
+            let c = closes_back graphs g ok b n has_b body.0 body.1 in
+            let behind = falls.1 c.0 c.3 in
+            subst (λ m. IsLower built g (number (places g) a) m) (sym c.2)
+            (lower g (number (places g) a) (number (places g) c.0) graph there (of_place g a has)
+            (of_place g c.0 c.1) (inl (let f = behind.falls in omega arith)) behind.marked),
+      )
+
+  opening_falls : (g n : ℕ) (edge : Edge) (graph : NetGraph) → graph_at built g ≡ Some graph →
+      (ok : AreFit (places g)) (o : OfLabel (places g) ok n edge) → (sign : Sign) →
+      mark_of (edge.label ∷ []) ≡ opens sign → FallsOver built g n edge.target
+  opening_falls g n edge graph there ok o sign mark =
+      let d = drawn (places g) ok n edge o (λ plain. absurd cc) in
+      subst (λ m. FallsOver built g m edge.target) (sym d.at)
+      (subst (λ t. FallsOver built g (number (places g) d.from) t) (sym d.leads)
+      (step_opens g d.from o.place o.line graph there ok sign d.has d.step o.inside
+      (d.mark ∙ mark)))
+
   label_falls : (g n : ℕ) (edge : Edge) (graph : NetGraph) → graph_at built g ≡ Some graph →
       (ok : AreFit (places g)) (o : OfLabel (places g) ok n edge) →
       called g o.place o.line ≡ None → (label : Label) → edge.label ≡ label →
@@ -548,8 +582,12 @@ module _ (graphs : List (List Place)) (ranks : List (List ℕ)) (free : List (Li
   label_falls g n edge graph there ok o none (Mask text) is = tt
   label_falls g n edge graph there ok o none (Brace text) is = tt
   label_falls g n edge graph there ok o none Space is = tt
-  label_falls g n edge graph there ok o none Positive is = tt
-  label_falls g n edge graph there ok o none Negative is = tt
+  label_falls g n edge graph there ok o none Positive is =
+      opening_falls g n edge graph there ok o positive
+      (ap (λ (label : Label). mark_of (label ∷ [])) is)
+  label_falls g n edge graph there ok o none Negative is =
+      opening_falls g n edge graph there ok o negative
+      (ap (λ (label : Label). mark_of (label ∷ [])) is)
   label_falls g n edge graph there ok o none ContextEnd is = tt
   label_falls g n edge graph there ok o none (Begin name) is =
       silent_falls g n edge graph there ok o none (ap is_silent is)
@@ -571,7 +609,8 @@ module _ (graphs : List (List Place)) (ranks : List (List ℕ)) (free : List (Li
       called g b l ≡ Some h →
       IsLower built g (number (places g) a) (first_chain (places g) b l + 0)
   output_lower g h a b l graph there ok has leads at is =
-      let falls = ranked.calls g h (step_of g a b l) (is_step g a b l ok has leads at)
+      let falls = ranked.calls g h (old_step (places g) ok a b l)
+      (old_is_step (places g) ok a b l has leads at)
       (line_called (places g) ok b l h at is) in
       let below = call_below (place_rank ranks h 0) (place_rank ranks g b) (place_rank ranks g a)
       (is_place_free free h 0) falls.0 (λ marked. (falls.1 marked).falls) in
@@ -664,14 +703,14 @@ module _ (graphs : List (List Place)) (ranks : List (List ℕ)) (free : List (Li
       go (Some h) is = behind_falls g n h edge graph there ok o is
 
   -- a state of the net is one of the states of its graph
-  record InGraph (g n : ℕ) (state : State) : Type 0 where
-    graph : NetGraph
-    there : graph_at built g ≡ Some graph
-    ok : AreFit (places g)
-    found : slice_get (states_of (places g)) n ≡ Some state
-    same : net_states built g ≡ states_of (places g)
+  pub record InGraph (g n : ℕ) (state : State) : Type 0 where
+    pub graph : NetGraph
+    pub there : graph_at built g ≡ Some graph
+    pub ok : AreFit (places g)
+    pub found : slice_get (states_of (places g)) n ≡ Some state
+    pub same : net_states built g ≡ states_of (places g)
 
-  in_graph : (g n : ℕ) (state : State) → slice_get (net_states built g) n ≡ Some state →
+  pub in_graph : (g n : ℕ) (state : State) → slice_get (net_states built g) n ≡ Some state →
       InGraph g n state
   in_graph g n state found = go (graph_at built g) refl found
     where
@@ -741,11 +780,12 @@ module _ (graphs : List (List Place)) (ranks : List (List ℕ)) (free : List (Li
         };
   }
 
-  -- every edge has a plain label
-  pub built_is_plain : ArePlain built
-  built_is_plain g n state edge found within =
-      let i = in_graph g n state found in
-      edges_plain (places g) i.ok n state edge i.found within
+  -- the entries of each graph ascend
+  ascends : (g : ℕ) (o : Option NetGraph) → graph_at built g ≡ o → Ascend (closings_at o)
+  ascends g None is = none_ascend
+  ascends g (Some graph) is =
+      subst Ascend (sym (made.each g graph is).closings)
+      (closings_ascend (places g) (graph_fit g graph is) (row_of graphs rows g))
 
   -- all that holds of every net
   pub built_is_sound : 1 ≤ length graphs → length graphs ≤ 65535 → IsSound built
@@ -758,6 +798,6 @@ module _ (graphs : List (List Place)) (ranks : List (List ℕ)) (free : List (Li
             subst (λ (s : List State). length s < 4294967296) (sym (made.each g graph there).states)
             (states_few (places g) (graph_fit g graph there));
         inside = built_is_inside;
-        plain = built_is_plain;
         measured = built_is_measured;
+        closings = λ g. ascends g (graph_at built g) refl;
       }

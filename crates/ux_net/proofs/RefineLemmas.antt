@@ -1,6 +1,6 @@
 -- A graph that refines another, its ordinary steps taken apart and its places numbered, has the same
 -- words and the same bodies of contexts, but for the numbers of places.
-use Rattle.std.proofs.Common.{◌≡◌, ℕ, List, [], ◌∷◌, ◌++◌, map, sym, ◌∙◌, ap, subst, ◌⊎◌, inl, inr, append_assoc, append-nil}
+use Rattle.std.proofs.Common.{◌≡◌, ℕ, List, [], ◌∷◌, ◌++◌, map, refl, sym, ◌∙◌, ap, subst, ◌⊎◌, inl, inr, append_assoc, append-nil}
 use Rattle.ux_grf.specs.declared.item.Piece.{Piece}
 use Rattle.ux_net.specs.declared.label.Label.{Label}
 use Rattle.ux_net.specs.declared.label.Label.TheVariants.{Empty, Fold, Exact, Mask, Brace, Space, Glue, Begin, End, Positive, Negative, ContextEnd, Cut, Call}
@@ -302,13 +302,15 @@ module _ (old : Grammar) (number : (g place : ℕ) → ℕ) where
         let e = refines.ends_back word.last r.last r.rest r.ahead word.ends in
         (r.word, whole r e.0, record { last = r.last; ends = e.1; run = r.run })
 
-    bodies : (opening closing : ℕ) → HasPlace old g opening → HasPlace old g closing →
-        (v : List Letter) → IsBody g Old opening closing v →
-        (w : List Letter) × AreRenumbered old number v w
+    -- an old body is a new one
+    pub body_forth : (opening closing : ℕ) → HasPlace old g opening → (v : List Letter) →
+        IsBody g Old opening closing v →
+        HasPlace old g closing × (w : List Letter) × AreRenumbered old number v w
         × IsBody g new (state opening) (state closing) w
-    bodies opening closing a b v body =
+    body_forth opening closing a v body =
         let r = run_forth body.run a in
         let t = refines.forth_closes body.step r.3 body.inside body.closed in (
+          subst (λ n. HasPlace old g n) body.after (refines.keeps body.step r.3 body.inside),
           r.0,
           r.1,
           record {
@@ -320,32 +322,45 @@ module _ (old : Grammar) (number : (g place : ℕ) → ℕ) where
           },
         )
 
-    bodies_back : (opening closing : ℕ) → HasPlace old g opening → HasPlace old g closing →
-        (w : List Letter) → IsBody g new (state opening) (state closing) w →
-        (v : List Letter) × AreRenumbered old number v w × IsBody g Old opening closing v
-    bodies_back opening closing a b w body =
+    -- and a new one from an old place is an old one
+    pub body_back : (opening n : ℕ) → HasPlace old g opening → (w : List Letter) →
+        IsBody g new (state opening) n w →
+        (closing : ℕ) × HasPlace old g closing × (n ≡ state closing)
+        × (v : List Letter) × AreRenumbered old number v w × IsBody g Old opening closing v
+    body_back opening n a w body =
         let r = run_back body.run opening [] (refines.here opening a) in
         let c = refines.back_closes body.step r.last r.rest body.inside body.closed r.ahead in
         let s = c.1 in
         let from : HasPlace old g s.from = subst (λ n. HasPlace old g n) (sym c.3)
         (refines.place body.step.from r.last r.rest r.ahead) in (
+          s.to,
+          refines.keeps s from c.2,
+          sym body.after ∙ c.4.to,
           r.word,
           whole r c.0,
           record {
             step = s;
             inside = c.2;
             closed = sym c.4.mark ∙ body.closed;
-            after =
-                refines.apart s.to closing (refines.keeps s from c.2) b (sym c.4.to ∙ body.after);
+            after = refl;
             run = subst (λ x. Run g Old opening x r.word) (sym c.3) r.run;
           },
         )
+
+    bodies_back : (opening closing : ℕ) → HasPlace old g opening → HasPlace old g closing →
+        (w : List Letter) → IsBody g new (state opening) (state closing) w →
+        (v : List Letter) × AreRenumbered old number v w × IsBody g Old opening closing v
+    bodies_back opening closing a b w body =
+        let r = body_back opening (state closing) a w body in
+        let same = refines.apart r.0 closing r.1 b (sym r.2) in
+        (r.3, r.4, subst (λ c. IsBody g Old opening c r.3) same r.5)
 
     -- the law: a graph that refines another says the same
     pub refined_same : IsSame g new
     refined_same = record {
       words = words;
       words_back = words_back;
-      bodies = bodies;
+      bodies = λ opening closing a b v body.
+          let r = body_forth opening closing a v body in (r.1, r.2, r.3);
       bodies_back = bodies_back;
     }

@@ -1,6 +1,5 @@
--- The first box of which something is so, as the graphs are looked at one after another: one that
--- isn't compiled yet, or has a bad mask text.
-use Rattle.std.proofs.Common.{arith, ◌≡◌, ℕ, zero, suc, ◌+◌, ◌<◌, ◌≤◌, List, [], ◌∷◌, ◌++◌, refl, sym, ◌∙◌, ap, subst, true, false, length, get_or, take, None, Some, String, Global, ◌⊎◌, inl, inr}
+-- The first box of which something is so, as the graphs are looked at one after another.
+use Rattle.std.proofs.Common.{arith, ◌≡◌, ℕ, zero, suc, ◌+◌, ◌<◌, ◌≤◌, List, [], ◌∷◌, ◌++◌, refl, sym, ◌∙◌, ap, subst, length, get_or, take, None, Some, String, Global, ◌⊎◌, inl, inr}
 use Rattle.std.specs.Prelude.{All, slice_get, string_bytes}
 use Rattle.std.specs.Option.{option_map}
 use Rattle.std.proofs.lemmas.List.{length-map, take_more, take_all, map-append, length-take-le, take-map, get_or-take}
@@ -10,13 +9,13 @@ use Rattle.ux_alphabet.specs.Letters.{Letters}
 use Rattle.ux_grf.specs.declared.graph.Graph.{Graph}
 use Rattle.ux_grf.specs.declared.graph.GrfBox.{GrfBox}
 use Rattle.ux_net.specs.declared.error.NetError.{NetError}
-use Rattle.ux_net.specs.declared.error.NetError.TheVariants.{MissingGraph, BadMask, NotYet, EmptyLoop, LeftRecursion, NoMemory}
+use Rattle.ux_net.specs.declared.error.NetError.TheVariants.{MissingGraph, BadMask, ContextClose, NegativeRecursion, EmptyLoop, LeftRecursion, NoMemory}
 use Rattle.ux_net.specs.declared.bad_masks.BadText.{BadText}
 use Rattle.ux_net.specs.Admissible.{IsFirst}
 use Rattle.ux_net.specs.BadMasks.{IsFirstBadBox}
 use Rattle.ux_net.specs.Boxes.{Drawn, boxes_in, boxes_of}
 use Rattle.ux_net.specs.MaskTexts.{mask_texts_in, HaveMasks, IsFirstBad}
-use Rattle.ux_net.specs.Refusing.{drawn_of, drawn, has_beyond, HasNoBeyond, beyond_in, IsFirstBeyond, IsBeyondAt, AreCompiled, AreMasked, is_named, IsFirstBadMask, IsFirstNamed, IsCompilable, Refuses, calls_in}
+use Rattle.ux_net.specs.Refusing.{drawn_of, drawn, AreMasked, is_named, IsFirstBadMask, IsCompilable, Refuses, calls_in}
 use Rattle.ux_net.proofs.MaskTextsLemmas.{HasBadText, none_bad, no_box_bad, bad_here, bad_least}
 
 -- a graph given with its name
@@ -112,39 +111,6 @@ module _ (IsGood : List GrfBox → Type 0) (IsSo : List GrfBox → (node : ℕ) 
           (subst (λ (boxes : List GrfBox). IsSo boxes m) (boxes_here graphs i graph within is) so);
     }
 
--- no box of a graph without one is beyond
-none_at : (boxes : List GrfBox) (m : ℕ) → HasNoBeyond boxes →
-    beyond_in (slice_get boxes m) ≡ false
-none_at boxes m all = by (slice_get_cases boxes m).1
-  where
-    by : ((b : GrfBox) × (m < length boxes) × (slice_get boxes m ≡ Some b)
-        × (get_or boxes m b ≡ b)) ⊎ ((length boxes ≤ m) × (slice_get boxes m ≡ None)) →
-        beyond_in (slice_get boxes m) ≡ false
-    by (inl h) =
-        ap beyond_in h.2 ∙ (ap has_beyond (sym h.3) ∙ all m h.0 h.1)
-    by (inr past) = ap beyond_in past.1
-
-abbrev IsBeyond : List GrfBox → (node : ℕ) → Type 0
-IsBeyond boxes node = beyond_in (slice_get boxes node) ≡ true
-
-none_beyond : (boxes : List GrfBox) (m : ℕ) → HasNoBeyond boxes → IsBeyond boxes m → ⊥
-none_beyond boxes m all so = let none = none_at boxes m all in cc
-
-no_box_beyond : (m : ℕ) → IsBeyond [] m → ⊥
-no_box_beyond m so = let none = none_at [] m (All-nil (λ (b : GrfBox). has_beyond b ≡ false)) in cc
-
--- the first box that isn't compiled yet
-pub found_first : (graphs : List Given) (i : ℕ) (graph : Given) → i < length graphs →
-    graph ≡ get_or graphs i graph → AreCompiled (drawn (take i graphs)) → (node : ℕ) →
-    IsFirstBeyond graph.1.boxes node →
-    IsFirstNamed (drawn graphs) (IsBeyondAt (drawn graphs)) (string_bytes graph.0) node
-found_first graphs i graph within is before node first = (
-  suc i,
-  named_here graphs i graph within is,
-  first_found HasNoBeyond IsBeyond none_beyond no_box_beyond graphs i graph within is before node
-      first.here (λ m low so. let off = first.least m low in cc),
-)
-
 -- the first box with a bad mask text
 pub found_bad : (graphs : List Given) (i : ℕ) (graph : Given) → i < length graphs →
     graph ≡ get_or graphs i graph → AreMasked (drawn (take i graphs)) → (bad : BadText) →
@@ -170,9 +136,10 @@ compilable_not_refused alphabet graphs (MissingGraph name) c r =
     )))
 compilable_not_refused alphabet graphs (BadMask name node place) c r =
     absurd (good_none HaveMasks HasBadText none_bad no_box_bad graphs c.masked r.1.0 node r.1.2.here)
-compilable_not_refused alphabet graphs (NotYet name node) c r =
-    absurd (good_none HasNoBeyond IsBeyond none_beyond no_box_beyond graphs c.compiled r.2.0 node
-    r.2.2.here)
+compilable_not_refused alphabet graphs (ContextClose name node) c r =
+    absurd (c.contexts.closed r.2.0 node r.2.2.here)
+compilable_not_refused alphabet graphs (NegativeRecursion name) c r =
+    absurd (c.contexts.no_recursion r.3.0 r.3.2.here)
 compilable_not_refused alphabet graphs (EmptyLoop name node) c r =
     absurd (c.admissible.no_empty_loop r.3.0 node r.3.2.here)
 compilable_not_refused alphabet graphs (LeftRecursion name node) c r =

@@ -1,8 +1,9 @@
 -- Where each graph of a grammar has all steps and ends of that of another, the same words, loops and
 -- recursions take nothing in it.
-use Rattle.std.proofs.Common.{◌≡◌, ℕ, List, subst, inl, inr}
+use Rattle.std.proofs.Common.{◌≡◌, ℕ, List, subst, sym, ◌∙◌, inl, inr}
 use Rattle.ux_net.specs.Words.{Step, StepGraph, Grammar, Letter, Run, stop, along, across, IsWord, IsBody, IsRenumbered, same_plain, same_piece, same_context, AreRenumbered, SayTheSame}
-use Rattle.ux_net.specs.Admissible.{IsFree, none, silent, call, LeadsFreely, Enters, EntersInTurns, once, more, IsOnEmptyLoop, IsLeftRecursive, IsAdmissible, IsFirst}
+use Rattle.ux_net.specs.Closers.{ClosesInto}
+use Rattle.ux_net.specs.Admissible.{IsFree, none, silent, call, LeadsFreely, MovesFreely, along_step, over_context, IsUnit, EntersAt, by_call, by_opening, Enters, EntersInTurns, once, more, IsOnEmptyLoop, IsLeftRecursive, IsAdmissible, IsFirst}
 
 -- the second graph starts where the first does, and has its places, ends and steps
 pub record IsWithin (old new : StepGraph) : Type 0 where
@@ -48,39 +49,68 @@ module _ (old new : Grammar) (within : (g : ℕ) → IsWithin (old.graph g) (new
   leads_within g a b l =
       (l.0, run_within g (old.graph g) (new.graph g) (within g) l.1, free_within l.2)
 
-  enters_within : (g h node : ℕ) → Enters old g h node → Enters new g h node
-  enters_within g h node e = record {
+  closes_within : (g a c : ℕ) → ClosesInto old g a c → ClosesInto new g a c
+  closes_within g a c b =
+      (b.0, body_within g (old.graph g) (new.graph g) (within g) a c b.0 b.1)
+
+  unit_within : (g first : ℕ) → IsUnit old g first → IsUnit new g first
+  unit_within g first (inl e) = inl (e ∙ (within g).start)
+  unit_within g first (inr o) = inr (
+    o.0,
+    record {
+      step = o.1.step;
+      of_graph = (within g).steps o.1.step o.1.of_graph;
+      to = o.1.to;
+      opens = o.1.opens;
+    },
+  )
+
+  move_within : (g : ℕ) {a b : ℕ} → MovesFreely old g a b → MovesFreely new g a b
+  move_within g (along_step s i f) = along_step s ((within g).steps s i) (free_within f)
+  move_within g (over_context {closing = c} sign s i m b) =
+      over_context sign s ((within g).steps s i) m (closes_within g s.to c b)
+
+  entry_within : (g : ℕ) (s : Step) {h v : ℕ} → EntersAt old g s h v → EntersAt new g s h v
+  entry_within g s (by_call {h = h} front back e f) =
+      subst (λ v. EntersAt new g s h v) (sym (within h).start)
+      (by_call front back e (free_within f))
+  entry_within g s (by_opening sign m) = by_opening sign m
+
+  enters_within : (g u h v node : ℕ) → Enters old g u h v node → Enters new g u h v node
+  enters_within g u h v node e = record {
     step = e.step;
     of_graph = (within g).steps e.step e.of_graph;
     to_node = e.to_node;
-    leads = subst (λ a. LeadsFreely new g a e.step.from) (within g).start
-        (leads_within g (old.graph g).start e.step.from e.leads);
-    front = e.front;
-    back = e.back;
-    splits = e.splits;
-    free = free_within e.free;
+    leads = leads_within g u e.step.from e.leads;
+    enters = entry_within g e.step e.enters;
   }
 
-  turns_within : {g h : ℕ} → EntersInTurns old g h → EntersInTurns new g h
-  turns_within (once {g = g} {h = h} {node = node} e) = once (enters_within g h node e)
-  turns_within (more {g = g} {h = h} {node = node} e rest) =
-      more (enters_within g h node e) (turns_within rest)
+  turns_within : {g u h v : ℕ} → EntersInTurns old g u h v → EntersInTurns new g u h v
+  turns_within (once {g = g} {u = u} {h = h} {v = v} {node = node} e) =
+      once (enters_within g u h v node e)
+  turns_within (more {g = g} {u = u} {h = h} {v = v} {node = node} e rest) =
+      more (enters_within g u h v node e) (turns_within rest)
 
   pub loop_within : (g node : ℕ) → IsOnEmptyLoop old g node → IsOnEmptyLoop new g node
   loop_within g node o = record {
+    first = o.first;
+    unit = unit_within g o.first o.unit;
     word = o.word;
-    reached = subst (λ a. Run g (new.graph g) a node o.word) (within g).start
-        (run_within g (old.graph g) (new.graph g) (within g) o.reached);
-    step = o.step;
-    of_graph = (within g).steps o.step o.of_graph;
-    begins = o.begins;
-    free = free_within o.free;
-    back = leads_within g o.step.to node o.back;
+    reached = run_within g (old.graph g) (new.graph g) (within g) o.reached;
+    next = o.next;
+    moves = move_within g o.moves;
+    back = leads_within g o.next node o.back;
   }
 
   pub recursion_within : (g node : ℕ) → IsLeftRecursive old g node → IsLeftRecursive new g node
-  recursion_within g node r =
-      (r.0, enters_within g r.0 node r.1, elim r.2 [ inl e ↦ inl e | inr t ↦ inr (turns_within t) ])
+  recursion_within g node r = record {
+    first = r.first;
+    unit = unit_within g r.first r.unit;
+    entered_graph = r.entered_graph;
+    entered_first = r.entered_first;
+    enters = enters_within g r.first r.entered_graph r.entered_first node r.enters;
+    returns = elim r.returns [ inl e ↦ inl e | inr t ↦ inr (turns_within t) ];
+  }
 
 -- what is first, where two facts hold of the same nodes
 pub first_so : (P Q : (g node : ℕ) → Type 0) → ((g n : ℕ) → P g n → Q g n) →

@@ -6,16 +6,19 @@ use Rattle.ux_alphabet.specs.Letters.{Letters}
 use Rattle.ux_grf.specs.declared.graph.GrfBox.{GrfBox}
 use Rattle.ux_base.specs.Distinct.{StandOnce}
 use Rattle.ux_net.specs.declared.error.NetError.{NetError}
-use Rattle.ux_net.specs.declared.error.NetError.TheVariants.{MissingGraph, BadMask, NotYet, EmptyLoop, LeftRecursion, NoMemory}
+use Rattle.ux_net.specs.declared.error.NetError.TheVariants.{MissingGraph, BadMask, ContextClose, NegativeRecursion, EmptyLoop, LeftRecursion, NoMemory}
 use Rattle.ux_net.specs.declared.place.Place.{Place}
 use Rattle.ux_net.specs.Admissible.{IsOnEmptyLoop, IsLeftRecursive, IsAdmissible}
 use Rattle.ux_net.specs.Boxes.{Drawn, boxes_in, boxes_of, names_of, box_reached_in, box_targets_in, targets_at, box_graph, box_grammar}
 use Rattle.ux_net.specs.Places.{ArePlaces, places_in, places_of, is_reached, reached_in, place_graph, place_grammar}
-use Rattle.ux_net.specs.Compiling.{AreSplit, RefusesPlaces}
-use Rattle.ux_net.specs.Refusing.{AreWhole, AreMasked, AreCompiled, Refuses}
+use Rattle.ux_net.specs.Compiling.{AreSplit, HasSoundContexts, RefusesPlaces, RefusesContexts, RefusesRecursion, RefusesNet}
+use Rattle.ux_net.specs.ContextClose.{IsBadContext, AreClosed}
+use Rattle.ux_net.specs.NegativeRecursion.{HasNoNegativeRecursion, IsFirstNegative}
+use Rattle.ux_net.specs.Refusing.{AreWhole, AreMasked, HaveSoundContexts, Refuses}
 use Rattle.ux_net.proofs.JoinedLemmas.{less_or, nothing_in}
 use Rattle.ux_net.proofs.StepsLemmas.{step_inside, target_from}
 use Rattle.ux_net.proofs.SameGraph.{place_step, box_step}
+use Rattle.ux_net.proofs.SameContexts.{bad_within, closed_within, negative_within}
 use Rattle.ux_net.proofs.SameGrammar.{IsWithin, loop_within, recursion_within, first_so, admissible_within}
 
 -- without boxes nothing leads anywhere
@@ -75,8 +78,7 @@ module _ (alphabet : Letters) (names : List (List ℕ)) (boxes : List GrfBox)
   }
 
 module _ (alphabet : Letters) (graphs : List Drawn) (places : List (List Place))
-    (once : StandOnce (names_of graphs)) (are : AreSplit alphabet graphs places)
-    (all_compiled : AreCompiled graphs) where
+    (once : StandOnce (names_of graphs)) (are : AreSplit alphabet graphs places) where
   pub to_places : (g : ℕ) → IsWithin
       (box_graph alphabet (names_of graphs) (boxes_of graphs g)) (place_graph (places_of places g))
   to_places zero = none_to_places alphabet (names_of graphs) [] [] refl
@@ -115,16 +117,74 @@ module _ (alphabet : Letters) (graphs : List Drawn) (places : List (List Place))
       IsOnEmptyLoop (place_grammar places) g n
   loop_places = loop_within (box_grammar alphabet graphs) (place_grammar places) to_places
 
-  -- what the places show, the boxes do
-  pub refused : (error : NetError) → AreWhole graphs → AreMasked graphs →
-      RefusesPlaces (names_of graphs) places error → Refuses alphabet graphs error
-  refused (MissingGraph name) whole masked r = absurd r
-  refused (BadMask name node place) whole masked r = absurd r
-  refused (NotYet name node) whole masked r = absurd r
-  refused (EmptyLoop name node) whole masked (g, named, first) = (
+  -- the contexts of the boxes are closed where those of the places are
+  pub boxes_closed : AreClosed (place_grammar places) → AreClosed (box_grammar alphabet graphs)
+  boxes_closed =
+      closed_within (place_grammar places) (box_grammar alphabet graphs) to_boxes to_places
+
+  pub boxes_sound : AreClosed (place_grammar places) →
+      HasNoNegativeRecursion (place_grammar places) → HaveSoundContexts alphabet graphs
+  boxes_sound closed none = record {
+    closed = boxes_closed closed;
+    no_recursion = λ g n. none g
+        (negative_within (box_grammar alphabet graphs) (place_grammar places) to_places g n);
+  }
+
+  -- a context that the places show, the boxes do
+  refused_context : AreWhole graphs → AreMasked graphs → (error : NetError) →
+      RefusesContexts (names_of graphs) places error → Refuses alphabet graphs error
+  refused_context whole masked (MissingGraph name) r = absurd r
+  refused_context whole masked (BadMask name node place) r = absurd r
+  refused_context whole masked (ContextClose name node) (g, named, first) = (
     whole,
     masked,
-    all_compiled,
+    (
+      g,
+      named,
+      first_so (IsBadContext (place_grammar places)) (IsBadContext (box_grammar alphabet graphs))
+          (bad_within (place_grammar places) (box_grammar alphabet graphs) to_boxes to_places)
+          (bad_within (box_grammar alphabet graphs) (place_grammar places) to_places to_boxes)
+          g node first,
+    ),
+  )
+  refused_context whole masked (NegativeRecursion name) r = absurd r
+  refused_context whole masked (EmptyLoop name node) r = absurd r
+  refused_context whole masked (LeftRecursion name node) r = absurd r
+  refused_context whole masked NoMemory r = tt
+
+  first_negative : (g : ℕ) → IsFirstNegative (place_grammar places) g →
+      IsFirstNegative (box_grammar alphabet graphs) g
+  first_negative g first = record {
+    here = negative_within (place_grammar places) (box_grammar alphabet graphs) to_boxes g first.here;
+    least = λ h low so. first.least h low
+        (negative_within (box_grammar alphabet graphs) (place_grammar places) to_places h so);
+  }
+
+  -- so is a negative context that comes back to itself
+  refused_recursion : AreWhole graphs → AreMasked graphs → AreClosed (place_grammar places) →
+      (error : NetError) → RefusesRecursion (names_of graphs) places error →
+      Refuses alphabet graphs error
+  refused_recursion whole masked closed (MissingGraph name) r = absurd r
+  refused_recursion whole masked closed (BadMask name node place) r = absurd r
+  refused_recursion whole masked closed (ContextClose name node) r = absurd r
+  refused_recursion whole masked closed (NegativeRecursion name) (g, named, first) =
+      (whole, masked, boxes_closed closed, (g, named, first_negative g first))
+  refused_recursion whole masked closed (EmptyLoop name node) r = absurd r
+  refused_recursion whole masked closed (LeftRecursion name node) r = absurd r
+  refused_recursion whole masked closed NoMemory r = tt
+
+  -- and loops, and units that begin with themselves
+  refused_places : AreWhole graphs → AreMasked graphs → HasSoundContexts (place_grammar places) →
+      (error : NetError) → RefusesPlaces (names_of graphs) places error →
+      Refuses alphabet graphs error
+  refused_places whole masked sound (MissingGraph name) r = absurd r
+  refused_places whole masked sound (BadMask name node place) r = absurd r
+  refused_places whole masked sound (ContextClose name node) r = absurd r
+  refused_places whole masked sound (NegativeRecursion name) r = absurd r
+  refused_places whole masked sound (EmptyLoop name node) (g, named, first) = (
+    whole,
+    masked,
+    boxes_sound sound.closed sound.no_recursion,
     (
       g,
       named,
@@ -132,10 +192,10 @@ module _ (alphabet : Letters) (graphs : List Drawn) (places : List (List Place))
           loop_boxes loop_places g node first,
     ),
   )
-  refused (LeftRecursion name node) whole masked (no_loop, (g, named, first)) = (
+  refused_places whole masked sound (LeftRecursion name node) (no_loop, (g, named, first)) = (
     whole,
     masked,
-    all_compiled,
+    boxes_sound sound.closed sound.no_recursion,
     λ h m so. no_loop h m (loop_places h m so),
     (
       g,
@@ -147,4 +207,15 @@ module _ (alphabet : Letters) (graphs : List Drawn) (places : List (List Place))
           g node first,
     ),
   )
-  refused NoMemory whole masked r = tt
+  refused_places whole masked sound NoMemory r = tt
+
+  -- what the places show, the boxes do
+  pub refused : (error : NetError) → AreWhole graphs → AreMasked graphs →
+      RefusesNet (names_of graphs) places error → Refuses alphabet graphs error
+  refused error whole masked r = elim r [
+    | inl context ↦ refused_context whole masked error context
+    | inr later ↦ elim later [
+      | inl recursion ↦ refused_recursion whole masked recursion.0 error recursion.1
+      | inr rest ↦ refused_places whole masked rest.0 error rest.1
+    ]
+  ]

@@ -1,21 +1,18 @@
--- What fit places give: steps stay inside, lines are calls or have none, reached places have runs.
-use Rattle.std.proofs.Common.{arith, ◌≡◌, ◌≢◌, ℕ, zero, suc, ◌<◌, ◌≤◌, List, [], ◌∷◌, ◌++◌, length, refl, ap, subst, sym, ◌∙◌, ◌⊎◌, inl, inr, Bool, true, false, get_or, map, set}
+-- What fit places give: steps stay inside, and lines are calls or have none.
+use Rattle.std.proofs.Common.{arith, ◌≡◌, ℕ, ◌<◌, ◌≤◌, List, [], ◌∷◌, ◌++◌, length, refl, ap, subst, sym, ◌∙◌, ◌⊎◌, inl, inr, false}
 use Rattle.std.specs.Prelude.{Contains, All}
 use Rattle.std.proofs.lemmas.Option.{slice_get_past}
-use Rattle.std.proofs.lemmas.List.{length-map, get_or-set_same, get_or-set_other}
-use Rattle.std.proofs.lemmas.List.Elements.{All-nil, All-cons, All-head, All-tail, All-contains, All-contains_itself, All-weaker, Contains-get_or}
-use Rattle.ux_digraph.proofs.Lists.{nothing_in, less_or, same_or}
-use Rattle.ux_grf.specs.Reached.{row_of, Reached, start, step}
+use Rattle.std.proofs.lemmas.List.Elements.{All-nil, All-cons, All-head, All-tail, All-contains, All-contains_itself, All-weaker}
+use Rattle.ux_digraph.proofs.Lists.{nothing_in, less_or}
 use Rattle.ux_net.specs.declared.label.Label.{Label}
 use Rattle.ux_net.specs.declared.label.Label.TheVariants.{Empty, Fold, Exact, Mask, Brace, Space, Glue, Begin, End, Positive, Negative, ContextEnd, Cut, Call}
 use Rattle.ux_net.specs.declared.place.Place.{Place}
-use Rattle.ux_net.specs.Words.{Step, Letter, ordinary, mark_of, Run, stop, along, across, letters, put_by}
-use Rattle.ux_net.specs.Places.{places_of, place_graph, place_output, place_targets, targets_in, label_lines, is_reached, lines_in, IsPlaceStep}
-use Rattle.ux_net.specs.Nets.{IsCalled, IsPlain}
+use Rattle.ux_net.specs.Words.{Step}
+use Rattle.ux_net.specs.Places.{places_of, place_targets, targets_in, label_lines, lines_in, IsPlaceStep}
+use Rattle.ux_net.specs.Nets.{IsCalled}
 use Rattle.ux_net.specs.Construct.{is_call}
-use Rattle.ux_net.specs.Fit.{IsFit, IsFitLine, place_ways}
+use Rattle.ux_net.specs.Fit.{IsFit, IsFitLine}
 use Rattle.ux_net.proofs.NumbersLemmas.{graph_so, graph_so_at}
-use Rattle.ux_net.proofs.FreeLemmas.{plain_ordinary, run_joined, one_step}
 
 pub target_from : (places : List Place) (a b : ℕ) → Contains (place_targets places a) b →
     a < length places
@@ -37,13 +34,6 @@ pub step_inside : (places : List Place) (s : Step) → IsPlaceStep places s →
     (s.from < length places) × (s.to < length places)
 step_inside places s i =
     (target_from places s.from s.to i.leads, line_from places s.to s.labels i.line)
-
--- the step of places has the output of the place to which it leads
-pub put_step : (places : List Place) (s : Step) → IsPlaceStep places s →
-    IsPlaceStep places
-    (record { from = s.from; to = s.to; output = place_output places s.to; labels = s.labels })
-put_step places s i =
-    record { before_end = i.before_end; leads = i.leads; line = i.line; puts = refl }
 
 no_call_in : (front back : List Label) (h : ℕ) →
     All (λ (x : Label). is_call x ≡ false) (front ++ Call h ∷ back) → ⊥
@@ -117,89 +107,6 @@ call_inside count line h fit e = elim (fit_cases count line fit) [
       (subst (λ l. All (λ (x : Label). is_call x ≡ false) l) e n))
 ]
 
-targets_at : (places : List Place) (u : ℕ) →
-    get_or (map (λ (place : Place). place.targets) places) u [] ≡ place_targets places u
-targets_at [] u = refl
-targets_at (place ∷ places) zero = refl
-targets_at (place ∷ places) (suc u) = targets_at places u
-
-module _ (g count : ℕ) (places : List Place) (fit : IsFit count places) where
-  -- a step neither opens nor closes a context
-  pub plain_step : (s : Step) → IsPlaceStep places s → mark_of s.labels ≡ ordinary
-  plain_step s i = plain_ordinary s.labels
-      (All-contains (All IsPlain) (label_lines places s.to) s.labels (fit.plain s.to) i.line)
-
-  -- a way leads from a place other than the end to a target
-  way_leads : (u v : ℕ) → Contains (row_of (place_ways places) u) v →
-      (u ≢ 1) × Contains (place_targets places u) v
-  way_leads u v h =
-      let targets : List (List ℕ) = map (λ (place : Place). place.targets) places in
-      let two = fit.two in
-      let l = length-map places (λ (place : Place). place.targets) in
-      elim (same_or u 1) [
-        | inl e ↦ absurd (nothing_in {x = v}
-            (subst (λ (row : List ℕ). Contains row v)
-            (get_or-set_same targets 1 [] [] (omega arith))
-            (subst (λ n. Contains (get_or (set targets 1 []) n []) v) e h)))
-        | inr n ↦ (
-          n,
-          subst (λ (row : List ℕ). Contains row v)
-              (get_or-set_other targets 1 u [] [] n ∙ targets_at places u) h,
-        )
-      ]
-
-  -- a run from the start leads to each place that is reached, other than the end
-  pub reached_run : {n : ℕ} → Reached (place_ways places) n → n ≢ 1 →
-      (word : List Letter) × Run g (place_graph places) 0 n word
-  reached_run start apart = ([], stop)
-  reached_run (step {u = u} {v = v} r e) apart =
-      let way = way_leads u v e in
-      let before = reached_run r way.0 in
-      let inside = fit.inside u v way.1 in
-      let lined = fit.lined v ((fit.reached v inside).1 (step r e)) apart in
-      let line = get_or (label_lines places v) 0 [] in
-      let s : Step =
-      record { from = u; to = v; output = place_output places v; labels = line } in
-      let i : IsPlaceStep places s = record {
-        before_end = way.0;
-        leads = way.1;
-        line = Contains-get_or (label_lines places v) 0 [] lined;
-        puts = refl;
-      } in (
-        before.0 ++ (put_by s ++ letters line),
-        run_joined g (place_graph places) before.1
-            (one_step g (place_graph places) s i (plain_step s i)),
-      )
-
-  -- where a line leads to the beginning of a run, one leads to its end
-  run_lined : {a b : ℕ} {word : List Letter} {line : List Label} →
-      Contains (label_lines places a) line → Run g (place_graph places) a b word →
-      (last : List Label) × Contains (label_lines places b) last
-  run_lined {line = line} h stop = (line, h)
-  run_lined h (along s i m r) = run_lined i.line r
-  run_lined h (across sign s t i m body j n r) = run_lined j.line r
-
-  -- a run from the start leads to a place other than the end that has a line
-  pub lined_run : (n : ℕ) (line : List Label) → Contains (label_lines places n) line → n ≢ 1 →
-      (word : List Letter) × Run g (place_graph places) 0 n word
-  lined_run n line h apart = elim (either (is_reached places n)) [
-    | inl e ↦ reached_run ((fit.reached n (line_from places n line h)).0 e) apart
-    | inr e ↦ absurd (nothing_in {x = line}
-        (subst (λ (lines : List (List Label)). Contains lines line) (fit.bare n (inr e)) h))
-  ]
-    where
-      either : (b : Bool) → (b ≡ true) ⊎ (b ≡ false)
-      either true = inl refl
-      either false = inr refl
-
-  -- where a run leads on from a step to where it began, one leads there from the start
-  pub back_run : (s : Step) (word : List Letter) → IsPlaceStep places s →
-      Run g (place_graph places) s.to s.from word →
-      (word : List Letter) × Run g (place_graph places) 0 s.from word
-  back_run s word i r =
-      let last = run_lined i.line r in
-      lined_run s.from last.0 last.1 i.before_end
-
 module _ (graphs : List (List Place)) (fit : All (IsFit (length graphs)) graphs) where
   -- each step is along a fit line
   pub step_line : (g : ℕ) (s : Step) → IsPlaceStep (places_of graphs g) s →
@@ -209,14 +116,6 @@ module _ (graphs : List (List Place)) (fit : All (IsFit (length graphs)) graphs)
       (step_inside (places_of graphs g) s i).0 in
       All-contains (IsFitLine (length graphs)) (label_lines (places_of graphs g) s.to) s.labels
       (f.lines s.to) i.line
-
-  -- each step is along a line that neither opens nor closes a context
-  pub step_plain : (g : ℕ) (s : Step) → IsPlaceStep (places_of graphs g) s →
-      mark_of s.labels ≡ ordinary
-  step_plain g s i =
-      let f = graph_so (IsFit (length graphs)) graphs fit g s.from
-      (step_inside (places_of graphs g) s i).0 in
-      plain_step g (length graphs) (places_of graphs g) f s i
 
   -- each step is along one call, or calls nothing
   pub step_cases : (g : ℕ) (s : Step) → IsPlaceStep (places_of graphs g) s →

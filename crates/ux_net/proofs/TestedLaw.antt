@@ -1,6 +1,6 @@
 -- What follows of graphs that pass the tests before that of loops: what is built of their places is
 -- the net of their boxes.
-use Rattle.std.proofs.Common.{arith, ◌≡◌, ◌+◌, ◌<◌, ◌≤◌, ℕ, List, [], ◌∷◌, ◌++◌, get_or, length, take, sym, ◌∙◌, ap, subst}
+use Rattle.std.proofs.Common.{arith, ◌≡◌, ◌+◌, ◌*◌, ◌<◌, ◌≤◌, ℕ, List, [], ◌∷◌, ◌++◌, get_or, length, take, sym, ◌∙◌, ap, subst}
 use Rattle.std.specs.Prelude.{All, string_bytes}
 use Rattle.std.proofs.lemmas.List.{length-map, map-append}
 use Rattle.ux_alphabet.specs.Letters.{Letters}
@@ -9,22 +9,26 @@ use Rattle.ux_grf.specs.WellFormed.{IsWellFormed}
 use Rattle.ux_net.specs.declared.error.NetError.{NetError}
 use Rattle.ux_net.specs.declared.net_graph.NetGraph.{NetGraph}
 use Rattle.ux_net.specs.declared.place.Place.{Place}
-use Rattle.ux_net.specs.Admissible.{IsAdmissible}
 use Rattle.ux_net.specs.Boxes.{Drawn, box_grammar, names_of}
-use Rattle.ux_net.specs.Compiling.{AreTested, IsBuiltOf, IsConstructed, RefusesPlaces}
+use Rattle.ux_net.specs.Compiling.{AreTested, IsBuiltOf, IsConstructed, IsSoundGrammar, RefusesNet}
 use Rattle.ux_net.specs.Construct.{AreFit}
 use Rattle.ux_net.specs.Fit.{IsFit}
+use Rattle.ux_net.specs.Closings.{TellsClosings}
+use Rattle.ux_net.specs.Marked.{IsMarked}
 use Rattle.ux_net.specs.Nets.{net_grammar}
+use Rattle.ux_net.specs.Numbers.{all_places}
 use Rattle.ux_net.specs.Places.{place_grammar}
 use Rattle.ux_net.specs.Refusing.{drawn, drawn_of, IsCompilable, Refuses}
 use Rattle.ux_net.specs.Sound.{IsSound}
 use Rattle.ux_net.specs.Words.{SayTheSame}
-use Rattle.ux_net.proofs.AllFitLemmas.{all_fit, all_few, all_are_fit, each_is_fit, calls_inside}
+use Rattle.ux_net.proofs.AllFitLemmas.{all_fit, all_few, all_places_few, all_are_fit, each_is_fit, calls_inside}
 use Rattle.ux_net.proofs.BuiltLemmas.{constructed, boxes_same}
+use Rattle.ux_net.proofs.ClosingsLaw.{built_tells}
+use Rattle.ux_net.proofs.MarkedLaw.{built_is_marked}
 use Rattle.ux_net.proofs.MeasuredLaw.{built_is_sound}
 use Rattle.ux_net.proofs.MissingLemmas.{Differ, stand_once}
 use Rattle.ux_net.proofs.RefusingLemmas.{Given}
-use Rattle.ux_net.proofs.SplitLemmas.{boxes_admissible, refused}
+use Rattle.ux_net.proofs.SplitLemmas.{boxes_admissible, boxes_sound, refused}
 use Rattle.ux_net.proofs.SplittingLemmas.{take-next}
 
 -- the names of the graphs up to a place, and the one there
@@ -51,50 +55,67 @@ module _ (alphabet : Letters) (graphs : List Given)
     (differ : Differ graphs) (places : List (List Place))
     (tested : AreTested alphabet (drawn graphs) places) where
   pub tested_fit : All (IsFit (length places)) places
-  tested_fit = all_fit alphabet graphs places formed small tested.compiled tested.split
+  tested_fit = all_fit alphabet graphs places formed small tested.split
 
   pub tested_few : All (λ (p : List Place). length p ≤ 65535) places
-  tested_few = all_few alphabet graphs places formed small tested.compiled tested.split
+  tested_few = all_few alphabet graphs places formed small tested.split
 
   pub tested_are_fit : All AreFit places
-  tested_are_fit = all_are_fit alphabet graphs places formed small tested.compiled tested.split
+  tested_are_fit = all_are_fit alphabet graphs places formed small tested.split
 
   pub tested_count : length places ≡ length graphs
   tested_count = tested.split.count ∙ length-map graphs drawn_of
 
-  pub tested_compilable : IsAdmissible (place_grammar places) →
+  pub tested_compilable : IsSoundGrammar (place_grammar places) →
       IsCompilable alphabet (drawn graphs)
-  tested_compilable admissible = record {
+  tested_compilable sound = record {
     whole = tested.whole;
     masked = tested.masked;
-    compiled = tested.compiled;
+    contexts = boxes_sound alphabet (drawn graphs) places (stand_once graphs differ) tested.split
+        sound.contexts.closed sound.contexts.no_recursion;
     admissible = boxes_admissible alphabet (drawn graphs) places (stand_once graphs differ)
-        tested.split tested.compiled admissible;
+        tested.split sound.admissible;
   }
 
   module _ (net : List NetGraph) (built : IsBuiltOf (names_of (drawn graphs)) places net) where
     pub tested_constructed : IsConstructed alphabet (drawn graphs) net
     tested_constructed =
-        constructed alphabet (drawn graphs) places built.ranks built.free net tested.split
+        constructed alphabet (drawn graphs) places built.rows built.ranks built.free net tested.split
         built.built built.named
 
     pub tested_same : SayTheSame (box_grammar alphabet (drawn graphs)) (net_grammar net)
     tested_same =
-        boxes_same places built.ranks built.free net
-        (each_is_fit alphabet graphs places formed small tested.compiled tested.split) built.built
-        alphabet (drawn graphs) (stand_once graphs differ) tested.split tested.compiled
+        boxes_same places built.rows built.ranks built.free net
+        (each_is_fit alphabet graphs places formed small tested.split) built.built
+        alphabet (drawn graphs) (stand_once graphs differ) tested.split
 
     pub tested_sound : 0 < length graphs → length graphs ≤ 65535 → IsSound net
     tested_sound some few =
         let count = tested_count in
-        built_is_sound places built.ranks built.free net
-        (each_is_fit alphabet graphs places formed small tested.compiled tested.split)
+        built_is_sound places built.rows built.ranks built.free net
+        (each_is_fit alphabet graphs places formed small tested.split)
         (calls_inside places tested_fit) built.ranked built.built (omega (arith, count, some))
         (omega (arith, count, few))
 
+    pub tested_marked : length graphs ≤ 65535 → IsMarked net
+    tested_marked few =
+        let all = all_places_few places tested_few in
+        let count = tested_count in
+        built_is_marked places built.rows built.ranks built.free net built.levels
+        (each_is_fit alphabet graphs places formed small tested.split)
+        (calls_inside places tested_fit) built.ranked built.built built.closing built.leveled
+        (let most : all_places places ≤ 65535 * 65535 = omega (arith, all, count, few) in
+        omega (arith, most))
+
+    pub tested_told : TellsClosings net
+    tested_told =
+        built_tells places built.rows built.ranks built.free net
+        (each_is_fit alphabet graphs places formed small tested.split)
+        (calls_inside places tested_fit) built.ranked built.built built.closing built.closed
+
   pub tested_refused : (error : NetError) →
-      RefusesPlaces (names_of (drawn graphs)) places error →
+      RefusesNet (names_of (drawn graphs)) places error →
       Refuses alphabet (drawn graphs) error
   tested_refused error refuses =
-      refused alphabet (drawn graphs) places (stand_once graphs differ) tested.split tested.compiled
-      error tested.whole tested.masked refuses
+      refused alphabet (drawn graphs) places (stand_once graphs differ) tested.split error
+      tested.whole tested.masked refuses

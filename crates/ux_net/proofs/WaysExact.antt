@@ -1,20 +1,20 @@
 -- The ways of all graphs are those of each, from each place, to each target; and the same for ends.
-use Rattle.std.proofs.Common.{arith, ◌≡◌, ◌≢◌, ℕ, zero, suc, ◌+◌, ◌-◌, ◌<◌, ◌≤◌, List, [], length, refl, ap, subst, sym, ◌∙◌, get_or}
+use Rattle.std.proofs.Common.{arith, ◌≡◌, ◌≢◌, ℕ, zero, suc, ◌+◌, ◌-◌, ◌<◌, ◌≤◌, List, [], length, refl, ap, subst, sym, ◌∙◌, ◌↔◌, get_or}
 use Rattle.std.specs.Prelude.{Contains, All}
 use Rattle.std.proofs.lemmas.List.{get_or_default}
-use Rattle.std.proofs.lemmas.List.Elements.{Contains-get_or}
+use Rattle.std.proofs.lemmas.List.Elements.{All-contains_itself, All-weaker, Contains-get_or}
 use Rattle.ux_net.specs.declared.label.Label.{Label}
 use Rattle.ux_net.specs.declared.place.Place.{Place}
 use Rattle.ux_net.specs.declared.way.Way.{Way}
-use Rattle.ux_net.specs.Places.{places_of, place_targets, label_lines, IsEndPlace}
+use Rattle.ux_net.specs.Places.{places_of, place_output, place_targets, place_grammar, label_lines, IsEndPlace}
+use Rattle.ux_net.specs.Closers.{ClosesInto, AreClosers}
 use Rattle.ux_net.specs.Fit.{IsFit, IsFitLine}
 use Rattle.ux_net.specs.Gains.{Gains, SoBelow, SoOfOne}
 use Rattle.ux_net.specs.Numbers.{number_of, AreOffsets}
-use Rattle.ux_net.specs.Ways.{step_along, way_at, IsWayAlong, IsWay, IsWayOf, IsWayFrom, IsEndNumber}
+use Rattle.ux_net.specs.Ways.{IsWayAlong, IsWay, IsWayOf, IsWayFrom, IsEndNumber}
 use Rattle.ux_net.proofs.GainsLemmas.{gains_as}
 use Rattle.ux_net.proofs.NumbersLemmas.{places_at, graph_inside, graph_so_at, number_below}
 use Rattle.ux_net.proofs.StepsLemmas.{step_inside, target_from, targets_inside}
-use Rattle.ux_net.proofs.WayLemmas.{way_same}
 
 -- what is so of an element is so of one of some place
 found : {A : Type 0} (xs : List A) (d y : A) → Contains xs y → (IsSo : A → Type 0) → IsSo y →
@@ -49,36 +49,32 @@ module _ (graphs : List (List Place)) where
       let targets = place_targets (places_of graphs g) a in
       let b = get_or targets s.0 0 in
       let line : List Label = s.2.0 in
-      let along : IsWayAlong graphs g a b line way = s.2.2 in
-      let made : IsWay graphs (way_at graphs g a b way.called) = record {
-        line = line;
-        step = record {
-          before_end = apart;
-          leads = Contains-get_or targets s.0 0 s.1;
-          line = s.2.1;
-          puts = refl;
-        };
-        along = record {
-          graph = refl;
-          source = refl;
-          target = refl;
-          from = refl;
-          to = refl;
-          calls = along.calls;
-        };
-      } in
-      let same = way_same (way_at graphs g a b way.called) way (sym along.graph)
-      (sym along.source) (sym along.target) (sym along.from) (sym along.to) in
-      ((subst (λ (w : Way). IsWay graphs w) same made, along.graph), along.source)
+      let along : IsWayAlong graphs g a b line way = s.2.2 in (
+        record {
+          step = record {
+            from = a;
+            to = b;
+            output = place_output (places_of graphs g) b;
+            labels = line;
+          };
+          of_graph = record {
+            before_end = apart;
+            leads = Contains-get_or targets s.0 0 s.1;
+            line = s.2.1;
+            puts = refl;
+          };
+          along = along;
+        },
+        along.source,
+      )
 
-  -- a way of its graph, from its place, is along a line of a target
-  way_to : (way : Way) → IsWay graphs way →
-      SoBelow (length (place_targets (places_of graphs way.graph) way.source))
-      (λ k. IsWayTo way.graph way.source
-      (get_or (place_targets (places_of graphs way.graph) way.source) k 0)) way
-  way_to way w =
-      found (place_targets (places_of graphs way.graph) way.source) 0 way.target w.step.leads
-      (λ b. IsWayTo way.graph way.source b way) (w.line, w.step.line, w.along)
+  -- a way of its graph is along a line of a target of the place where its step begins
+  way_to : (g : ℕ) (way : Way) (w : IsWayOf graphs g way) →
+      SoBelow (length (place_targets (places_of graphs g) w.step.from))
+      (λ k. IsWayTo g w.step.from (get_or (place_targets (places_of graphs g) w.step.from) k 0)) way
+  way_to g way w =
+      found (place_targets (places_of graphs g) w.step.from) 0 w.step.to w.of_graph.leads
+      (λ b. IsWayTo g w.step.from b way) (w.step.labels, w.of_graph.line, w.along)
 
   -- the ways from a place are those to each target
   pub gains_from : (before after : List Way) (g a : ℕ) → a ≢ 1 →
@@ -91,11 +87,8 @@ module _ (graphs : List (List Place)) where
       (IsWayFrom graphs g a) (λ way. (
         way_from g a apart way,
         λ w. subst (λ n. SoBelow (length (place_targets (places_of graphs g) n))
-            (λ k. IsWayTo g n (get_or (place_targets (places_of graphs g) n) k 0)) way) w.1
-            (subst (λ h. SoBelow (length (place_targets (places_of graphs h) way.source))
-            (λ k. IsWayTo h way.source
-            (get_or (place_targets (places_of graphs h) way.source) k 0)) way) w.0.1
-            (way_to way w.0.0)),
+            (λ k. IsWayTo g n (get_or (place_targets (places_of graphs g) n) k 0)) way)
+            (sym w.0.along.source ∙ w.1) (way_to g way w.0),
       )) gains
 
   -- the ways of a graph are those from each place
@@ -108,8 +101,8 @@ module _ (graphs : List (List Place)) where
         λ s. s.2.0,
         λ w. (
           way.source,
-          subst (λ h. way.source < length (places_of graphs h)) w.1
-              (step_inside (places_of graphs way.graph) (step_along graphs way w.0.line) w.0.step).0,
+          subst (λ n. n < length (places_of graphs g)) (sym w.along.source)
+              (step_inside (places_of graphs g) w.step w.of_graph).0,
           (w, refl),
         ),
       )) gains
@@ -121,15 +114,24 @@ module _ (graphs : List (List Place)) where
   gains_graphs before after gains =
       gains_as before after (SoBelow (length graphs) (λ k. IsWayOf graphs (k + 1)))
       (IsWay graphs) (λ way. (
-        λ s. s.2.0,
+        λ s. subst (λ g. IsWayOf graphs g way) (sym s.2.along.graph) s.2,
         λ w.
-            let start =
-            (step_inside (places_of graphs way.graph) (step_along graphs way w.line) w.step).0 in
-            let inside = graph_inside graphs way.graph way.source start in
+            let start = (step_inside (places_of graphs way.graph) w.step w.of_graph).0 in
+            let inside = graph_inside graphs way.graph w.step.from start in
             let low = inside.0 in
             let high = inside.1 in
-            (way.graph - 1, omega (arith, low, high), (w, omega (arith, low))),
+            let same : way.graph ≡ way.graph - 1 + 1 = omega (arith, low) in (
+              way.graph - 1,
+              omega (arith, low, high),
+              subst (λ g. IsWayOf graphs g way) same w,
+            ),
       )) gains
+
+  -- a place into which a body is closed is a place
+  pub closer_inside : (g a c : ℕ) → ClosesInto (place_grammar graphs) g a c →
+      c < length (places_of graphs g)
+  closer_inside g a c body = subst (λ n. n < length (places_of graphs g)) body.1.after
+      (step_inside (places_of graphs g) body.1.step body.1.inside).1
 
   number_is : (offsets : List ℕ) → AreOffsets graphs offsets → (k n : ℕ) → k < length graphs →
       get_or offsets k 0 + n ≡ number_of graphs (suc k) n
@@ -150,6 +152,27 @@ module _ (graphs : List (List Place)) where
       let below = number_below graphs g n inside in
       let few = are.few in
       omega (arith, at, below, few)
+
+  -- the row of a place has the places into which contexts from there are closed
+  pub row_at : (closers : List (List ℕ)) → AreClosers graphs closers → (g b k : ℕ)
+      (row : List ℕ) → b < length (places_of graphs g) → k ≡ number_of graphs g b →
+      row ≡ get_or closers k [] →
+      (c : ℕ) → Contains row c ↔ ClosesInto (place_grammar graphs) g b c
+  row_at closers are g b k row inside e is =
+      subst (λ (cs : List ℕ). (c : ℕ) →
+      Contains cs c ↔ ClosesInto (place_grammar graphs) g b c)
+      (sym (is ∙ ap (λ n. get_or closers n []) e)) (λ c. are.row g b c inside)
+
+  pub row_room : (offsets : List ℕ) → AreOffsets graphs offsets → (g b : ℕ) (row : List ℕ) →
+      1 ≤ g → g ≤ length graphs → (base : ℕ) → base ≡ get_or offsets (g - 1) 0 →
+      ((c : ℕ) → Contains row c ↔ ClosesInto (place_grammar graphs) g b c) →
+      All (λ closer. base + closer < 18446744073709551616) row
+  row_room offsets are g b row from to base is exact =
+      All-weaker (Contains row) (λ closer. base + closer < 18446744073709551616)
+      (λ c h.
+      let inside = closer_inside g b c ((exact c).0 h) in
+      let small = number_small offsets are g c from to inside in
+      omega (arith, is, small)) row (All-contains_itself row)
 
   -- a line of a place is fit
   pub line_at : All (IsFit (length graphs)) graphs → (offsets : List ℕ) →

@@ -22,10 +22,8 @@ use Rattle.ux_net.specs.declared.place.Place.{Place}
 use Rattle.ux_net.specs.Boxes.{box_reached_in, fold_label, exact_label, IsCut, IsSplit, IsSplitLine, lines_at, targets_at, box_targets_in, box_lines_in}
 use Rattle.ux_net.specs.Places.{label_lines, place_targets, targets_in, is_reached, ArePlaces}
 use Rattle.ux_net.specs.Nets.{IsCalled}
-use Rattle.ux_net.specs.Construct.{is_call}
-use Rattle.ux_net.specs.Fit.{IsFitLine, place_ways, IsFit}
-use Rattle.ux_net.specs.Refusing.{HasNoBeyond}
-use Rattle.ux_net.proofs.PlainLemmas.{places_plain}
+use Rattle.ux_net.specs.Construct.{is_call, is_mark}
+use Rattle.ux_net.specs.Fit.{IsFitLine, place_ways, HasTargetsInside, IsFit}
 
 -- a text that isn't empty has something left when its spaces are single
 kept : (b : ℕ) (s t : Bool) (rest : List ℕ) → (t ≡ true → 0 < length rest) →
@@ -107,11 +105,45 @@ called_none count ContextEnd h = tt
 called_none count Cut h = tt
 called_none count (Call g) h = absurd (cc)
 
--- a line that has a label, and calls nothing, is fit
+-- no label of the line opens or closes a context
+abbrev NoMark : List Label → Type 0
+NoMark labels = All (λ (x : Label). is_mark x ≡ false) labels
+
+-- what a text is cut into opens and closes none
+cut_marks_none : (label_of : Kind → List ℕ → Label) →
+    ((k : Kind) (text : List ℕ) → is_mark (label_of k text) ≡ false) → (tokens : List Token) →
+    NoMark (map (λ (token : Token). label_of token.kind token.text) tokens)
+cut_marks_none label_of never [] = All-nil (λ (x : Label). is_mark x ≡ false)
+cut_marks_none label_of never (token ∷ tokens) =
+    All-cons (λ (x : Label). is_mark x ≡ false) (label_of token.kind token.text)
+    (map (λ (t : Token). label_of t.kind t.text) tokens) (never token.kind token.text)
+    (cut_marks_none label_of never tokens)
+
+fold_marks_none : (k : Kind) (text : List ℕ) → is_mark (fold_label k text) ≡ false
+fold_marks_none kind.Word text = refl
+fold_marks_none kind.Space text = refl
+fold_marks_none kind.Other text = refl
+fold_marks_none kind.Sentence text = refl
+fold_marks_none kind.Stop text = refl
+fold_marks_none kind.Tag text = refl
+
+exact_marks_none : (k : Kind) (text : List ℕ) → is_mark (exact_label k text) ≡ false
+exact_marks_none kind.Word text = refl
+exact_marks_none kind.Space text = refl
+exact_marks_none kind.Other text = refl
+exact_marks_none kind.Sentence text = refl
+exact_marks_none kind.Stop text = refl
+exact_marks_none kind.Tag text = refl
+
+one_unmarked : (x : Label) → is_mark x ≡ false → NoMark (x ∷ [])
+one_unmarked x h =
+    All-cons (λ (x : Label). is_mark x ≡ false) x [] h (All-nil (λ (x : Label). is_mark x ≡ false))
+
+-- a line that has a label, and calls nothing, is fit where it has no mark or is one label
 plain_fit : (count : ℕ) (labels : List Label) → 0 < length labels → NoCall labels →
-    IsFitLine count labels
-plain_fit count labels some none = record {
-  line = record { some = some; lone = λ more. none };
+    (1 < length labels → NoMark labels) → IsFitLine count labels
+plain_fit count labels some none unmarked = record {
+  line = record { some = some; lone = λ more. none; marks = unmarked };
   called = All-weaker (λ (x : Label). is_call x ≡ false) (IsCalled count) (called_none count)
       labels none;
 }
@@ -120,7 +152,11 @@ plain_fit count labels some none = record {
 call_fit : (count h : ℕ) (labels : List Label) → labels ≡ Call h ∷ [] → 1 ≤ h → h ≤ count →
     IsFitLine count labels
 call_fit count h labels is from to = subst (IsFitLine count) (sym is) (record {
-  line = record { some = omega arith; lone = λ more. absurd (omega (arith, more)) };
+  line = record {
+    some = omega arith;
+    lone = λ more. absurd (omega (arith, more));
+    marks = λ more. absurd (omega (arith, more));
+  };
   called = All-cons (IsCalled count) (Call h) [] (from, to) (All-nil (IsCalled count));
 })
 
@@ -173,13 +209,48 @@ module _ (alphabet : Letters) (names : List (List ℕ)) where
       (All-append (λ (x : Label). is_call x ≡ false) s.0 s.1 (item_calls_none x s.0 here s.2)
       (line_calls_none xs s.1 later s.3))
 
+  -- an item that may have others beside it opens and closes no context
+  item_marks_none : (x : Item) (labels : List Label) → may_be_beside x ≡ true →
+      IsSplit alphabet names x labels → NoMark labels
+  item_marks_none (item.Literal text) labels h s =
+      subst NoMark (sym s.2) (cut_marks_none fold_label fold_marks_none s.0)
+  item_marks_none (item.Quoted text) labels h s =
+      subst NoMark (sym s.2) (cut_marks_none exact_label exact_marks_none s.0)
+  item_marks_none item.Glue labels h s = subst NoMark (sym s) (one_unmarked Glue refl)
+  item_marks_none item.Empty labels h s = subst NoMark (sym s) (one_unmarked Empty refl)
+  item_marks_none (item.Call name) labels h s = absurd cc
+  item_marks_none (item.Mask text) labels h s =
+      subst NoMark (sym s.2) (one_unmarked (Mask s.0) refl)
+  item_marks_none (item.Brace text) labels h s =
+      subst NoMark (sym s) (one_unmarked (Brace text) refl)
+  item_marks_none (item.Begin name) labels h s =
+      subst NoMark (sym s) (one_unmarked (Begin name) refl)
+  item_marks_none (item.End name) labels h s =
+      subst NoMark (sym s) (one_unmarked (End name) refl)
+  item_marks_none item.Positive labels h s = absurd cc
+  item_marks_none item.Negative labels h s = absurd cc
+  item_marks_none item.ContextEnd labels h s = absurd cc
+  item_marks_none item.Cut labels h s = absurd cc
+
+  line_marks_none : (line : List Item) (labels : List Label) →
+      All (λ (x : Item). may_be_beside x ≡ true) line → IsSplitLine alphabet names line labels →
+      NoMark labels
+  line_marks_none [] labels h s = subst NoMark (sym s) (All-nil (λ (x : Label). is_mark x ≡ false))
+  line_marks_none (x ∷ xs) labels h s =
+      let here : may_be_beside x ≡ true = h 0 x (omega arith) in
+      let later : All (λ (x : Item). may_be_beside x ≡ true) xs =
+      All-tail (λ (x : Item). may_be_beside x ≡ true) x xs h in
+      subst NoMark (sym s.4)
+      (All-append (λ (x : Label). is_mark x ≡ false) s.0 s.1 (item_marks_none x s.0 here s.2)
+      (line_marks_none xs s.1 later s.3))
+
   -- a line that is filled is fit
   line_fit : (line : List Item) (labels : List Label) → IsFilled line →
       IsSplitLine alphabet names line labels → IsFitLine (length names) labels
   line_fit line labels filled s = elim filled.shared [
     | inl one ↦ alone line labels one filled.texts s
     | inr all ↦ plain_fit (length names) labels (some line labels filled.some filled.texts s)
-        (line_calls_none line labels all s)
+        (line_calls_none line labels all s) (λ more. line_marks_none line labels all s)
   ]
     where
       some : (line : List Item) (labels : List Label) → 0 < length line → All HasText line →
@@ -205,12 +276,13 @@ module _ (alphabet : Letters) (names : List (List ℕ)) where
           IsSplit alphabet names x labels → IsFitLine (length names) labels
       plain x labels text beside s =
           plain_fit (length names) labels (item_some x labels text s)
-          (item_calls_none x labels beside s)
+          (item_calls_none x labels beside s) (λ more. item_marks_none x labels beside s)
 
       lone : (x : Label) (labels : List Label) → labels ≡ x ∷ [] → is_call x ≡ false →
           IsFitLine (length names) labels
       lone x labels s calls = plain_fit (length names) labels (rw s (omega arith))
           (subst NoCall (sym s) (one_none x calls))
+          (λ more. absurd (let e = ap (λ (l : List Label). length l) s in omega (arith, more, e)))
 
       single : (x : Item) (labels : List Label) → HasText x → IsSplit alphabet names x labels →
           IsFitLine (length names) labels
@@ -283,8 +355,7 @@ start_split alphabet names (l ∷ []) z =
     ∙ ap (λ (b : List Label). Empty ∷ b) z.0.3))
 
 module _ (alphabet : Letters) (names : List (List ℕ)) (graph : Graph) (places : List Place)
-    (wf : IsWellFormed graph) (compiled : HasNoBeyond graph.boxes)
-    (are : ArePlaces alphabet names graph.boxes places) where
+    (wf : IsWellFormed graph) (are : ArePlaces alphabet names graph.boxes places) where
   -- a box that is there is a well formed one
   box_there : (n : ℕ) (b : GrfBox) → slice_get graph.boxes n ≡ Some b →
       (n < length graph.boxes) × IsWellFormedBox (length graph.boxes) n b
@@ -356,7 +427,8 @@ module _ (alphabet : Letters) (names : List (List ℕ)) (graph : Graph) (places 
       let one = start_split alphabet names (label_lines places 0) (are.lines 0) in
       subst (All (IsFitLine (length names))) (sym one)
       (All-cons (IsFitLine (length names)) (Empty ∷ []) []
-      (plain_fit (length names) (Empty ∷ []) (omega arith) (one_none Empty refl))
+      (plain_fit (length names) (Empty ∷ []) (omega arith) (one_none Empty refl)
+      (λ more. absurd (omega (arith, more))))
       (All-nil (IsFitLine (length names))))
   all_lines (suc zero) =
       let none = bare 1 (inl refl) in
@@ -376,7 +448,7 @@ module _ (alphabet : Letters) (names : List (List ℕ)) (graph : Graph) (places 
           subst (All IsFilled) (sym (ap box_lines_in h.2)) b.1.filled
       filled (inr past) = subst (All IsFilled) (sym (ap box_lines_in past.1)) (All-nil IsFilled)
 
-  inside : (a b : ℕ) → Contains (place_targets places a) b → b < length places
+  pub inside : HasTargetsInside places
   inside a b has =
       by (slice_get_cases graph.boxes a).1 (subst (λ (l : List ℕ). Contains l b) (are.targets a)
       has)
@@ -410,14 +482,13 @@ module _ (alphabet : Letters) (names : List (List ℕ)) (graph : Graph) (places 
       by (inr past) = subst (AllPairs (λ s t. s ≢ t)) (sym (ap box_targets_in past.1)) (λ i j d
           low short. absurd (omega (arith, short)))
 
-  pub graph_fit : IsFit (length names) places
-  graph_fit = record {
+  fit : IsFit (length names) places
+  fit = record {
     two = let two = wf.two in let len = are.len in omega arith;
     start = start_split alphabet names (label_lines places 0) (are.lines 0);
     bare = bare;
     lined = lined;
     lines = all_lines;
-    plain = places_plain alphabet names graph.boxes places compiled are;
     inside = inside;
     once = once;
     reached = λ n within. reached n (subst (λ m. n < m) are.len within);
@@ -443,3 +514,9 @@ module _ (alphabet : Letters) (names : List (List ℕ)) (graph : Graph) (places 
           by (inl h) =
               let x = box_there n h.0 h.2 in x.2 ∙ ap (λ (b : GrfBox). b.reached) (sym x.3)
           by (inr past) = let past = past.0 in absurd (omega arith)
+
+-- the places of a graph
+pub graph_fit : (alphabet : Letters) (names : List (List ℕ)) (graph : Graph)
+    (places : List Place) → IsWellFormed graph →
+    ArePlaces alphabet names graph.boxes places → IsFit (length names) places
+graph_fit alphabet names graph places wf are = fit alphabet names graph places wf are

@@ -7,7 +7,7 @@ use Rattle.ux_net.specs.declared.label.Label.TheVariants.{Fold, Positive, Negati
 use Rattle.ux_net.specs.Words.{positive, negative, plain, piece, context, Step, StepGraph, Run, stop, along, across, IsWord, IsBody}
 
 -- a graph of these steps, from place 0 to the last one
-abbrev listed : List Step → ℕ → StepGraph
+abbrev pub listed : List Step → ℕ → StepGraph
 listed steps last = record {
   start = 0;
   IsPlace = λ n. Unit {0};
@@ -16,7 +16,7 @@ listed steps last = record {
 }
 
 -- a step with these labels and no output
-abbrev bare : (from to : ℕ) → List Label → Step
+abbrev pub bare : (from to : ℕ) → List Label → Step
 bare from to labels = record { from = from; to = to; output = []; labels = labels }
 
 -- a step with these labels and one piece of an output

@@ -1,10 +1,11 @@
--- Which grammars have a finite meaning: no loop takes nothing, and no graph begins with itself.
--- Public: the crate's public contracts speak of it.
+-- Which grammars have a finite meaning: no loop takes nothing, and no unit begins with itself. The
+-- manual, on graphs and on contexts. Public: the crate's public contracts speak of it.
 use Rattle.std.specs.Prelude.{◌≡◌, ℕ, ◌<◌, ◌⊎◌, List, [], ◌∷◌, ◌++◌, true}
 use Rattle.ux_net.specs.declared.label.Label.{Label}
 use Rattle.ux_net.specs.declared.label.Label.TheVariants.{Call}
 use Rattle.ux_net.specs.Silent.{is_silent}
-use Rattle.ux_net.specs.Words.{Step, Grammar, Letter, plain, piece, context, letters, Run, IsWord}
+use Rattle.ux_net.specs.Words.{Sign, Step, Grammar, Letter, plain, piece, context, opens, mark_of, letters, Run, IsWord}
+use Rattle.ux_net.specs.Closers.{ClosesInto, OpensInto}
 
 -- a letter that takes no token, wherever it applies, and calls nothing: a silent label, a piece of
 -- an output, or a whole context
@@ -30,37 +31,62 @@ module _ (grammar : Grammar) where
   abbrev pub LeadsFreely : (g a b : ℕ) → Type 0
   LeadsFreely g a b = (word : List Letter) × Run g (grammar.graph g) a b word × IsFree word
 
-  -- The graph enters another at a step to this node: it is called there before a token was taken.
-  pub record Enters (g h node : ℕ) : Type 0 where
+  -- one step that may take nothing, or one whole context, leads from a place to a place
+  pub data MovesFreely (g : ℕ) : ℕ → ℕ → Type 0 where
+    along_step : (s : Step) → (grammar.graph g).IsStep s → IsFree (letters s.labels) →
+        MovesFreely g s.from s.to
+    over_context : {closing : ℕ} (sign : Sign) (s : Step) → (grammar.graph g).IsStep s →
+        mark_of s.labels ≡ opens sign → ClosesInto grammar g s.to closing →
+        MovesFreely g s.from closing
+
+  -- A unit is a graph, told by its number and its start, or the body of a context, told by its graph
+  -- and the place after its opening step.
+  abbrev pub IsUnit : (g first : ℕ) → Type 0
+  IsUnit g first =
+      (first ≡ (grammar.graph g).start) ⊎ ((sign : Sign) × OpensInto grammar g sign first)
+
+  -- a step of graph g enters a unit: it calls a graph before it takes a token, or opens a context
+  pub data EntersAt (g : ℕ) (step : Step) : (h first : ℕ) → Type 0 where
+    by_call : {h : ℕ} (front back : List Label) → step.labels ≡ front ++ Call h ∷ back →
+        IsFree (letters front) → EntersAt g step h (grammar.graph h).start
+    by_opening : (sign : Sign) → mark_of step.labels ≡ opens sign → EntersAt g step g step.to
+
+  -- The unit (g, u) enters (h, v) at a step to this node: before it takes a token.
+  pub record Enters (g u h v node : ℕ) : Type 0 where
     pub step : Step
     pub of_graph : (grammar.graph g).IsStep step
     pub to_node : step.to ≡ node
-    pub leads : LeadsFreely g (grammar.graph g).start step.from
-    pub front : List Label
-    pub back : List Label
-    pub splits : step.labels ≡ front ++ Call h ∷ back
-    pub free : IsFree (letters front)
+    pub leads : LeadsFreely g u step.from
+    pub enters : EntersAt g step h v
 
-  -- the graph enters the other, in one or more turns
-  pub data EntersInTurns : ℕ → ℕ → Type 0 where
-    once : {g h node : ℕ} → Enters g h node → EntersInTurns g h
-    more : {g h k node : ℕ} → Enters g h node → EntersInTurns h k → EntersInTurns g k
+  -- the unit (g, u) enters the other, in one or more turns
+  pub data EntersInTurns : (g u h v : ℕ) → Type 0 where
+    once : {g u h v node : ℕ} → Enters g u h v node → EntersInTurns g u h v
+    more : {g u h v k w node : ℕ} → Enters g u h v node → EntersInTurns h v k w →
+        EntersInTurns g u k w
 
-  -- a run that may take nothing leads from the place, which a run from the start reaches, back
+  -- A run that may take nothing, and has a step, leads from the place back. A run from the first place
+  -- of some unit of the graph reaches it.
   pub record IsOnEmptyLoop (g node : ℕ) : Type 0 where
+    pub first : ℕ
+    pub unit : IsUnit g first
     pub word : List Letter
-    pub reached : Run g (grammar.graph g) (grammar.graph g).start node word
-    pub step : Step
-    pub of_graph : (grammar.graph g).IsStep step
-    pub begins : step.from ≡ node
-    pub free : IsFree (letters step.labels)
-    pub back : LeadsFreely g step.to node
+    pub reached : Run g (grammar.graph g) first node word
+    pub next : ℕ
+    pub moves : MovesFreely g node next
+    pub back : LeadsFreely g next node
 
-  -- at a step to this node the graph enters one that is, or enters, the graph itself
-  abbrev pub IsLeftRecursive : (g node : ℕ) → Type 0
-  IsLeftRecursive g node = (h : ℕ) × Enters g h node × ((h ≡ g) ⊎ EntersInTurns h g)
+  -- at a step to this node some unit of the graph enters one that is, or enters, the unit itself
+  pub record IsLeftRecursive (g node : ℕ) : Type 0 where
+    pub first : ℕ
+    pub unit : IsUnit g first
+    pub entered_graph : ℕ
+    pub entered_first : ℕ
+    pub enters : Enters g first entered_graph entered_first node
+    pub returns : ((entered_graph ≡ g) × (entered_first ≡ first))
+        ⊎ EntersInTurns entered_graph entered_first g first
 
-  -- no loop takes nothing, and no graph enters itself
+  -- no loop takes nothing, and no unit enters itself
   pub record IsAdmissible : Type 0 where
     pub no_empty_loop : (g node : ℕ) → IsOnEmptyLoop g node → ⊥
     pub no_left_recursion : (g node : ℕ) → IsLeftRecursive g node → ⊥

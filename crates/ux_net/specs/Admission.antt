@@ -3,8 +3,9 @@
 use Rattle.std.specs.Prelude.{◌≡◌, ℕ, zero, suc, ◌<◌, ◌≤◌, List, [], ◌∷◌, length, get_or, Bool, true, false}
 use Rattle.ux_net.specs.declared.label.Label.TheVariants.{Call}
 use Rattle.ux_net.specs.declared.place.Place.{Place}
-use Rattle.ux_net.specs.Words.{Step}
-use Rattle.ux_net.specs.Places.{places_of, IsPlaceStep, IsEndPlace}
+use Rattle.ux_net.specs.Words.{Sign, Step, opens, mark_of}
+use Rattle.ux_net.specs.Places.{places_of, place_grammar, IsPlaceStep, IsEndPlace}
+use Rattle.ux_net.specs.Closers.{ClosesInto}
 use Rattle.ux_net.specs.Numbers.{all_places}
 use Rattle.ux_net.specs.Silent.{are_silent}
 
@@ -34,7 +35,8 @@ pub record IsLowerPlace (ranks : List (List ℕ)) (free : List (List Bool)) (g f
   pub marked : is_place_free free g to ≡ true → is_place_free free g from ≡ true
 
 -- Ranks and marks for the places of graphs. A silent step leads lower. A call leads lower to the
--- start of its graph, and where that is marked, to its target too. Places that end a run are marked.
+-- start of its graph, and where that is marked, to its target too. A step that opens a context leads
+-- lower, into it and over it. Places that end a run are marked.
 pub record ArePlaceRanks (graphs : List (List Place)) (ranks : List (List ℕ))
     (free : List (List Bool)) : Type 0 where
   pub ranked : AreRows graphs ranks
@@ -46,4 +48,8 @@ pub record ArePlaceRanks (graphs : List (List Place)) (ranks : List (List ℕ))
       s.labels ≡ Call h ∷ [] →
       (place_rank ranks h 0 < place_rank ranks g s.from)
       × (is_place_free free h 0 ≡ true → IsLowerPlace ranks free g s.from s.to)
+  pub opens : (g : ℕ) (s : Step) (sign : Sign) → IsPlaceStep (places_of graphs g) s →
+      mark_of s.labels ≡ opens sign →
+      (place_rank ranks g s.to < place_rank ranks g s.from)
+      × ((c : ℕ) → ClosesInto (place_grammar graphs) g s.to c → IsLowerPlace ranks free g s.from c)
   pub ends : (g a : ℕ) → IsEndPlace (places_of graphs g) a → is_place_free free g a ≡ true

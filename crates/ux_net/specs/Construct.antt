@@ -5,11 +5,11 @@ use Rattle.std.specs.Prelude.{◌≡◌, ℕ, zero, suc, ◌+◌, ◌-◌, ◌<�
 use Rattle.std.specs.List.{range_with_len, flat_map, list_any, count_by}
 use Rattle.ux_grf.specs.declared.item.Piece.{Piece}
 use Rattle.ux_net.specs.declared.label.Label.{Label}
-use Rattle.ux_net.specs.declared.label.Label.TheVariants.{Empty, Call}
+use Rattle.ux_net.specs.declared.label.Label.TheVariants.{Empty, Positive, Negative, ContextEnd, Call}
 use Rattle.ux_net.specs.declared.place.Place.{Place}
 use Rattle.ux_net.specs.declared.state.Edge.{Edge}
 use Rattle.ux_net.specs.declared.state.State.{State}
-use Rattle.ux_net.specs.Nets.{IsPlain}
+use Rattle.ux_net.specs.declared.net_graph.Closing.{Closing}
 use Rattle.ux_net.specs.Places.{label_lines, place_output, place_targets, is_reached}
 
 -- a label that calls a graph
@@ -17,10 +17,19 @@ abbrev pub is_call : Label → Bool
 is_call (Call graph) = true
 is_call other = false
 
--- a line has a label, and where it has several, none of them is a call
+-- a label that opens or closes a context
+abbrev pub is_mark : Label → Bool
+is_mark Positive = true
+is_mark Negative = true
+is_mark ContextEnd = true
+is_mark other = false
+
+-- A line has a label, and where it has several, none of them is a call, nor opens or closes a
+-- context.
 pub record IsLine (labels : List Label) : Type 0 where
   pub some : 0 < length labels
   pub lone : 1 < length labels → All (λ (label : Label). is_call label ≡ false) labels
+  pub marks : 1 < length labels → All (λ (label : Label). is_mark label ≡ false) labels
 
 -- the labels of a line, where there is one
 abbrev pub labels_in : Option (List Label) → List Label
@@ -44,6 +53,11 @@ later_edges output line = length (edge_labels (called_behind output line) line) 
 -- one for the place, and one for each edge of its lines but the first of a line
 abbrev pub place_size : Place → ℕ
 place_size place = 1 + sum_by (later_edges place.output) place.lines
+
+-- a line that opens a context that may not follow
+abbrev pub is_refusing : List Label → Bool
+is_refusing (Negative ∷ []) = true
+is_refusing line = false
 
 -- each edge leads to a state that is there
 abbrev pub AreTargetsInside : List State → Type 0
@@ -148,13 +162,29 @@ module _ (places : List Place) where
   abbrev pub states_of : List State
   states_of = by_state place_state chain_state
 
+  -- a context that may not follow opens into the place
+  abbrev pub is_refused : ℕ → Bool
+  is_refused b = list_any is_refusing (label_lines places b)
+
+  -- where the body from a place is closed, of which these are the closers: into the first of them
+  abbrev pub closing_from : ℕ → List ℕ → List Closing
+  closing_from b [] = []
+  closing_from b (c ∷ later) = record { opening = number b; closing = number c } ∷ []
+
+  -- the same, where the context may not follow
+  abbrev pub closings_at : (row : ℕ → List ℕ) → ℕ → List Closing
+  closings_at row b = cond (is_refused b) (closing_from b (row b)) []
+
+  -- that of each place, where each has a row of closers
+  abbrev pub closings_of : (row : ℕ → List ℕ) → List Closing
+  closings_of row = flat_map (closings_at row) (range_with_len 0 (length places))
+
   -- Places of which states can be made. Place 0 is reached, targets are there, places without a
-  -- state have no lines, each line is one, all labels are of kinds that are compiled, and few enough
-  -- states come of them to number them.
+  -- state have no lines, each line is one, and few enough states come of them to number
+  -- them.
   pub record AreFit : Type 0 where
     pub start : is_reached places 0 ≡ true
     pub targets : (a b : ℕ) → Contains (place_targets places a) b → b < length places
     pub stateless : (b : ℕ) → has_state b ≡ false → label_lines places b ≡ []
     pub lines : (b : ℕ) (line : List Label) → Contains (label_lines places b) line → IsLine line
-    pub plain : (b : ℕ) → All (All IsPlain) (label_lines places b)
     pub few : sum_by place_size places < 4294967296

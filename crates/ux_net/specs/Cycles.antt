@@ -1,47 +1,50 @@
 -- Steps whose two ends lead to each other. Inner: the crate's own functions alone speak of it.
-use Rattle.std.specs.Prelude.{◌≡◌, ℕ, ◌⊎◌, ◌↔◌, List, [], ◌∷◌, length, get_or, Contains}
+use Rattle.std.specs.Prelude.{◌≡◌, ℕ, ◌⊎◌, ◌↔◌, List, length, get_or, Contains}
 use Rattle.ux_digraph.specs.Paths.{row_of}
 use Rattle.ux_digraph.specs.Components.{AreComponents}
-use Rattle.ux_net.specs.declared.label.Label.TheVariants.{Call}
 use Rattle.ux_net.specs.declared.place.Place.{Place}
-use Rattle.ux_net.specs.Words.{Step, letters}
+use Rattle.ux_net.specs.Words.{Step}
 use Rattle.ux_net.specs.Places.{places_of, place_grammar, IsPlaceStep}
-use Rattle.ux_net.specs.Admissible.{IsFree}
+use Rattle.ux_net.specs.Closers.{ClosesInto}
+use Rattle.ux_net.specs.Admissible.{MovesFreely, EntersAt}
 use Rattle.ux_net.specs.Numbers.{number_of, all_places}
 use Rattle.ux_net.specs.Ways.{IsFreeEdge, IsEntryEdge}
 
--- the edges are the steps that may take nothing
+-- the edges are the steps that may take nothing, and the contexts
 pub record AreFreeEdges (graphs : List (List Place)) (edges : List (List ℕ)) : Type 0 where
   pub len : length edges ≡ all_places graphs
   pub edge : (u v : ℕ) → Contains (row_of edges u) v ↔ IsFreeEdge graphs u v
 
--- the edges are these, and those that enter a graph
+-- the edges are these, and the steps that enter a unit
 pub record AreAllEdges (graphs : List (List Place)) (edges : List (List ℕ)) : Type 0 where
   pub len : length edges ≡ all_places graphs
   pub edge : (u v : ℕ) →
       Contains (row_of edges u) v ↔ (IsFreeEdge graphs u v ⊎ IsEntryEdge graphs u v)
 
--- a step from the node that may take nothing has one number at both ends
+-- a step from the node that may take nothing, or a context, has one number at both ends
 pub record IsLoopStep (graphs : List (List Place)) (numbers : List ℕ) (g node : ℕ) : Type 0 where
-  pub step : Step
-  pub of_graph : IsPlaceStep (places_of graphs g) step
-  pub begins : step.from ≡ node
-  pub free : IsFree (place_grammar graphs) (letters step.labels)
-  pub same : get_or numbers (number_of graphs g step.from) 0 ≡
-      get_or numbers (number_of graphs g step.to) 0
+  pub target : ℕ
+  pub moves : MovesFreely (place_grammar graphs) g node target
+  pub same : get_or numbers (number_of graphs g node) 0 ≡
+      get_or numbers (number_of graphs g target) 0
 
--- at a step to the node a graph is entered whose start has the number of the step's beginning
+-- at a step to the node a unit is entered whose first place has the number of the step's beginning
 pub record IsEntryStep (graphs : List (List Place)) (numbers : List ℕ) (g node : ℕ) : Type 0 where
   pub step : Step
   pub of_graph : IsPlaceStep (places_of graphs g) step
   pub to_node : step.to ≡ node
-  pub called : ℕ
-  pub calls : step.labels ≡ Call called ∷ []
+  pub entered : ℕ
+  pub first : ℕ
+  pub enters : EntersAt (place_grammar graphs) g step entered first
   pub same : get_or numbers (number_of graphs g step.from) 0 ≡
-      get_or numbers (number_of graphs called 0) 0
+      get_or numbers (number_of graphs entered first) 0
 
 -- the numbers are those of the components of all edges
 pub record AreNumbered (graphs : List (List Place)) (numbers : List ℕ) : Type 0 where
   pub edges : List (List ℕ)
   pub all : AreAllEdges graphs edges
   pub components : AreComponents edges numbers
+
+-- no run from the start of a graph closes a context that it didn't open
+abbrev pub AreOpened : List (List Place) → Type 0
+AreOpened graphs = (g c : ℕ) → ClosesInto (place_grammar graphs) g 0 c → ⊥

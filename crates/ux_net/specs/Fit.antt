@@ -6,7 +6,7 @@ use Rattle.ux_net.specs.declared.label.Label.{Label}
 use Rattle.ux_net.specs.declared.label.Label.TheVariants.{Empty}
 use Rattle.ux_net.specs.declared.place.Place.{Place}
 use Rattle.ux_net.specs.Places.{label_lines, place_targets, is_reached}
-use Rattle.ux_net.specs.Nets.{IsCalled, IsPlain}
+use Rattle.ux_net.specs.Nets.{IsCalled}
 use Rattle.ux_net.specs.Construct.{IsLine}
 
 -- a line, in which each call is of a graph that is there
@@ -17,6 +17,10 @@ pub record IsFitLine (count : ℕ) (labels : List Label) : Type 0 where
 abbrev pub place_ways : List Place → List (List ℕ)
 place_ways places = ways_of (map (λ (place : Place). place.targets) places)
 
+-- each target of a place is a place
+abbrev pub HasTargetsInside : List Place → Type 0
+HasTargetsInside places = (a b : ℕ) → Contains (place_targets places a) b → b < length places
+
 -- the places of one graph of a list of so many
 pub record IsFit (count : ℕ) (places : List Place) : Type 0 where
   pub two : 2 ≤ length places
@@ -25,8 +29,7 @@ pub record IsFit (count : ℕ) (places : List Place) : Type 0 where
   pub bare : (n : ℕ) → (n ≡ 1) ⊎ (is_reached places n ≡ false) → label_lines places n ≡ []
   pub lined : (n : ℕ) → is_reached places n ≡ true → n ≢ 1 → 0 < length (label_lines places n)
   pub lines : (n : ℕ) → All (IsFitLine count) (label_lines places n)
-  pub plain : (n : ℕ) → All (All IsPlain) (label_lines places n)
-  pub inside : (a b : ℕ) → Contains (place_targets places a) b → b < length places
+  pub inside : HasTargetsInside places
   pub once : (a : ℕ) → AllPairs (λ s t. s ≢ t) (place_targets places a)
   pub reached : (n : ℕ) → n < length places →
       (is_reached places n ≡ true) ↔ Reached (place_ways places) n

@@ -2,12 +2,13 @@
 -- the crate's public contracts speak of it.
 use Rattle.std.specs.Prelude.{◌≡◌, ℕ, ◌+◌, ◌*◌, ◌<◌, ◌≤◌, List, Option, Some, None, slice_get, Contains, Bool, false, cond, IsTrue, get_or, sum_by}
 use Rattle.ux_net.specs.declared.label.Label.{Label}
-use Rattle.ux_net.specs.declared.label.Label.TheVariants.{Empty, Glue, Begin, End, Cut, Call}
+use Rattle.ux_net.specs.declared.label.Label.TheVariants.{Empty, Glue, Begin, End, Positive, Negative, Cut, Call}
 use Rattle.ux_net.specs.declared.state.Edge.{Edge}
 use Rattle.ux_net.specs.declared.state.State.{State}
 use Rattle.ux_net.specs.declared.net_graph.NetGraph.{NetGraph}
 use Rattle.ux_net.specs.declared.net_graph.Rank.{Rank}
-use Rattle.ux_net.specs.Nets.{graph_at, states_of}
+use Rattle.ux_net.specs.Nets.{graph_at, states_of, net_grammar}
+use Rattle.ux_net.specs.Closers.{ClosesInto}
 
 -- the sum of all minor numbers, which none of them exceeds
 abbrev pub width_of : List NetGraph → ℕ
@@ -49,13 +50,22 @@ abbrev pub IsLower : List NetGraph → (g from to : ℕ) → Type 0
 IsLower graphs g from to =
     (rank_of graphs g to < rank_of graphs g from) × (must graphs g from ≤ must graphs g to)
 
+-- what a context opens ranks lower, and so does each state into which it is closed
+abbrev pub FallsOver : List NetGraph → (g from to : ℕ) → Type 0
+FallsOver graphs g from to =
+    (rank_of graphs g to < rank_of graphs g from)
+    × ((c : ℕ) → ClosesInto (net_grammar graphs) g to c → IsLower graphs g from c)
+
 -- What holds of an edge: where it may take nothing, it leads lower. A call leads lower to the start
--- of its graph, and where that is marked, to its target too.
+-- of its graph, and where that is marked, to its target too. A context leads lower to its body and
+-- behind it.
 abbrev pub Falls : List NetGraph → (g from to : ℕ) → Label → Type 0
 Falls graphs g from to Empty = IsLower graphs g from to
 Falls graphs g from to Glue = IsLower graphs g from to
 Falls graphs g from to (Begin name) = IsLower graphs g from to
 Falls graphs g from to (End name) = IsLower graphs g from to
+Falls graphs g from to Positive = FallsOver graphs g from to
+Falls graphs g from to Negative = FallsOver graphs g from to
 Falls graphs g from to Cut = IsLower graphs g from to
 Falls graphs g from to (Call h) =
     (rank_of graphs h 0 < rank_of graphs g from)

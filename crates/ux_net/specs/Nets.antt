@@ -1,8 +1,9 @@
 -- Compiled graphs, seen as places and steps: a state is a place, an edge a step of one label.
 -- Public: the crate's public contracts speak of it.
-use Rattle.std.specs.Prelude.{◌≡◌, ℕ, zero, suc, ◌<◌, ◌≤◌, List, [], ◌∷◌, Option, Some, None, slice_get, Contains, length, IsTrue}
+use Rattle.std.specs.Prelude.{◌≡◌, ℕ, zero, suc, ◌<◌, ◌≤◌, List, [], ◌∷◌, Option, Some, None, slice_get, Contains, length, IsTrue, Bool, true, false}
+use Rattle.std.specs.List.{list_all}
 use Rattle.ux_net.specs.declared.label.Label.{Label}
-use Rattle.ux_net.specs.declared.label.Label.TheVariants.{Empty, Fold, Exact, Mask, Brace, Space, Glue, Begin, End, Call}
+use Rattle.ux_net.specs.declared.label.Label.TheVariants.{Empty, Fold, Exact, Mask, Brace, Space, Glue, Begin, End, Positive, Negative, ContextEnd, Cut, Call}
 use Rattle.ux_net.specs.declared.state.Edge.{Edge}
 use Rattle.ux_net.specs.declared.state.State.{State}
 use Rattle.ux_net.specs.declared.net_graph.NetGraph.{NetGraph}
@@ -60,8 +61,8 @@ abbrev pub IsCalled : ℕ → Label → Type 0
 IsCalled count (Call graph) = (1 ≤ graph) × (graph ≤ count)
 IsCalled count other = Unit {0}
 
--- a label that is compiled as yet: a text, a mask, a mark in braces, a space, `#`, the empty word, a
--- variable's begin or end, or a call
+-- a label that neither bounds a context nor cuts: a text, a mask, a mark in braces, a space, `#`, the
+-- empty word, a variable's begin or end, or a call
 abbrev pub IsPlain : Label → Type 0
 IsPlain Empty = Unit {0}
 IsPlain (Fold text) = Unit {0}
@@ -74,6 +75,21 @@ IsPlain (Begin name) = Unit {0}
 IsPlain (End name) = Unit {0}
 IsPlain (Call graph) = Unit {0}
 IsPlain other = ⊥
+
+-- the same as a test
+abbrev pub is_plain : Label → Bool
+is_plain Positive = false
+is_plain Negative = false
+is_plain ContextEnd = false
+is_plain Cut = false
+is_plain other = true
+
+-- each edge of the state, of the graph, has such a label
+abbrev pub is_plain_state : State → Bool
+is_plain_state state = list_all (λ (edge : Edge). is_plain edge.label) state.edges
+
+abbrev pub is_plain_graph : NetGraph → Bool
+is_plain_graph graph = list_all is_plain_state graph.states
 
 -- each edge has such a label
 abbrev pub ArePlain : List NetGraph → Type 0

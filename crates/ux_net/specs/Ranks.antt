@@ -1,6 +1,6 @@
 -- Ranks of the states that are made of places, from ranks of the places: why every walk ends.
 -- Inner: the crate's own functions alone speak of it.
-use Rattle.std.specs.Prelude.{◌≡◌, ℕ, ◌+◌, ◌≤◌, max, List, Option, None, Some, Contains, length, drop, Bool, false, cond}
+use Rattle.std.specs.Prelude.{◌≡◌, ℕ, ◌+◌, ◌≤◌, max, List, [], get_or, Option, None, Some, Contains, length, drop, Bool, false, cond}
 use Rattle.std.specs.List.{prefix_len}
 use Rattle.ux_net.specs.declared.label.Label.{Label}
 use Rattle.ux_net.specs.declared.place.Place.{Place}
@@ -8,7 +8,8 @@ use Rattle.ux_net.specs.declared.net_graph.NetGraph.{NetGraph}
 use Rattle.ux_net.specs.declared.net_graph.Rank.{Rank}
 use Rattle.ux_net.specs.Places.{label_lines, places_of}
 use Rattle.ux_net.specs.Nets.{graph_at, IsCalled}
-use Rattle.ux_net.specs.Construct.{called_at, labels_at, by_state, states_of, AreFit}
+use Rattle.ux_net.specs.Construct.{called_at, labels_at, by_state, states_of, closings_of, AreFit}
+use Rattle.ux_net.specs.Numbers.{number_of}
 use Rattle.ux_net.specs.Silent.{is_silent, are_silent}
 use Rattle.ux_net.specs.Admission.{place_rank, is_place_free}
 
@@ -88,16 +89,22 @@ AreCallsInside graphs =
 abbrev pub AreAllFit : List (List Place) → Type 0
 AreAllFit graphs = (g : ℕ) → 1 ≤ g → g ≤ length graphs → AreFit (places_of graphs g)
 
--- compiled graph g has the states of the places, with the ranks and the marks of the places
+-- Compiled graph g has the states of the places, with the ranks and the marks of the places. It tells
+-- where contexts are closed, as the row of each place does.
 pub record IsBuilt (ranks : List (List ℕ)) (free : List (List Bool)) (g : ℕ)
-    (places : List Place) (graph : NetGraph) : Type 0 where
+    (row : ℕ → List ℕ) (places : List Place) (graph : NetGraph) : Type 0 where
   pub states : graph.states ≡ states_of places
   pub ranked : graph.ranks ≡ state_ranks ranks free g places
   pub marked : graph.free ≡ state_frees ranks free g places
+  pub closings : graph.closings ≡ closings_of places row
+
+-- the row of each place of a graph
+abbrev pub row_of : List (List Place) → List (List ℕ) → (g b : ℕ) → List ℕ
+row_of graphs rows g b = get_or rows (number_of graphs g b) []
 
 -- the compiled graphs are built of the graphs, one of each
-pub record AreBuilt (graphs : List (List Place)) (ranks : List (List ℕ))
+pub record AreBuilt (graphs : List (List Place)) (rows ranks : List (List ℕ))
     (free : List (List Bool)) (built : List NetGraph) : Type 0 where
   pub count : length built ≡ length graphs
   pub each : (g : ℕ) (graph : NetGraph) → graph_at built g ≡ Some graph →
-      IsBuilt ranks free g (places_of graphs g) graph
+      IsBuilt ranks free g (row_of graphs rows g) (places_of graphs g) graph

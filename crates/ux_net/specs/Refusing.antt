@@ -1,18 +1,17 @@
 -- Why a list of graphs isn't compiled. Public: the crate's public contracts speak of it.
-use Rattle.std.specs.Prelude.{◌≡◌, ℕ, zero, suc, ◌<◌, Bool, true, false, List, [], map, Option, Some, None, slice_get, string_bytes, String, Contains, All}
+use Rattle.std.specs.Prelude.{◌≡◌, ℕ, zero, suc, ◌<◌, List, [], map, Option, Some, None, slice_get, string_bytes, String, Contains, All}
 use Rattle.std.specs.declared.alloc.Global.{Global}
-use Rattle.std.specs.List.{flat_map, list_any}
+use Rattle.std.specs.List.{flat_map}
 use Rattle.ux_alphabet.specs.Letters.{Letters}
 use Rattle.ux_grf.specs.declared.graph.Graph.{Graph}
-use Rattle.ux_grf.specs.declared.graph.GrfBox.{GrfBox}
-use Rattle.ux_grf.specs.declared.item.Item.{Item}
-use Rattle.ux_grf.specs.declared.item.Item.TheVariants as item
 use Rattle.ux_net.specs.declared.error.NetError.{NetError}
-use Rattle.ux_net.specs.declared.error.NetError.TheVariants.{MissingGraph, BadMask, NotYet, EmptyLoop, LeftRecursion, NoMemory}
+use Rattle.ux_net.specs.declared.error.NetError.TheVariants.{MissingGraph, BadMask, ContextClose, NegativeRecursion, EmptyLoop, LeftRecursion, NoMemory}
 use Rattle.ux_grf.specs.Needs.{calls_of_box}
 use Rattle.ux_net.specs.Boxes.{Drawn, boxes_of, names_of, box_grammar}
 use Rattle.ux_net.specs.MaskTexts.{mask_texts_in, IsMask, HaveMasks, IsFirstBad}
 use Rattle.ux_net.specs.Admissible.{IsOnEmptyLoop, IsLeftRecursive, IsFirst, IsAdmissible}
+use Rattle.ux_net.specs.ContextClose.{IsBadContext, AreClosed}
+use Rattle.ux_net.specs.NegativeRecursion.{IsFirstNegative, HasNoNegativeRecursion}
 
 -- a graph that is given with its name
 abbrev pub drawn_of : String Global × Graph → Drawn
@@ -20,49 +19,6 @@ drawn_of graph = record { name = string_bytes graph.0; boxes = graph.1.boxes }
 
 abbrev pub drawn : List (String Global × Graph) → List Drawn
 drawn graphs = map drawn_of graphs
-
--- the item isn't compiled yet: it opens or closes a context, or cuts
-abbrev pub is_beyond : Item → Bool
-is_beyond (item.Literal text) = false
-is_beyond (item.Quoted text) = false
-is_beyond item.Glue = false
-is_beyond item.Empty = false
-is_beyond (item.Call name) = false
-is_beyond (item.Mask text) = false
-is_beyond (item.Brace text) = false
-is_beyond (item.Begin name) = false
-is_beyond (item.End name) = false
-is_beyond item.Positive = true
-is_beyond item.Negative = true
-is_beyond item.ContextEnd = true
-is_beyond item.Cut = true
-
-abbrev pub has_beyond_line : List Item → Bool
-has_beyond_line line = list_any is_beyond line
-
--- the box has such an item
-abbrev pub has_beyond : GrfBox → Bool
-has_beyond box = list_any has_beyond_line box.lines
-
-abbrev pub HasNoBeyond : List GrfBox → Type 0
-HasNoBeyond boxes = All (λ (b : GrfBox). has_beyond b ≡ false) boxes
-
--- whether it is so of the box, where there is one
-abbrev pub beyond_in : Option GrfBox → Bool
-beyond_in None = false
-beyond_in (Some box) = has_beyond box
-
--- the first box that is so
-pub record IsFirstBeyond (boxes : List GrfBox) (node : ℕ) : Type 0 where
-  pub here : beyond_in (slice_get boxes node) ≡ true
-  pub least : (m : ℕ) → m < node → beyond_in (slice_get boxes m) ≡ false
-
-abbrev pub IsBeyondAt : List Drawn → (g node : ℕ) → Type 0
-IsBeyondAt graphs g node = beyond_in (slice_get (boxes_of graphs g) node) ≡ true
-
--- every box is compiled
-abbrev pub AreCompiled : List Drawn → Type 0
-AreCompiled graphs = All (λ (graph : Drawn). HasNoBeyond graph.boxes) graphs
 
 -- the name of this number, counted from 1
 abbrev pub is_name_at : (names : List (List ℕ)) → ℕ → List ℕ → Type 0
@@ -80,15 +36,6 @@ IsFirstAmong names IsSo name node = (g : ℕ) × is_name_at names g name × IsFi
 
 abbrev pub IsFirstNamed : List Drawn → (IsSo : (g node : ℕ) → Type 0) → List ℕ → ℕ → Type 0
 IsFirstNamed graphs IsSo name node = IsFirstAmong (names_of graphs) IsSo name node
-
--- the first box that isn't compiled yet is refused
-abbrev pub HasFirstBeyond : List Drawn → NetError → Type 0
-HasFirstBeyond graphs (NotYet name node) = IsFirstNamed graphs (IsBeyondAt graphs) name node
-HasFirstBeyond graphs (MissingGraph name) = ⊥
-HasFirstBeyond graphs (BadMask name node place) = ⊥
-HasFirstBeyond graphs (EmptyLoop name node) = ⊥
-HasFirstBeyond graphs (LeftRecursion name node) = ⊥
-HasFirstBeyond graphs NoMemory = ⊥
 
 -- the mask texts of a box of the graph of this number
 abbrev pub mask_texts_at : List Drawn → (g node : ℕ) → List (List ℕ)
@@ -138,26 +85,40 @@ pub record IsFirstMissing (graphs : List Drawn) (name : List ℕ) : Type 0 where
   pub before : (j : ℕ) (other : List ℕ) → j < k →
       slice_get (calls_in (slice_get graphs n)) j ≡ Some other → Contains (names_of graphs) other
 
+-- the contexts of the graphs are closed, and none that may not follow uses what has it
+pub record HaveSoundContexts (alphabet : Letters) (graphs : List Drawn) : Type 0 where
+  pub closed : AreClosed (box_grammar alphabet graphs)
+  pub no_recursion : HasNoNegativeRecursion (box_grammar alphabet graphs)
+
+-- the first graph of which a context that may not follow uses what has it
+abbrev pub IsFirstRecursive : Letters → List Drawn → List ℕ → Type 0
+IsFirstRecursive alphabet graphs name =
+    (g : ℕ) × is_named graphs g name × IsFirstNegative (box_grammar alphabet graphs) g
+
 -- why a list of graphs isn't compiled: the tests in their order, each with its place
 abbrev pub Refuses : Letters → List Drawn → NetError → Type 0
 Refuses alphabet graphs (MissingGraph name) = IsFirstMissing graphs name
 Refuses alphabet graphs (BadMask name node place) =
     AreWhole graphs × IsFirstBadMask graphs name node place
-Refuses alphabet graphs (NotYet name node) =
-    AreWhole graphs × AreMasked graphs × IsFirstNamed graphs (IsBeyondAt graphs) name node
+Refuses alphabet graphs (ContextClose name node) =
+    AreWhole graphs × AreMasked graphs
+    × IsFirstNamed graphs (IsBadContext (box_grammar alphabet graphs)) name node
+Refuses alphabet graphs (NegativeRecursion name) =
+    AreWhole graphs × AreMasked graphs × AreClosed (box_grammar alphabet graphs)
+    × IsFirstRecursive alphabet graphs name
 Refuses alphabet graphs (EmptyLoop name node) =
-    AreWhole graphs × AreMasked graphs × AreCompiled graphs
+    AreWhole graphs × AreMasked graphs × HaveSoundContexts alphabet graphs
     × IsFirstNamed graphs (IsOnEmptyLoop (box_grammar alphabet graphs)) name node
 Refuses alphabet graphs (LeftRecursion name node) =
-    AreWhole graphs × AreMasked graphs × AreCompiled graphs
+    AreWhole graphs × AreMasked graphs × HaveSoundContexts alphabet graphs
     × ((g m : ℕ) → IsOnEmptyLoop (box_grammar alphabet graphs) g m → ⊥)
     × IsFirstNamed graphs (IsLeftRecursive (box_grammar alphabet graphs)) name node
 Refuses alphabet graphs NoMemory = Unit {0}
 
--- every call is of a graph that is there, every mask text is a mask's, every box is compiled, and
--- the grammar is admissible
+-- every call is of a graph that is there, every mask text is a mask's, contexts are sound, and the
+-- grammar is admissible
 pub record IsCompilable (alphabet : Letters) (graphs : List Drawn) : Type 0 where
   pub whole : AreWhole graphs
   pub masked : AreMasked graphs
-  pub compiled : AreCompiled graphs
+  pub contexts : HaveSoundContexts alphabet graphs
   pub admissible : IsAdmissible (box_grammar alphabet graphs)

@@ -27,8 +27,7 @@ abbrev pub text_label : Comparison → List ℕ → Label
 text_label Folded text = label.Fold text
 text_label Exact text = label.Exact text
 
--- the item has labels already: it is a text, a mask, a mark in braces, a call of a graph that is
--- there, a variable's begin or end, `#` or empty
+-- the item has labels: if it is a mask or a call, it is that of a mask or of a graph that is there
 abbrev pub IsSplittable : List (List ℕ) → Item → Type 0
 IsSplittable names (item.Literal text) = Unit {0}
 IsSplittable names (item.Quoted text) = Unit {0}
@@ -39,10 +38,10 @@ IsSplittable names (item.Mask text) = IsMask text
 IsSplittable names (item.Brace text) = Unit {0}
 IsSplittable names (item.Begin name) = Unit {0}
 IsSplittable names (item.End name) = Unit {0}
-IsSplittable names item.Positive = ⊥
-IsSplittable names item.Negative = ⊥
-IsSplittable names item.ContextEnd = ⊥
-IsSplittable names item.Cut = ⊥
+IsSplittable names item.Positive = Unit {0}
+IsSplittable names item.Negative = Unit {0}
+IsSplittable names item.ContextEnd = Unit {0}
+IsSplittable names item.Cut = Unit {0}
 
 abbrev pub IsSplittableBox : List (List ℕ) → GrfBox → Type 0
 IsSplittableBox names box = All (All (IsSplittable names)) box.lines

@@ -4,7 +4,7 @@ use Rattle.std.specs.Prelude.{◌≡◌, ℕ, ◌<◌, ◌≤◌, ◌⊎◌, Lis
 use Rattle.ux_net.specs.declared.spot.Spot.{Spot}
 use Rattle.ux_net.specs.declared.way.Way.{Way}
 use Rattle.ux_net.specs.Admissible.{IsFirst}
-use Rattle.ux_net.specs.Ways.{IsOpen}
+use Rattle.ux_net.specs.Ways.{IsOpen, entered_by}
 
 -- no spot after the other, by graph and then by node
 abbrev pub IsNotAfter : Spot → Spot → Type 0
@@ -25,23 +25,23 @@ FindsFirst IsSo (Some spot) = IsFirst IsSo spot.graph spot.node
 -- the edge of a way that may take nothing
 abbrev pub IsFreePair : List Bool → Way → ℕ × ℕ → Type 0
 IsFreePair marks way pair =
-    IsOpen marks way.called × (◌≡◌ {A = ℕ × ℕ} (way.from, way.to) pair)
+    IsOpen marks way.passage × (◌≡◌ {A = ℕ × ℕ} (way.from, way.to) pair)
 
--- the edge of a way that enters a graph
+-- the edge of a way that enters a unit
 abbrev pub IsEntryPair : Way → ℕ × ℕ → Type 0
 IsEntryPair way pair =
-    (start : ℕ) × (way.called ≡ Some start) × (◌≡◌ {A = ℕ × ℕ} (way.from, start) pair)
+    (start : ℕ) × (entered_by way.passage way.to ≡ Some start) × (◌≡◌ {A = ℕ × ℕ} (way.from, start) pair)
 
 -- the source of a way that may take nothing, and whose ends have one number
 abbrev pub IsLoopSpot : List Bool → List ℕ → Way → Spot → Type 0
 IsLoopSpot marks numbers way spot =
-    IsOpen marks way.called
+    IsOpen marks way.passage
     × (get_or numbers way.from 0 ≡ get_or numbers way.to 0)
     × (record { graph = way.graph; node = way.source } ≡ spot)
 
--- the target of a way that enters a graph whose start has the number of its source
+-- the target of a way that enters a unit whose first place has the number of its source
 abbrev pub IsEntrySpot : List ℕ → Way → Spot → Type 0
 IsEntrySpot numbers way spot =
-    (start : ℕ) × (way.called ≡ Some start)
+    (start : ℕ) × (entered_by way.passage way.to ≡ Some start)
     × (get_or numbers way.from 0 ≡ get_or numbers start 0)
     × (record { graph = way.graph; node = way.target } ≡ spot)

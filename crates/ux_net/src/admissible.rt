@@ -1,18 +1,21 @@
 //! Whether a grammar has a finite meaning.
 //!
-//! A grammar is refused where a loop takes nothing, or where a graph begins with itself. The places
-//! of all graphs are nodes. Where a step may take nothing, an edge leads along it; where it calls a
-//! graph, an edge leads from it to the start of that graph. A loop that takes nothing is then an
-//! edge of the first kind inside a strongly connected component of these edges; a graph begins with
-//! itself at an edge of the second kind inside a component of all. In a grammar that is neither,
-//! the numbers of the components fall along each edge: they are the ranks by which every walk ends.
+//! A grammar is refused where a loop takes nothing, or where a unit, a graph or the body of a context,
+//! begins with itself. The places of all graphs are nodes. Where a step may take nothing, an edge
+//! leads along it, and one over each context, from the step that opens it to where it is closed. Where
+//! a step enters a unit, an edge leads from it to the first place of that unit. A loop that takes
+//! nothing is then an edge of the first kind inside a strongly connected component of these edges; a
+//! unit begins with itself at an edge of the second kind inside a component of all. In a grammar that
+//! is neither, the numbers of the components fall along each edge: they are the ranks by which every
+//! walk ends.
 
 ghost use Rattle.std.specs.Prelude.{◌≡◌, ℕ, length, All, IfOk, IfErr, OnOk};
 ghost use Rattle.ux_net.specs.Fit.{IsFit};
 ghost use Rattle.ux_net.specs.Places.{place_grammar};
 ghost use Rattle.ux_net.specs.Admissible.{IsAdmissible, IsLeftRecursive, IsOnEmptyLoop};
 ghost use Rattle.ux_net.specs.Admission.{ArePlaceRanks};
-ghost use Rattle.ux_net.specs.Cycles.{AreNumbered};
+ghost use Rattle.ux_net.specs.Closers.{AreClosers};
+ghost use Rattle.ux_net.specs.Cycles.{AreNumbered, AreOpened};
 ghost use Rattle.ux_net.specs.Numbers.{AreOffsets, all_places};
 ghost use Rattle.ux_net.specs.Refusals.{IsRefusal};
 ghost use Rattle.ux_net.specs.Rows.{cut};
@@ -31,7 +34,8 @@ use ux_base::{Lst, Mem, NoMemory};
 /// What an admissible grammar has: in a row for each graph, with an entry for each place.
 #[derive(Drop)]
 pub struct Admission {
-    /// A rank, which falls along each step that may take nothing, and to each start that is called.
+    /// A rank, which falls along each step that may take nothing, over each context, and into each
+    /// unit that is entered.
     pub ranks: Vec<Lst<usize>>,
     /// Whether a run that may take nothing leads to an end.
     pub free: Vec<Lst<bool>>,
@@ -42,7 +46,7 @@ pub struct Admission {
 pub enum AdmissionError {
     /// A loop through this node takes nothing.
     EmptyLoop { graph: usize, node: usize },
-    /// At this node the graph begins with itself.
+    /// At this node a unit of the graph begins with itself.
     LeftRecursion { graph: usize, node: usize },
     /// Memory ran out.
     NoMemory,
@@ -60,16 +64,23 @@ impl From<NoMemory> for AdmissionError {
 }
 
 /// The ranks of an admissible grammar; of another, the first graph with an empty loop and the least
-/// node on one, and else the first that begins with itself and the least node at which it does.
-pub fn admit(alloc: Global, graphs: &[Lst<Place>]) -> Result<Admission, AdmissionError>
+/// node on one, and else the first of which a unit begins with itself, and the least node at which one
+/// does. It wants for each place those into which the bodies from there are closed.
+pub fn admit(
+    alloc: Global,
+    graphs: &[Lst<Place>],
+    closers: &[Lst<usize>],
+) -> Result<Admission, AdmissionError>
     requires fit { All (IsFit (length graphs.now)) graphs.now }
+    requires closers { AreClosers graphs.now closers.now }
+    requires opened { AreOpened graphs.now }
     ensures ranks { IfOk result (λ admission.
         ArePlaceRanks graphs.now admission.ranks.items admission.free.items) }
     ensures admissible { OnOk result (IsAdmissible (place_grammar graphs.now)) }
     ensures cause { IfErr result (IsRefusal graphs.now) }
 {
     let offsets = offsets_of(alloc, graphs)?;
-    let ways = ways_of(alloc, graphs, &offsets)?;
+    let ways = ways_of(alloc, graphs, &offsets, closers)?;
     let marks = free_places(alloc, graphs, &offsets, &ways)?;
     refuse_loops(alloc, graphs, &offsets, &ways, &marks)?;
     let numbers = numbers_of(alloc, graphs, &offsets, &ways, &marks)?;
@@ -86,6 +97,7 @@ fn refuse_loops(
     marks: &[bool],
 ) -> Result<(), AdmissionError>
     requires fit { All (IsFit (length graphs.now)) graphs.now }
+    requires opened { AreOpened graphs.now }
     requires offsets { AreOffsets graphs.now offsets.now }
     requires ways { AreWays graphs.now ways.now }
     requires marks { AreFreeMarks graphs.now marks.now }
@@ -101,8 +113,8 @@ fn refuse_loops(
     }
 }
 
-/// Refuses a grammar without empty loops in which a graph begins with itself, at the least node at
-/// which the first such graph does.
+/// Refuses a grammar without empty loops in which a unit begins with itself, at the least node at
+/// which one of the first such graph does.
 fn refuse_recursion(
     alloc: Global,
     graphs: &[Lst<Place>],

@@ -4,7 +4,9 @@ ghost use Rattle.std.specs.Prelude.{◌≡◌, ◌≢◌, ◌≤◌, ◌<◌, �
 ghost use Rattle.ux_grf.specs.Size.{size_of};
 ghost use Rattle.ux_grf.specs.WellFormed.{IsWellFormed};
 ghost use Rattle.ux_net.specs.Boxes.{box_grammar};
+ghost use Rattle.ux_net.specs.Closings.{TellsClosings};
 ghost use Rattle.ux_net.specs.Compiling.{IsConstructed};
+ghost use Rattle.ux_net.specs.Marked.{IsMarked};
 ghost use Rattle.ux_net.specs.Nets.{net_grammar};
 ghost use Rattle.ux_net.specs.Refusing.{drawn, IsCompilable, Refuses};
 ghost use Rattle.ux_net.specs.Words.{SayTheSame};
@@ -34,6 +36,8 @@ impl Net {
             SayTheSame (box_grammar alphabet.now (drawn graphs.items)) (net_grammar net)) }
         ensures built { IfOk result (λ net.
             IsConstructed alphabet.now (drawn graphs.items) net) }
+        ensures marked { IfOk result IsMarked }
+        ensures told { IfOk result TellsClosings }
         ensures err { IfErr result (Refuses alphabet.now (drawn graphs.items)) }
     {
         let net = compiled(alloc, graphs, alphabet)?;

@@ -1,4 +1,4 @@
-//! Where a grammar has an empty loop, or a graph that begins with itself.
+//! Where a grammar has an empty loop, or a unit that begins with itself.
 
 ghost use Rattle.std.specs.Prelude.{◌≡◌, ℕ, ◌↔◌, List, length, get_or, All, Contains, IfOk, OnOk, IsTrue};
 ghost use Rattle.ux_net.specs.Places.{place_grammar};
@@ -7,10 +7,10 @@ ghost use Rattle.ux_net.specs.Admissible.{IsOnEmptyLoop, IsLeftRecursive};
 ghost use Rattle.ux_net.specs.Numbers.{AreOffsets};
 ghost use Rattle.ux_net.specs.Ways.{AreWays, AreFreeMarks};
 ghost use Rattle.ux_net.specs.Gains.{Gains, SoOfOne};
-ghost use Rattle.ux_net.specs.Cycles.{AreNumbered};
+ghost use Rattle.ux_net.specs.Cycles.{AreNumbered, AreOpened};
 ghost use Rattle.ux_net.specs.Spots.{IsLoopSpot, IsEntrySpot, FindsFirst};
 
-use crate::edges::{all_rows, free_rows, is_open};
+use crate::edges::{all_rows, entered, free_rows, is_open};
 use crate::place::Place;
 use crate::spot::{Spot, least};
 use crate::way::Way;
@@ -28,6 +28,7 @@ pub fn first_loop(
 ) -> Mem<Option<Spot>>
     requires fit { All (IsFit (length graphs.now)) graphs.now }
     requires offsets { AreOffsets graphs.now offsets.now }
+    requires opened { AreOpened graphs.now }
     requires ways { AreWays graphs.now ways.now }
     requires marks { AreFreeMarks graphs.now marks.now }
     ensures { IfOk result (FindsFirst (IsOnEmptyLoop (place_grammar graphs.now))) }
@@ -40,7 +41,7 @@ pub fn first_loop(
 }
 
 /// Numbers of all places, which never rise along the edges of steps that may take nothing, or enter
-/// a graph, and which are equal where each of two places leads to the other.
+/// a unit, nor over a context, and which are equal where each of two places leads to the other.
 pub fn numbers_of(
     alloc: Global,
     graphs: &[Lst<Place>],
@@ -59,7 +60,7 @@ pub fn numbers_of(
     Ok(numbers)
 }
 
-/// The first graph that begins with itself, and the least node at which it does.
+/// The first graph of which a unit begins with itself, and the least node at which one does.
 pub fn first_recursion(
     alloc: Global,
     graphs: &[Lst<Place>],
@@ -102,7 +103,7 @@ fn push_loop_spot(
     ensures { OnOk result
         (Gains spots.old.items spots.new.items (IsLoopSpot marks.now numbers.now way)) }
 {
-    if !is_open(marks, way.called) {
+    if !is_open(marks, way.passage) {
         return Ok(());
     }
     if number_at(numbers, way.from) != number_at(numbers, way.to) {
@@ -115,7 +116,7 @@ fn push_loop_spot(
     Ok(())
 }
 
-/// Adds the targets of the ways that enter a graph whose start has the number of their source.
+/// Adds the targets of the ways that enter a unit whose first place has the number of their source.
 fn push_entry_spots(
     spots: &mut Vec<Spot>,
     ways: &[Way],
@@ -130,12 +131,12 @@ fn push_entry_spots(
     Ok(())
 }
 
-/// Adds the target of the way, if it enters a graph whose start has the number of its source.
+/// Adds the target of the way, if it enters a unit whose first place has the number of its source.
 fn push_entry_spot(spots: &mut Vec<Spot>, way: Way, numbers: &[usize]) -> Result<(), AllocError>
     ensures { OnOk result
         (Gains spots.old.items spots.new.items (IsEntrySpot numbers.now way)) }
 {
-    let Some(start) = way.called else {
+    let Some(start) = entered(way) else {
         return Ok(());
     };
     if number_at(numbers, way.from) != number_at(numbers, start) {
@@ -149,7 +150,7 @@ fn push_entry_spot(spots: &mut Vec<Spot>, way: Way, numbers: &[usize]) -> Result
 }
 
 /// The number of the place.
-fn number_at(numbers: &[usize], place: usize) -> usize
+pub fn number_at(numbers: &[usize], place: usize) -> usize
     ensures { result ≡ get_or numbers.now place 0 }
 {
     match numbers.get(place) {

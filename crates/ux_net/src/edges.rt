@@ -1,22 +1,22 @@
 //! The ways as edges between the places of all graphs, one row a place.
 
-ghost use Rattle.std.specs.Prelude.{◌≡◌, ℕ, ◌<◌, ◌↔◌, List, [], ◌∷◌, ◌++◌, length, get_or, slice_set, All, Contains, IfOk, OnOk, IsTrue};
+ghost use Rattle.std.specs.Prelude.{◌≡◌, ℕ, ◌<◌, ◌↔◌, List, [], ◌∷◌, ◌++◌, length, get_or, slice_set, All, Contains, IfOk, OnOk, IsTrue, false};
 ghost use Rattle.ux_digraph.specs.Paths.{row_of};
 ghost use Rattle.ux_net.specs.Fit.{IsFit};
 ghost use Rattle.ux_net.specs.Numbers.{AreOffsets};
-ghost use Rattle.ux_net.specs.Ways.{AreWays, AreFreeMarks, IsOpen};
+ghost use Rattle.ux_net.specs.Ways.{AreWays, AreFreeMarks, IsOpen, entered_by};
 ghost use Rattle.ux_net.specs.Gains.{Gains, SoOfOne};
 ghost use Rattle.ux_net.specs.Spots.{IsFreePair, IsEntryPair};
 ghost use Rattle.ux_net.specs.Cycles.{AreFreeEdges, AreAllEdges};
 
 use crate::offsets::count_of;
 use crate::place::Place;
-use crate::way::Way;
+use crate::way::{Passage, Way};
 use std::alloc::{AllocError, Global};
 use std::mem;
 use ux_base::{Lst, Mem};
 
-/// The edges of the steps that may take nothing.
+/// The edges of the steps that may take nothing, and of contexts.
 pub fn free_rows(
     alloc: Global,
     graphs: &[Lst<Place>],
@@ -36,7 +36,7 @@ pub fn free_rows(
     Ok(rows)
 }
 
-/// The edges of the steps that may take nothing, and of those that enter a graph.
+/// The edges of the steps that may take nothing, of contexts, and of the steps that enter a unit.
 pub fn all_rows(
     alloc: Global,
     graphs: &[Lst<Place>],
@@ -57,16 +57,35 @@ pub fn all_rows(
     Ok(rows)
 }
 
-/// Whether a way may take nothing that calls this.
-pub fn is_open(marks: &[bool], called: Option<usize>) -> bool
-    ensures { IsTrue result ↔ IsOpen marks.now called }
+/// Whether a way may take nothing that leads on so.
+pub fn is_open(marks: &[bool], passage: Passage) -> bool
+    ensures { IsTrue result ↔ IsOpen marks.now passage }
 {
-    match called {
-        None => true,
-        Some(start) => match marks.get(start) {
-            Some(mark) => *mark,
-            None => false,
-        },
+    match passage {
+        Passage::Silent | Passage::Jumps => true,
+        Passage::Calls(start) => is_marked(marks, start),
+        Passage::Opens => false,
+    }
+}
+
+/// Whether the place is marked.
+fn is_marked(marks: &[bool], place: usize) -> bool
+    ensures { result ≡ get_or marks.now place false }
+{
+    match marks.get(place) {
+        Some(mark) => *mark,
+        None => false,
+    }
+}
+
+/// The first place of the unit that the way enters.
+pub fn entered(way: Way) -> Option<usize>
+    ensures { result ≡ entered_by way.passage way.to }
+{
+    match way.passage {
+        Passage::Silent | Passage::Jumps => None,
+        Passage::Calls(start) => Some(start),
+        Passage::Opens => Some(way.to),
     }
 }
 
@@ -93,14 +112,14 @@ fn push_free_pair(
 ) -> Result<(), AllocError>
     ensures { OnOk result (Gains pairs.old.items pairs.new.items (IsFreePair marks.now way)) }
 {
-    if !is_open(marks, way.called) {
+    if !is_open(marks, way.passage) {
         return Ok(());
     }
     pairs.push((way.from, way.to))?;
     Ok(())
 }
 
-/// Adds the edges of the ways that enter a graph.
+/// Adds the edges of the ways that enter a unit.
 fn push_entry_pairs(pairs: &mut Vec<(usize, usize)>, ways: &[Way]) -> Result<(), AllocError>
     ensures { OnOk result
         (Gains pairs.old.items pairs.new.items (SoOfOne ways.now IsEntryPair)) }
@@ -111,18 +130,18 @@ fn push_entry_pairs(pairs: &mut Vec<(usize, usize)>, ways: &[Way]) -> Result<(),
     Ok(())
 }
 
-/// Adds the edge of the way, if it enters a graph.
+/// Adds the edge of the way, if it enters a unit.
 fn push_entry_pair(pairs: &mut Vec<(usize, usize)>, way: Way) -> Result<(), AllocError>
     ensures { OnOk result (Gains pairs.old.items pairs.new.items (IsEntryPair way)) }
 {
-    if let Some(start) = way.called {
+    if let Some(start) = entered(way) {
         pairs.push((way.from, start))?;
     }
     Ok(())
 }
 
 /// The edges by the places from which they lead.
-fn rows_of(alloc: Global, size: usize, pairs: &[(usize, usize)]) -> Mem<Vec<Lst<usize>>>
+pub fn rows_of(alloc: Global, size: usize, pairs: &[(usize, usize)]) -> Mem<Vec<Lst<usize>>>
     requires inside { All (λ (p : ℕ × ℕ). p.0 < size) pairs.now }
     ensures len { IfOk result (λ rows. length rows.items ≡ size) }
     ensures rows { IfOk result (λ rows.
@@ -136,7 +155,7 @@ fn rows_of(alloc: Global, size: usize, pairs: &[(usize, usize)]) -> Mem<Vec<Lst<
 }
 
 /// An empty row for each place.
-fn empty_rows(alloc: Global, size: usize) -> Mem<Vec<Lst<usize>>>
+pub fn empty_rows(alloc: Global, size: usize) -> Mem<Vec<Lst<usize>>>
     ensures len { IfOk result (λ rows. length rows.items ≡ size) }
     ensures empty { IfOk result (λ rows. (u : ℕ) → row_of rows.items u ≡ []) }
 {
@@ -148,7 +167,7 @@ fn empty_rows(alloc: Global, size: usize) -> Mem<Vec<Lst<usize>>>
 }
 
 /// Puts the place at the end of the row.
-fn put(alloc: Global, rows: &mut Vec<Lst<usize>>, u: usize, v: usize) -> Result<(), AllocError>
+pub fn put(alloc: Global, rows: &mut Vec<Lst<usize>>, u: usize, v: usize) -> Result<(), AllocError>
     requires inside { u < length rows.now.items }
     ensures len { OnOk result (length rows.new.items ≡ length rows.old.items) }
     ensures put { OnOk result (rows.new.items ≡

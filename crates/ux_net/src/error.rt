@@ -18,9 +18,14 @@ pub enum NetError {
     /// meant, and the place is that of `Mask::read`.
     #[error("bad mask at place {place}: box {node} of graph {graph:?}")]
     BadMask { graph: Txt, node: u32, place: usize },
-    /// The box has an item that isn't compiled yet: one that opens or closes a context, or cuts.
-    #[error("not yet: box {node} of graph {graph:?}")]
-    NotYet { graph: Txt, node: u32 },
+    /// Into the box a context opens that isn't closed, or is closed behind an end of the graph, or
+    /// may not follow and is closed in two ways; or the box closes one that wasn't opened.
+    #[error("context close: box {node} of graph {graph:?}")]
+    ContextClose { graph: Txt, node: u32 },
+    /// A context of the graph that may not follow uses, by calls and contexts inside it, what has
+    /// that context.
+    #[error("negative recursion in graph {graph:?}")]
+    NegativeRecursion { graph: Txt },
     /// The box lies on a loop that takes no token.
     #[error("empty loop at box {node} of graph {graph:?}")]
     EmptyLoop { graph: Txt, node: u32 },

@@ -1,15 +1,15 @@
 //! Which places lead freely to an end of their graph.
 
-ghost use Rattle.std.specs.Prelude.{◌≡◌, ℕ, ◌+◌, ◌-◌, ◌<◌, ◌↔◌, List, [], length, get_or, map, All, Contains, IfOk, OnOk, IsTrue};
+ghost use Rattle.std.specs.Prelude.{◌≡◌, ℕ, ◌+◌, ◌-◌, ◌<◌, ◌↔◌, List, [], length, get_or, All, Contains, IfOk, OnOk, IsTrue};
 ghost use Rattle.ux_net.specs.Places.{place_targets, IsEndPlace};
 ghost use Rattle.ux_net.specs.Fit.{IsFit};
 ghost use Rattle.ux_net.specs.Numbers.{AreOffsets, all_places};
-ghost use Rattle.ux_net.specs.Ways.{AreWays, AreEnds, IsEndNumber, AreFreeMarks, rule_of, IsOpen};
-ghost use Rattle.ux_net.specs.Gains.{Gains};
+ghost use Rattle.ux_net.specs.Ways.{AreWays, AreEnds, IsEndNumber, AreFreeMarks, rule_of, IsRuleOf, LeadsOn};
+ghost use Rattle.ux_net.specs.Gains.{Gains, SoOfOne};
 
 use crate::offsets::count_of;
 use crate::place::Place;
-use crate::way::Way;
+use crate::way::{Passage, Way};
 use crate::ways::targets_of;
 use std::alloc::{AllocError, Global};
 use ux_base::{Lst, Mem};
@@ -99,22 +99,57 @@ fn is_end(places: &[Place], n: usize) -> bool
 
 /// The rules of the ways: a source is nullable where the target and the start that is called are.
 fn rules_of(alloc: Global, ways: &[Way]) -> Mem<Vec<Rule>>
-    ensures { IfOk result (λ rules. rules.items ≡ map rule_of ways.now) }
+    ensures { IfOk result (λ rules.
+        Gains [] rules.items (SoOfOne ways.now IsRuleOf)) }
 {
     let mut rules = Vec::new(alloc);
-    for way in ways {
-        rules.push(rule(way))?;
-    }
+    push_rules(&mut rules, ways)?;
     Ok(rules)
 }
 
-/// The rule of the way.
-fn rule(way: &Way) -> Rule
-    ensures { result ≡ rule_of way.now }
+/// Adds the rules of the ways.
+fn push_rules(rules: &mut Vec<Rule>, ways: &[Way]) -> Result<(), AllocError>
+    ensures { OnOk result
+        (Gains rules.old.items rules.new.items (SoOfOne ways.now IsRuleOf)) }
 {
+    for way in ways {
+        push_rule(rules, *way)?;
+    }
+    Ok(())
+}
+
+/// Adds the rule of the way, unless it leads into a context.
+fn push_rule(rules: &mut Vec<Rule>, way: Way) -> Result<(), AllocError>
+    ensures { OnOk result (Gains rules.old.items rules.new.items (IsRuleOf way)) }
+{
+    if !leads_on(way.passage) {
+        return Ok(());
+    }
+    rules.push(rule(way))?;
+    Ok(())
+}
+
+/// Whether the way leads on in its graph, and not into a context.
+fn leads_on(passage: Passage) -> bool
+    ensures { IsTrue result ↔ LeadsOn passage }
+{
+    match passage {
+        Passage::Silent | Passage::Calls(_) | Passage::Jumps => true,
+        Passage::Opens => false,
+    }
+}
+
+/// The rule of the way.
+fn rule(way: Way) -> Rule
+    ensures { result ≡ rule_of way }
+{
+    let second = match way.passage {
+        Passage::Calls(start) => start,
+        Passage::Silent | Passage::Opens | Passage::Jumps => way.to,
+    };
     Rule {
         place: way.from,
         first: way.to,
-        second: way.called.unwrap_or(way.to),
+        second,
     }
 }

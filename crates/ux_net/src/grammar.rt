@@ -1,6 +1,6 @@
 //! The parts of compiling a list of graphs, in their order: places, their ranks, and states.
 
-ghost use Rattle.std.specs.Prelude.{◌≡◌, ◌≢◌, ℕ, ◌≤◌, ◌<◌, List, All, AllPairs, IfErr, IfOk, OnOk, length, string_bytes, map};
+ghost use Rattle.std.specs.Prelude.{◌≡◌, ◌≢◌, ℕ, ◌+◌, ◌≤◌, ◌<◌, List, [], All, AllPairs, Contains, IfErr, IfOk, OnOk, length, get_or, string_bytes, map};
 ghost use Rattle.ux_grf.specs.Size.{size_of};
 ghost use Rattle.ux_grf.specs.WellFormed.{IsWellFormed};
 ghost use Rattle.ux_tokens.specs.Numbers.{texts_in};
@@ -9,24 +9,37 @@ ghost use Rattle.ux_net.specs.declared.place.Place.{Place};
 ghost use Rattle.ux_net.specs.Admissible.{IsAdmissible};
 ghost use Rattle.ux_net.specs.Admission.{ArePlaceRanks};
 ghost use Rattle.ux_net.specs.Boxes.{box_grammar, names_of as names_of_graphs};
-ghost use Rattle.ux_net.specs.Compiling.{AreSplit, AreTested, IsBuiltOf, IsConstructed, RefusesPlaces};
+ghost use Rattle.ux_net.specs.Closers.{AreClosers};
+ghost use Rattle.ux_net.specs.Closings.{TellsClosings};
+ghost use Rattle.ux_net.specs.Compiling.{AreSplit, AreTested, IsBuiltOf, IsConstructed, IsSoundGrammar, RefusesContexts, RefusesNet, RefusesPlaces, RefusesRecursion};
 ghost use Rattle.ux_net.specs.Construct.{AreFit};
-ghost use Rattle.ux_net.specs.Fit.{IsFit};
+ghost use Rattle.ux_net.specs.ContextClose.{AreClosed};
+ghost use Rattle.ux_net.specs.Cycles.{AreOpened};
+ghost use Rattle.ux_net.specs.Fit.{HasTargetsInside, IsFit};
+ghost use Rattle.ux_net.specs.Marked.{IsMarked};
+ghost use Rattle.ux_net.specs.NegativeRecursion.{HasNoNegativeRecursion};
 ghost use Rattle.ux_net.specs.Nets.{net_grammar};
+ghost use Rattle.ux_net.specs.Numbers.{AreOffsets};
 ghost use Rattle.ux_net.specs.Places.{place_grammar};
 ghost use Rattle.ux_net.specs.Ranks.{AreBuilt, IsBuilt};
 ghost use Rattle.ux_net.specs.Refusing.{drawn, is_name_at, IsCompilable, Refuses};
 ghost use Rattle.ux_net.specs.Sound.{IsSound};
 ghost use Rattle.ux_net.specs.Splitting.{IsSplittableBox};
+ghost use Rattle.ux_net.specs.Uses.{AreLevels};
 ghost use Rattle.ux_net.specs.Words.{SayTheSame};
 
 use crate::admissible::{Admission, AdmissionError, admit};
 use crate::bad_masks::refuse_bad_masks;
-use crate::checking::refuse_beyond;
+use crate::closers::closers_of;
+use crate::closings::closings;
 use crate::construct::states;
+use crate::context_close::refuse_bad_contexts;
 use crate::error::NetError;
 use crate::missing::{names_of, refuse_missing};
+use crate::naming::name_of;
+use crate::negative_recursion::{LevelsError, levels_of};
 use crate::net_graph::NetGraph;
+use crate::offsets::offsets_of;
 use crate::place::Place;
 use crate::ranks::ranks;
 use crate::split::split_graph;
@@ -53,6 +66,8 @@ pub fn compiled(
     ensures words { IfOk result (λ net.
         SayTheSame (box_grammar alphabet.now (drawn graphs.items)) (net_grammar net.items)) }
     ensures sound { IfOk result (λ net. IsSound net.items) }
+    ensures marked { IfOk result (λ net. IsMarked net.items) }
+    ensures told { IfOk result (λ net. TellsClosings net.items) }
     ensures err { IfErr result (Refuses alphabet.now (drawn graphs.items)) }
 {
     let places = places_of(alloc, &graphs, alphabet)?;
@@ -61,7 +76,7 @@ pub fn compiled(
     net_of(alloc, &names, &places)
 }
 
-/// The places of graphs that pass the tests which come before that of loops.
+/// The places of graphs that pass the tests which come before places are looked at.
 fn places_of(
     alloc: Global,
     graphs: &[(String, Graph)],
@@ -76,7 +91,6 @@ fn places_of(
     let names = names_of(alloc, graphs)?;
     refuse_missing(alloc, graphs, &names)?;
     refuse_bad_masks(alloc, graphs)?;
-    refuse_beyond(alloc, graphs)?;
     Ok(split_graphs(alloc, alphabet, &names, graphs)?)
 }
 
@@ -95,20 +109,93 @@ fn names_given(alloc: Global, graphs: &[(String, Graph)]) -> Result<Vec<String>,
 /// Lets the graphs go.
 fn let_go(_graphs: Vec<(String, Graph)>) {}
 
-/// The states of graphs of these names and places, if their grammar is admissible.
+/// The states of graphs of these names and places, if their contexts are closed, no negative one
+/// comes back to itself, and their grammar is admissible.
 fn net_of(alloc: Global, names: &[String], places: &[Lst<Place>]) -> Result<Vec<NetGraph>, NetError>
     requires count { length places.now ≡ length names.now }
     requires few_graphs { length names.now ≤ 65535 }
     requires fit { All (IsFit (length places.now)) places.now }
     requires few { All (λ (graph : List Place). length graph ≤ 65535) places.now }
     requires are_fit { All AreFit places.now }
+    ensures sound { OnOk result (IsSoundGrammar (place_grammar places.now)) }
+    ensures built { IfOk result (λ net.
+        IsBuiltOf (map string_bytes names.now) places.now net.items) }
+    ensures err { IfErr result (RefusesNet (map string_bytes names.now) places.now) }
+{
+    let offsets = offsets_of(alloc, places)?;
+    let closers = closed_contexts(alloc, names, places)?;
+    let levels = leveled(alloc, names, places, &offsets, &closers)?;
+    admitted_net(alloc, names, places, &offsets, &closers, &levels)
+}
+
+/// For each place those into which contexts are closed, if they are closed as they have to be.
+fn closed_contexts(
+    alloc: Global,
+    names: &[String],
+    places: &[Lst<Place>],
+) -> Result<Vec<Lst<usize>>, NetError>
+    requires count { length places.now ≡ length names.now }
+    requires few { All (λ (graph : List Place). length graph ≤ 65535) places.now }
+    requires inside { All HasTargetsInside places.now }
+    ensures closed { OnOk result (AreClosed (place_grammar places.now)) }
+    ensures closers { IfOk result (λ closers. AreClosers places.now closers.items) }
+    ensures err { IfErr result (RefusesContexts (map string_bytes names.now) places.now) }
+{
+    let closers = closers_of(alloc, places)?;
+    refuse_bad_contexts(alloc, names, places, &closers)?;
+    Ok(closers)
+}
+
+/// A level for each place. The refusal of a grammar that has none names its graph.
+fn leveled(
+    alloc: Global,
+    names: &[String],
+    places: &[Lst<Place>],
+    offsets: &[usize],
+    closers: &[Lst<usize>],
+) -> Result<Vec<usize>, NetError>
+    requires count { length places.now ≡ length names.now }
+    requires fit { All (IsFit (length places.now)) places.now }
+    requires offsets { AreOffsets places.now offsets.now }
+    requires closing { AreClosers places.now closers.now }
+    ensures leveled { IfOk result (λ levels. AreLevels places.now levels.items) }
+    ensures levels { OnOk result (HasNoNegativeRecursion (place_grammar places.now)) }
+    ensures err { IfErr result (RefusesRecursion (map string_bytes names.now) places.now) }
+{
+    match levels_of(alloc, places, offsets, closers) {
+        Ok(levels) => Ok(levels),
+        Err(LevelsError::NegativeRecursion { graph }) => Err(NetError::NegativeRecursion {
+            graph: name_of(alloc, names, graph)?,
+        }),
+        Err(LevelsError::NoMemory) => Err(NetError::NoMemory),
+    }
+}
+
+/// The same where no context is refused, with a level for each place.
+fn admitted_net(
+    alloc: Global,
+    names: &[String],
+    places: &[Lst<Place>],
+    offsets: &[usize],
+    closers: &[Lst<usize>],
+    levels: &[usize],
+) -> Result<Vec<NetGraph>, NetError>
+    requires count { length places.now ≡ length names.now }
+    requires few_graphs { length names.now ≤ 65535 }
+    requires fit { All (IsFit (length places.now)) places.now }
+    requires few { All (λ (graph : List Place). length graph ≤ 65535) places.now }
+    requires are_fit { All AreFit places.now }
+    requires offsets { AreOffsets places.now offsets.now }
+    requires closing { AreClosers places.now closers.now }
+    requires closed { AreClosed (place_grammar places.now) }
+    requires leveled { AreLevels places.now levels.now }
     ensures admissible { OnOk result (IsAdmissible (place_grammar places.now)) }
     ensures built { IfOk result (λ net.
         IsBuiltOf (map string_bytes names.now) places.now net.items) }
     ensures err { IfErr result (RefusesPlaces (map string_bytes names.now) places.now) }
 {
-    let admission = admitted(alloc, names, places)?;
-    Ok(build(alloc, names, places, &admission)?)
+    let admission = admitted(alloc, names, places, closers)?;
+    Ok(build(alloc, names, places, &admission, offsets, closers)?)
 }
 
 /// The places of the graphs.
@@ -133,16 +220,23 @@ fn split_graphs(
 }
 
 /// The ranks of an admissible grammar. The refusal of another names its graph.
-fn admitted(alloc: Global, names: &[String], places: &[Lst<Place>]) -> Result<Admission, NetError>
+fn admitted(
+    alloc: Global,
+    names: &[String],
+    places: &[Lst<Place>],
+    closers: &[Lst<usize>],
+) -> Result<Admission, NetError>
     requires count { length places.now ≡ length names.now }
     requires fit { All (IsFit (length places.now)) places.now }
+    requires closers { AreClosers places.now closers.now }
+    requires opened { AreOpened places.now }
     requires few { All (λ (graph : List Place). length graph ≤ 65535) places.now }
     ensures ranks { IfOk result (λ admission.
         ArePlaceRanks places.now admission.ranks.items admission.free.items) }
     ensures admissible { OnOk result (IsAdmissible (place_grammar places.now)) }
     ensures err { IfErr result (RefusesPlaces (map string_bytes names.now) places.now) }
 {
-    match admit(alloc, places) {
+    match admit(alloc, places, closers) {
         Ok(admission) => Ok(admission),
         Err(AdmissionError::EmptyLoop { graph, node }) => Err(NetError::EmptyLoop {
             graph: name_of(alloc, names, graph)?,
@@ -156,59 +250,70 @@ fn admitted(alloc: Global, names: &[String], places: &[Lst<Place>]) -> Result<Ad
     }
 }
 
-/// The name of the graph of this number, counted from 1.
-fn name_of(alloc: Global, names: &[String], graph: usize) -> Mem<Txt>
-    requires from { 1 ≤ graph }
-    requires to { graph ≤ length names.now }
-    ensures { IfOk result (is_name_at (map string_bytes names.now) graph) }
-{
-    let name = &names[graph - 1];
-    Ok(Txt::from_str(alloc, name.as_str())?)
-}
-
 /// The states of the graphs, with their ranks.
 fn build(
     alloc: Global,
     names: &[String],
     places: &[Lst<Place>],
     admission: &Admission,
+    offsets: &[usize],
+    closers: &[Lst<usize>],
 ) -> Mem<Vec<NetGraph>>
     requires count { length places.now ≡ length names.now }
     requires fit { All AreFit places.now }
     requires small { All (All (λ rank. rank < 4294967296)) admission.now.ranks.items }
-    ensures built { IfOk result (λ net.
-        AreBuilt places.now admission.now.ranks.items admission.now.free.items net.items) }
+    requires offsets { AreOffsets places.now offsets.now }
+    requires closing { AreClosers places.now closers.now }
+    ensures built { IfOk result (λ net. AreBuilt places.now closers.now
+        admission.now.ranks.items admission.now.free.items net.items) }
     ensures names { IfOk result (λ net. map (λ (graph : NetGraph). graph.name) net.items
         ≡ map string_bytes names.now) }
 {
     let mut net = Vec::new(alloc);
     for (number, name) in names.iter().enumerate() {
         let places = places[number].as_slice();
-        net.push(build_graph(alloc, name.as_str(), places, number + 1, admission)?)?;
+        let before = offsets[number];
+        net.push(build_graph(
+            alloc,
+            name.as_str(),
+            places,
+            number + 1,
+            admission,
+            closers,
+            before,
+        )?)?;
     }
     Ok(net)
 }
 
-/// The states of the graph of this number, counted from 1, with their ranks.
+/// The states of the graph of this number, counted from 1, with their ranks. The rows of its places
+/// begin at `before`.
 fn build_graph(
     alloc: Global,
     name: &str,
     places: &[Place],
     number: usize,
     admission: &Admission,
+    closers: &[Lst<usize>],
+    before: usize,
 ) -> Mem<NetGraph>
     requires fit { AreFit places.now }
     requires small { All (All (λ rank. rank < 4294967296)) admission.now.ranks.items }
-    ensures built { IfOk result
-        (IsBuilt admission.now.ranks.items admission.now.free.items number places.now) }
+    requires room { before + length places.now < 18446744073709551616 }
+    requires inside { (b c : ℕ) → b < length places.now →
+        Contains (get_or closers.now (before + b) []) c → c < length places.now }
+    ensures built { IfOk result (IsBuilt admission.now.ranks.items admission.now.free.items
+        number (λ b. get_or closers.now (before + b) []) places.now) }
     ensures name { IfOk result (λ (graph : NetGraph). graph.name ≡ name.now) }
 {
     let states = states(alloc, places)?;
     let (ranks, free) = ranks(alloc, places, number, admission)?;
+    let closings = closings(alloc, places, closers, before)?;
     Ok(NetGraph {
         name: Txt::from_str(alloc, name)?,
         states: Lst::new(states),
         ranks: Lst::new(ranks),
         free: Lst::new(free),
+        closings: Lst::new(closings),
     })
 }

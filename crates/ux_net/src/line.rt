@@ -1,8 +1,9 @@
-//! What a line of labels takes.
+//! What a line of labels takes, and whether it opens a context.
 
-ghost use Rattle.std.specs.Prelude.{◌≡◌, ℕ, [], ◌∷◌, IfSome, IfNone};
+ghost use Rattle.std.specs.Prelude.{◌≡◌, ℕ, ◌↔◌, [], ◌∷◌, IfSome, IfNone, IsTrue};
 ghost use Rattle.ux_net.specs.declared.label.Label.TheVariants.{Call};
 ghost use Rattle.ux_net.specs.Silent.{is_silent as is_silent_of, are_silent as are_silent_of};
+ghost use Rattle.ux_net.specs.Ways.{IsOpening};
 
 use crate::label::Label;
 
@@ -39,5 +40,15 @@ pub fn one_call(line: &[Label]) -> Option<u32>
     match line {
         [Label::Call(graph)] => Some(*graph),
         _ => None,
+    }
+}
+
+/// Whether the line opens a context.
+pub fn is_opening(line: &[Label]) -> bool
+    ensures { IsTrue result ↔ IsOpening line.now }
+{
+    match line {
+        [Label::Positive] | [Label::Negative] => true,
+        _ => false,
     }
 }

@@ -1,12 +1,15 @@
 //! A grammar as states: the graphs of a compiled list, of which the first is the main graph.
 
-ghost use Rattle.std.specs.Prelude.{◌≡◌, ℕ, ◌≤◌, ◌<◌, Some, IsSomeAnd, length, slice_get, option_copied, get_or};
+ghost use Rattle.std.specs.Prelude.{◌≡◌, ◌↔◌, ℕ, ◌≤◌, ◌<◌, Some, IsSomeAnd, IsTrue, length, slice_get, option_copied, get_or};
+ghost use Rattle.ux_net.specs.Closings.{closings_at, closing_of, Ascend};
 ghost use Rattle.ux_net.specs.Masks.{IsMaskCount};
 ghost use Rattle.ux_net.specs.Measured.{IsMeasured};
 ghost use Rattle.ux_net.specs.Nets.{graph_at, states_of, ArePlain};
 ghost use Rattle.ux_net.specs.Sound.{IsSound};
 
-use crate::net_graph::{NetGraph, Rank};
+use crate::closings::told;
+use crate::net_graph::{Closing, NetGraph, Rank};
+use crate::plain::are_plain;
 use crate::state::{Edge, State};
 use std::marker::Model;
 
@@ -63,11 +66,11 @@ impl Net {
         let _ = &self.graphs;
     }
 
-    /// Every label of a net is of a kind that is compiled.
-    pub fn is_plain(&self)
-        ensures { ArePlain self.now }
+    /// Whether no label bounds a context or cuts. Looks at each edge, and takes no memory.
+    pub fn is_plain(&self) -> bool
+        ensures { IsTrue result ↔ ArePlain self.now }
     {
-        let _ = &self.graphs;
+        are_plain(&self.graphs)
     }
 
     /// The name of a graph.
@@ -117,6 +120,14 @@ impl Net {
         }
     }
 
+    /// The state into which the body that begins at a state is closed, where a context that may not
+    /// follow opens into it. Takes no memory, and a search by halves.
+    pub fn closing(&self, graph: u32, state: u32) -> Option<u32>
+        ensures { result ≡ closing_of self.now graph state }
+    {
+        told(self.closings(graph), state)
+    }
+
     /// The edges of a state, in order.
     pub fn edges(&self, graph: u32, state: u32) -> &[Edge]
         requires from { 1 ≤ graph }
@@ -145,6 +156,21 @@ impl Net {
     {
         let graph = self.graphs.get((graph as usize).checked_sub(1)?)?;
         graph.states.as_slice().get(state as usize)
+    }
+
+    /// Where the contexts of a graph that may not follow are closed; nothing, where there is no such
+    /// graph.
+    fn closings(&self, graph: u32) -> &[Closing]
+        ensures told { result.now ≡ closings_at (graph_at self.now graph) }
+        ensures ascend { Ascend result.now }
+    {
+        let Some(before) = (graph as usize).checked_sub(1) else {
+            return &[];
+        };
+        match self.graphs.get(before) {
+            Some(found) => found.closings.as_slice(),
+            None => &[],
+        }
     }
 
     /// The states of a graph.

@@ -14,6 +14,18 @@ pub struct NetGraph {
     pub ranks: Lst<Rank>,
     /// For each state, whether an end may be reached from it with no token.
     pub free: Lst<bool>,
+    /// Where each context that may not follow is closed, in the order of the states into which such
+    /// contexts open.
+    pub closings: Lst<Closing>,
+}
+
+/// Where a context that may not follow is closed.
+#[derive(Clone, Copy)]
+pub struct Closing {
+    /// The state into which it opens.
+    pub opening: u32,
+    /// The state into which it is closed.
+    pub closing: u32,
 }
 
 /// The rank of a state: a lower major number is lower, and among equal ones a lower minor number.

@@ -175,7 +175,10 @@ fn split_item(
         Item::Call(name) => return push_call(names, name.as_str(), labels),
         Item::Begin(name) => return push_begin(alloc, name.as_str(), labels),
         Item::End(name) => return push_end(alloc, name.as_str(), labels),
-        Item::Positive | Item::Negative | Item::ContextEnd | Item::Cut => unreachable!(),
+        Item::Positive => return Ok(labels.push(Label::Positive)?),
+        Item::Negative => return Ok(labels.push(Label::Negative)?),
+        Item::ContextEnd => return Ok(labels.push(Label::ContextEnd)?),
+        Item::Cut => return Ok(labels.push(Label::Cut)?),
     }
 }
 

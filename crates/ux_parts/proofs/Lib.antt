@@ -1,7 +1,7 @@
 pub mod Running
 pub mod Ahead
 pub mod Marked
-pub mod PlainNets
+mod Deduped
 pub mod Mapped
 mod OrderingLemmas
 mod PartsLemmas

@@ -11,7 +11,7 @@ use Rattle.ux_net.specs.Levels.{LetterLevel, WordLevel, HasLevels}
 use Rattle.ux_meaning.specs.Inputs.{Input}
 use Rattle.ux_meaning.proofs.Levels.{word_above}
 use Rattle.ux_parts.specs.Ordered.{MayStay, IsFree, none, stays, calls, IsNullable, NeverRises, IsOrdered}
-use Rattle.ux_parts.specs.Marks.{Marks, Keeps, Stands, HoldAlong, AreMarksOf}
+use Rattle.ux_net.specs.Marked.{Marks, Keeps, Stands, HoldAlong, AreMarksOf}
 
 pub is_closer : (x : Label) → mark_of (x ∷ []) ≡ closes → x ≡ label.ContextEnd
 is_closer label.ContextEnd e = refl

@@ -1,5 +1,4 @@
 pub mod Runs
 pub mod Ordered
 pub mod Parts
-pub mod Marks
 pub mod Order

@@ -7,11 +7,10 @@
 //!
 //! `specs/Runs.antt` says what such a search sees of the meaning: which states runs reach, where they
 //! end or close a context, and where one step leads. `specs/Ordered.antt` says what an order is, and
-//! `specs/Parts.antt` what the parts are. `specs/Marks.antt` has marks of states that speak of edges
+//! `specs/Parts.antt` what the parts are. `ux_net` has marks of states (`Marked`) that speak of edges
 //! alone; `proofs/Marked.antt` has the law that a net with such marks has an order and levels.
 //!
-//! The nets of today have no contexts, so `Parts::of` gives a part for each graph. All
-//! definitions and laws have contexts of both signs.
+//! A state is told by its rank in `ordering`, where the parts are put in order and numbered.
 #![tactic(auto)]
 
 pub mod ordering;

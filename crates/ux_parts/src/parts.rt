@@ -1,13 +1,15 @@
 //! The parts of a net, by number and by state.
 
 ghost use Rattle.std.specs.Prelude.{◌≡◌, length, IfOk, slice_get, option_copied};
-ghost use Rattle.ux_parts.specs.Order.{AreRanked};
+ghost use Rattle.ux_net.specs.Closings.{TellsClosings};
+ghost use Rattle.ux_net.specs.Marked.{IsMarked};
+ghost use Rattle.ux_parts.specs.Order.{all_entries, IsOrderOf};
 ghost use Rattle.ux_parts.specs.Parts.{number_of, closing_of, ArePartsOf};
 
-use crate::ordering::{list_of, numbers_of, order_of, ranked};
+use crate::ordering::{Entry, entries, list_of, numbers_of, order_of};
 use crate::part::Part;
 use std::alloc::Global;
-use ux_base::{Lst, Mem};
+use ux_base::{Lst, Mem, NoMemory};
 use ux_net::Net;
 
 /// The parts of a net.
@@ -18,34 +20,39 @@ pub struct Parts {
     /// A row for each graph, with the number of the part that begins at each state. A state behind
     /// the end of its row begins none.
     pub numbers: Lst<Lst<Option<u32>>>,
-    /// How many levels of negative contexts there are, the lowest of which has none.
+    /// More levels than negative contexts nest in each other, the lowest of which has none.
     pub levels: usize,
 }
 
 impl Parts {
-    /// The parts of a net that has no contexts, as all nets of today: its graphs, in the order of the
-    /// ranks of their first states. Takes the time of a sort of the graphs.
+    /// The parts of a net: its graphs and the bodies of its contexts, in the order of the ranks of
+    /// their first states. Takes the time of a sort of them. Where they are more than 32 bits number,
+    /// it is out of memory.
     pub fn of(alloc: Global, net: &Net) -> Mem<Parts>
+        requires marked { IsMarked net.now }
+        requires told { TellsClosings net.now }
         ensures { IfOk result (λ parts. ArePartsOf net.now parts) }
     {
-        let ranked = ranked(alloc, net)?;
-        Parts::by_rank(alloc, net, ranked)
+        let order = order_of(entries(alloc, net)?);
+        Parts::in_order(alloc, net, &order)
     }
 
-    /// The same, with the rank of its first state in front of each graph, as a major and a minor number.
-    fn by_rank(alloc: Global, net: &Net, ranked: Vec<(usize, usize, u32)>) -> Mem<Parts>
-        requires { AreRanked net.now (length net.now) ranked.items }
+    /// The parts that begin at these states.
+    fn in_order(alloc: Global, net: &Net, order: &[Entry]) -> Mem<Parts>
+        requires order { IsOrderOf (all_entries net.now (length net.now)) order.now }
+        requires marked { IsMarked net.now }
+        requires told { TellsClosings net.now }
         ensures { IfOk result (λ parts. ArePartsOf net.now parts) }
     {
-        net.is_measured();
-        net.is_plain();
-        let order = order_of(alloc, ranked)?;
-        let numbers = numbers_of(alloc, net.graphs() as usize, &order)?;
-        let list = list_of(alloc, &order)?;
+        if order.len() > u32::MAX as usize {
+            return Err(NoMemory);
+        }
+        let numbers = numbers_of(alloc, net.graphs() as usize, order)?;
+        let list = list_of(alloc, net, order)?;
         Ok(Parts {
             list: Lst::new(list),
             numbers: Lst::new(numbers),
-            levels: 1,
+            levels: u32::MAX as usize,
         })
     }
 

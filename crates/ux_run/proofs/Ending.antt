@@ -20,8 +20,10 @@ use Rattle.ux_search.proofs.SearchLaws.{laws as locate_laws}
 use Rattle.ux_concordance.proofs.ConcordLaws.{laws as concord_laws}
 use Rattle.ux_tokenize.proofs.TokenizeLaws.{laws as tokenize_laws}
 use Rattle.ux_check.proofs.CheckLaws.{entries_laws, stems_laws}
+use Rattle.ux_compress.proofs.CompressLaws.{laws as compress_laws}
 use Rattle.ux_dico.proofs.DicoLaws.{laws as dico_laws}
-use Rattle.ux_run.specs.Requests.{are_texts, is_built_search, is_text}
+use Rattle.ux_bench.proofs.BenchLaws.{laws as bench_laws}
+use Rattle.ux_run.specs.Requests.{is_drawn}
 use Rattle.ux_run.specs.Running.{Asked, Denies, EndsBy, IsAnswer, IsAnswerable, IsAsked, asked_if, asked_of, asks, nothing, only_if, same_told, status_of, text_command, told_of}
 
 -- THE LAWS OF PLANS
@@ -37,25 +39,24 @@ built_laws false asked laws = tt
 
 -- each command keeps them: a line a command
 laws_of : (request : Request) → AskedLaws (asked_of request)
-laws_of (Locate search) = built_laws (is_built_search search) _
+laws_of (Locate search) = built_laws (is_drawn search.graph) _
     (locate_laws search.graph search.text search.alphabet search.dics search.mode search.policy
     search.novar search.chars)
-laws_of (Concord search left right sort) = built_laws (is_built_search search) _
+laws_of (Concord search left right sort) = built_laws (is_drawn search.graph) _
     (concord_laws search.graph search.text search.alphabet search.dics search.mode search.policy
     search.novar search.chars (record { left = left; right = right; sort = sort }))
 laws_of (Tokenize text alphabet chars) = tokenize_laws text alphabet chars
-laws_of (Check false file) = built_laws (is_text file) _ (entries_laws file)
+laws_of (Check false file) = entries_laws file
 laws_of (Check true file) = stems_laws file
-laws_of (Dico text alphabet dics chars) = built_laws (are_texts dics) _
-    (dico_laws text alphabet dics chars)
+laws_of (Compress dic) = compress_laws dic
+laws_of (Dico text alphabet dics chars) = dico_laws text alphabet dics chars
 laws_of Help = tt
 laws_of Version = tt
 laws_of (Fst2 graph alphabet chars) = tt
 laws_of (Inflect stems) = tt
-laws_of (Compress dic) = tt
 laws_of (Tfst text alphabet dics chars) = tt
 laws_of (Elag tfst rules) = tt
-laws_of (Bench n) = tt
+laws_of (Bench n) = bench_laws n
 laws_of (Cascade text alphabet steps dics trace) = tt
 laws_of (Flatten graph alphabet depth) = tt
 laws_of (Tfind graph tfst alphabet) = tt
@@ -94,6 +95,34 @@ module _ {R : Type 0} (command : Command R) (told_as : R → Reason)
           IfErr (told_of told_as a) (Denies (asks command told_as) old new)
       by (Ok v) halts = tt
       by (Err s) halts = record { by = s; halts = halts; is = refl }
+
+  -- the same of a command that reads no file
+  pub answers_anywhere : IfOk answer (λ a. (files : Option Files) → plan.Answers command files a.items) →
+      IfOk result (λ a. (files : Option Files) → IsAnswer (asks command told_as) files a.items)
+  answers_anywhere answers =
+      subst (λ (r : Result (Vec ℕ Global) Status).
+      IfOk r (λ a. (files : Option Files) → IsAnswer (asks command told_as) files a.items)) (sym told)
+      (by answer answers)
+    where
+      by : (a : Result (Vec ℕ Global) (Stop R)) →
+          IfOk a (λ v. (files : Option Files) → plan.Answers command files v.items) →
+          IfOk (told_of told_as a)
+          (λ v. (files : Option Files) → IsAnswer (asks command told_as) files v.items)
+      by (Ok v) answers = answers
+      by (Err s) answers = tt
+
+  pub denies_anywhere : IfErr answer (λ s. (old new : Seen) → Halts command.plan old new s) →
+      IfErr result (λ s. (old new : Seen) → Denies (asks command told_as) old new s)
+  denies_anywhere halts =
+      subst (λ (r : Result (Vec ℕ Global) Status).
+      IfErr r (λ s. (old new : Seen) → Denies (asks command told_as) old new s)) (sym told)
+      (by answer halts)
+    where
+      by : (a : Result (Vec ℕ Global) (Stop R)) →
+          IfErr a (λ s. (old new : Seen) → Halts command.plan old new s) →
+          IfErr (told_of told_as a) (λ s. (old new : Seen) → Denies (asks command told_as) old new s)
+      by (Ok v) halts = tt
+      by (Err s) halts = λ old new. record { by = s; halts = halts old new; is = refl }
 
 module _ (test : Bool) (asked : Asked) (result : Result (Vec ℕ Global) Status) where
   pub built_answers : test ≡ true → (files : Option Files) →
@@ -295,6 +324,8 @@ module _ (request : Option Request) (old new : Seen) (status result : Status)
       by (inr cut) = absurd (wrote cut.1)
 
 pub ruleset telling = (told_answers, told_denies)
+
+pub ruleset telling_anywhere = (answers_anywhere, denies_anywhere)
 
 pub ruleset answering = (text_answer, memory_denies)
 

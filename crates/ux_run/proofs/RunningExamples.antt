@@ -12,10 +12,10 @@ a_dictionary : IsAsked (asked_by (codes "locate" ∷ codes "g.grf" ∷ codes "t.
     ∷ codes "d.dic" ∷ []))
 a_dictionary = tt
 
--- but an image isn't
+-- and so is an image
 a_searched_image : IsAsked (asked_by (codes "locate" ∷ codes "g.grf" ∷ codes "t.txt" ∷ codes "a.txt"
-    ∷ codes "d.dic" ∷ codes "e.udi" ∷ [])) → ⊥
-a_searched_image is = is
+    ∷ codes "d.dic" ∷ codes "e.udi" ∷ []))
+a_searched_image = tt
 
 -- a search is in any mode, and may drop hits for want of a value
 a_mode : IsAsked (asked_by (codes "locate" ∷ codes "--mode=replace" ∷ codes "--novar"
@@ -39,18 +39,24 @@ a_compiled_concordance is = is
 some_tokens : IsAsked (asked_by (codes "tokenize" ∷ codes "t.txt" ∷ codes "a.txt" ∷ []))
 some_tokens = tt
 
--- an image is not checked yet
-an_image : IsAsked (asked_by (codes "check" ∷ codes "d.udi" ∷ [])) → ⊥
-an_image is = is
+an_image : IsAsked (asked_by (codes "check" ∷ codes "d.udi" ∷ []))
+an_image = tt
 
--- but lemmas stand in a file of any name
+-- an image is written of a dictionary of any kind
+a_written_image : IsAsked (asked_by (codes "compress" ∷ codes "d.udi" ∷ []))
+a_written_image = tt
+
+-- lemmas stand in a file of any name
 some_lemmas : IsAsked (asked_by (codes "check" ∷ codes "--delas" ∷ codes "d.udi" ∷ []))
 some_lemmas = tt
 
--- an image is not applied yet, be it one of several
+-- images are applied beside texts
 images : IsAsked (asked_by (codes "dico" ∷ codes "t.txt" ∷ codes "a.txt" ∷ codes "d.dic"
-    ∷ codes "d.udi" ∷ [])) → ⊥
-images is = is
+    ∷ codes "d.udi" ∷ []))
+images = tt
+
+a_made_text : IsAsked (asked_by (codes "bench" ∷ codes "5" ∷ []))
+a_made_text = tt
 
 -- the last commands are read, and not built
 a_cascade : IsAsked (asked_by (codes "cascade" ∷ codes "t.txt" ∷ codes "a.txt"

@@ -7,8 +7,12 @@ use Rattle.ux_tokenize.specs.declared.reason.Reason as tokenize
 use Rattle.ux_tokenize.specs.declared.reason.Reason.TheVariants as tokenize_reason
 use Rattle.ux_check.specs.declared.reason.Reason as check
 use Rattle.ux_check.specs.declared.reason.Reason.TheVariants as check_reason
+use Rattle.ux_compress.specs.declared.reason.Reason as compress
+use Rattle.ux_compress.specs.declared.reason.Reason.TheVariants as compress_reason
 use Rattle.ux_dico.specs.declared.reason.Reason as dico
 use Rattle.ux_dico.specs.declared.reason.Reason.TheVariants as dico_reason
+use Rattle.ux_bench.specs.declared.reason.Reason as bench
+use Rattle.ux_bench.specs.declared.reason.Reason.TheVariants as bench_reason
 
 abbrev pub search_told : search.Reason → Reason
 search_told (search_reason.Decode error) = reason.Decode error
@@ -16,6 +20,7 @@ search_told (search_reason.Alphabet error) = reason.Alphabet error
 search_told (search_reason.Grf error) = reason.Grf error
 search_told (search_reason.Net error) = reason.Net error
 search_told (search_reason.Dela error) = reason.Dela error
+search_told (search_reason.Image error) = reason.Image error
 search_told search_reason.TooManyGraphs = reason.TooManyGraphs
 
 abbrev pub tokenize_told : tokenize.Reason → Reason
@@ -25,8 +30,21 @@ tokenize_told (tokenize_reason.Alphabet error) = reason.Alphabet error
 abbrev pub check_told : check.Reason → Reason
 check_told (check_reason.Decode error) = reason.Decode error
 check_told (check_reason.Dela error) = reason.Dela error
+check_told (check_reason.Image error) = reason.Image error
+
+abbrev pub compress_told : compress.Reason → Reason
+compress_told (compress_reason.Decode error) = reason.Decode error
+compress_told (compress_reason.Dela error) = reason.Dela error
+compress_told (compress_reason.Image error) = reason.Image error
 
 abbrev pub dico_told : dico.Reason → Reason
 dico_told (dico_reason.Decode error) = reason.Decode error
 dico_told (dico_reason.Alphabet error) = reason.Alphabet error
 dico_told (dico_reason.Dela error) = reason.Dela error
+dico_told (dico_reason.Image error) = reason.Image error
+
+abbrev pub bench_told : bench.Reason → Reason
+bench_told (bench_reason.Alphabet error) = reason.Alphabet error
+bench_told (bench_reason.Dela error) = reason.Dela error
+bench_told (bench_reason.Grf error) = reason.Grf error
+bench_told (bench_reason.Net error) = reason.Net error

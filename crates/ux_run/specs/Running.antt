@@ -10,17 +10,19 @@ use Rattle.ux_plan.specs.Plans.{Comes, Command, Halts, gives}
 use Rattle.ux_words.specs.Requests.{request_of}
 use Rattle.ux_words.specs.declared.help.TheConstants.{HELP, VERSION}
 use Rattle.ux_words.specs.declared.request.Request.{Request}
-use Rattle.ux_words.specs.declared.request.Request.TheVariants.{Locate, Concord, Tokenize, Check, Dico, Help, Version}
+use Rattle.ux_words.specs.declared.request.Request.TheVariants.{Locate, Concord, Tokenize, Check, Compress, Dico, Bench, Help, Version}
 use Rattle.ux_search.specs.Locate.{locate}
 use Rattle.ux_concordance.specs.Concord.{concord}
 use Rattle.ux_tokenize.specs.Tokenize.{tokenize}
 use Rattle.ux_check.specs.Check.{check_entries, check_stems}
+use Rattle.ux_compress.specs.Compress.{compress}
 use Rattle.ux_dico.specs.Dico.{dico}
+use Rattle.ux_bench.specs.Bench.{bench}
 use Rattle.ux_status.specs.declared.status.Status.{Status}
 use Rattle.ux_status.specs.declared.status.Status.TheVariants.{Done, Usage, Absent, Refused, ReadFault, WriteFault, TooLarge, NoMemory}
 use Rattle.ux_status.specs.declared.status.Reason.{Reason}
-use Rattle.ux_run.specs.Reasons.{check_told, dico_told, search_told, tokenize_told}
-use Rattle.ux_run.specs.Requests.{are_texts, is_built_search, is_text}
+use Rattle.ux_run.specs.Reasons.{bench_told, check_told, compress_told, dico_told, search_told, tokenize_told}
+use Rattle.ux_run.specs.Requests.{is_drawn}
 
 -- what is asked for: nothing that there is, or a command, whose reasons are told so
 pub data Asked : Type 1 where
@@ -42,17 +44,18 @@ same_told reason = reason
 
 -- what a request asks for: a command where it is built
 abbrev pub asked_of : Request → Asked
-asked_of (Locate search) = only_if (is_built_search search)
+asked_of (Locate search) = only_if (is_drawn search.graph)
     (asks (locate search.graph search.text search.alphabet search.dics search.mode search.policy
     search.novar search.chars) search_told)
-asked_of (Concord search left right sort) = only_if (is_built_search search)
+asked_of (Concord search left right sort) = only_if (is_drawn search.graph)
     (asks (concord search.graph search.text search.alphabet search.dics search.mode search.policy
     search.novar search.chars (record { left = left; right = right; sort = sort })) search_told)
 asked_of (Tokenize text alphabet chars) = asks (tokenize text alphabet chars) tokenize_told
-asked_of (Check false file) = only_if (is_text file) (asks (check_entries file) check_told)
+asked_of (Check false file) = asks (check_entries file) check_told
 asked_of (Check true file) = asks (check_stems file) check_told
-asked_of (Dico text alphabet dics chars) =
-    only_if (are_texts dics) (asks (dico text alphabet dics chars) dico_told)
+asked_of (Compress dic) = asks (compress dic) compress_told
+asked_of (Dico text alphabet dics chars) = asks (dico text alphabet dics chars) dico_told
+asked_of (Bench n) = asks (bench n) bench_told
 asked_of Help = asks (text_command HELP.now) same_told
 asked_of Version = asks (text_command VERSION.now) same_told
 asked_of request = nothing

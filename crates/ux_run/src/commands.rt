@@ -1,15 +1,17 @@
 //! The commands: for each request the crate that answers it.
 
-ghost use Rattle.std.specs.Prelude.{◌≡◌, true, false, IfOk, IfErr};
-ghost use Rattle.ux_base.specs.Outside.{IsLater};
+ghost use Rattle.std.specs.Prelude.{◌≡◌, true, false, IfOk, IfErr, Option};
+ghost use Rattle.ux_base.specs.Outside.{Files, IsLater, Seen};
 ghost use Rattle.ux_words.specs.declared.request.Request.TheVariants as request;
 ghost use Rattle.ux_run.specs.Running.{Denies, IsAnswer, asked_of};
 
-use crate::built::{are_texts, is_built_search, is_text};
+use crate::built::is_drawn;
 use crate::stops::with_status;
 use std::alloc::Global;
 use ux_base::{Folder, Sort, Txt};
+use ux_bench::bench;
 use ux_check::{check_entries, check_stems};
+use ux_compress::compress;
 use ux_concordance::{Layout, concord};
 use ux_dico::dico;
 use ux_search::locate;
@@ -44,20 +46,20 @@ pub fn answer_to<F: Folder>(
         } => tokens_of(alloc, text, alphabet, *chars, folder),
         Request::Check { delas: false, file } => entries_of(alloc, file, folder),
         Request::Check { delas: true, file } => stems_of(alloc, file, folder),
+        Request::Compress { dic } => image_of(alloc, dic, folder),
         Request::Dico {
             text,
             alphabet,
             dics,
             chars,
         } => report_of(alloc, text, alphabet, dics.as_slice(), *chars, folder),
+        Request::Bench { n } => summary_of(alloc, *n),
         Request::Help => text_of(alloc, HELP),
         Request::Version => text_of(alloc, VERSION),
         Request::Fst2 { .. }
         | Request::Inflect { .. }
-        | Request::Compress { .. }
         | Request::Tfst { .. }
         | Request::Elag { .. }
-        | Request::Bench { .. }
         | Request::Cascade { .. }
         | Request::Flatten { .. }
         | Request::Tfind { .. }
@@ -65,7 +67,7 @@ pub fn answer_to<F: Folder>(
     }
 }
 
-/// `locate`: the index of a search that is built.
+/// `locate`: the index of a search by a graph that is drawn.
 #[tactic(auto, using(crate::proofs::Ending::telling))]
 fn search_by<F: Folder>(alloc: Global, search: &Search, folder: &mut F) -> Result<Vec<u8>, Status>
     ensures later { IsLater (F.seen folder.old) (F.seen folder.new) }
@@ -74,7 +76,7 @@ fn search_by<F: Folder>(alloc: Global, search: &Search, folder: &mut F) -> Resul
     ensures err { IfErr result (Denies (asked_of (request.Locate search.now))
         (F.seen folder.old) (F.seen folder.new)) }
 {
-    if !is_built_search(search) {
+    if !is_drawn(search.graph.as_str()) {
         return Err(Status::Usage);
     }
     let (graph, text) = (search.graph.as_str(), search.text.as_str());
@@ -92,7 +94,7 @@ fn search_by<F: Folder>(alloc: Global, search: &Search, folder: &mut F) -> Resul
     ))
 }
 
-/// `concord`: the concordance of a search that is built.
+/// `concord`: the concordance of a search by a graph that is drawn.
 #[tactic(auto, using(crate::proofs::Ending::telling))]
 fn concordance_by<F: Folder>(
     alloc: Global,
@@ -109,7 +111,7 @@ fn concordance_by<F: Folder>(
     ensures err { IfErr result (Denies (asked_of (request.Concord search.now left right sort))
         (F.seen folder.old) (F.seen folder.new)) }
 {
-    if !is_built_search(search) {
+    if !is_drawn(search.graph.as_str()) {
         return Err(Status::Usage);
     }
     let dics = search.dics.as_slice();
@@ -156,9 +158,6 @@ fn entries_of<F: Folder>(alloc: Global, file: &Txt, folder: &mut F) -> Result<Ve
     ensures err { IfErr result (Denies (asked_of (request.Check false file.now))
         (F.seen folder.old) (F.seen folder.new)) }
 {
-    if !is_text(file.as_str()) {
-        return Err(Status::Usage);
-    }
     with_status(check_entries(alloc, file.as_str(), folder))
 }
 
@@ -174,7 +173,19 @@ fn stems_of<F: Folder>(alloc: Global, file: &Txt, folder: &mut F) -> Result<Vec<
     with_status(check_stems(alloc, file.as_str(), folder))
 }
 
-/// `dico`: the report of dictionaries that are texts.
+/// `compress`: the image of a dictionary.
+#[tactic(auto, using(crate::proofs::Ending::telling))]
+fn image_of<F: Folder>(alloc: Global, dic: &Txt, folder: &mut F) -> Result<Vec<u8>, Status>
+    ensures later { IsLater (F.seen folder.old) (F.seen folder.new) }
+    ensures ok { IfOk result (λ answer. IsAnswer (asked_of (request.Compress dic.now))
+        (F.seen folder.old).files answer.items) }
+    ensures err { IfErr result (Denies (asked_of (request.Compress dic.now))
+        (F.seen folder.old) (F.seen folder.new)) }
+{
+    with_status(compress(alloc, dic.as_str(), folder))
+}
+
+/// `dico`: the report of dictionaries.
 #[tactic(auto, using(crate::proofs::Ending::telling))]
 fn report_of<F: Folder>(
     alloc: Global,
@@ -192,10 +203,18 @@ fn report_of<F: Folder>(
         (asked_of (request.Dico text.now alphabet.now dics.now chars))
         (F.seen folder.old) (F.seen folder.new)) }
 {
-    if !are_texts(dics) {
-        return Err(Status::Usage);
-    }
     with_status(dico(alloc, text.as_str(), alphabet.as_str(), dics, chars, folder))
+}
+
+/// `bench`: what is told of a search in a text that is made up. It reads no file.
+#[tactic(auto, using(crate::proofs::Ending::telling_anywhere))]
+fn summary_of(alloc: Global, n: u32) -> Result<Vec<u8>, Status>
+    ensures ok { IfOk result (λ answer. (told : Option Files) →
+        IsAnswer (asked_of (request.Bench n)) told answer.items) }
+    ensures err { IfErr result (λ status. (old new : Seen) →
+        Denies (asked_of (request.Bench n)) old new status) }
+{
+    with_status(bench(alloc, n))
 }
 
 /// `--help` and `--version`: a text that is there.

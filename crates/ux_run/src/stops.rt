@@ -3,7 +3,9 @@
 ghost use Rattle.std.specs.Prelude.{◌≡◌};
 ghost use Rattle.ux_run.specs.Running.{status_of, told_of};
 
+use ux_bench::Reason as BenchReason;
 use ux_check::Reason as CheckReason;
+use ux_compress::Reason as CompressReason;
 use ux_dico::Reason as DicoReason;
 use ux_plan::Stop;
 use ux_search::Reason as SearchReason;
@@ -61,6 +63,7 @@ impl CommandReason for SearchReason {
             SearchReason::Grf(error) => Reason::Grf(error),
             SearchReason::Net(error) => Reason::Net(error),
             SearchReason::Dela(error) => Reason::Dela(error),
+            SearchReason::Image(error) => Reason::Image(error),
             SearchReason::TooManyGraphs => Reason::TooManyGraphs,
         }
     }
@@ -88,6 +91,21 @@ impl CommandReason for CheckReason {
         match self {
             CheckReason::Decode(error) => Reason::Decode(error),
             CheckReason::Dela(error) => Reason::Dela(error),
+            CheckReason::Image(error) => Reason::Image(error),
+        }
+    }
+}
+
+impl CommandReason for CompressReason {
+    ghost use Rattle.ux_run.specs.Reasons.{compress_told};
+
+    ghost told_as = { compress_told };
+
+    fn told(self) -> Reason {
+        match self {
+            CompressReason::Decode(error) => Reason::Decode(error),
+            CompressReason::Dela(error) => Reason::Dela(error),
+            CompressReason::Image(error) => Reason::Image(error),
         }
     }
 }
@@ -102,6 +120,22 @@ impl CommandReason for DicoReason {
             DicoReason::Decode(error) => Reason::Decode(error),
             DicoReason::Alphabet(error) => Reason::Alphabet(error),
             DicoReason::Dela(error) => Reason::Dela(error),
+            DicoReason::Image(error) => Reason::Image(error),
+        }
+    }
+}
+
+impl CommandReason for BenchReason {
+    ghost use Rattle.ux_run.specs.Reasons.{bench_told};
+
+    ghost told_as = { bench_told };
+
+    fn told(self) -> Reason {
+        match self {
+            BenchReason::Alphabet(error) => Reason::Alphabet(error),
+            BenchReason::Dela(error) => Reason::Dela(error),
+            BenchReason::Grf(error) => Reason::Grf(error),
+            BenchReason::Net(error) => Reason::Net(error),
         }
     }
 }

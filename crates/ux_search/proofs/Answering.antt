@@ -101,7 +101,7 @@ answered graph text alphabet names mode policy novar chars told letters net toke
         is = index_alike letters tokens index.tables mode novar (net_grammar net)
             (box_grammar letters files.graphs)
             (λ i j events. let same = same_meaning (applied_text letters tokens index.tables)
-            (box_grammar letters files.graphs) (net_grammar net) files.compiles 1 i j events in
+            (box_grammar letters files.graphs) (net_grammar net) files.compiles.same 1 i j events in
             (same.1, same.0)) policy answer index.is;
       };
     }

@@ -11,7 +11,7 @@ use Rattle.ux_dictionaries.specs.Dictionaries.{dictionary_format}
 use Rattle.ux_dictionaries.proofs.DictionaryLaws.{dictionaries_laws}
 use Rattle.ux_texts.specs.Texts.{text_format}
 use Rattle.ux_texts.proofs.TextLaws.{alphabet_sound, text_sound}
-use Rattle.ux_search.specs.declared.reason.Reason.TheVariants.{Decode, Alphabet, Grf, Net, TooManyGraphs, Dela}
+use Rattle.ux_search.specs.declared.reason.Reason.TheVariants.{Decode, Alphabet, Grf, Net, TooManyGraphs, Dela, Image}
 use Rattle.ux_search.specs.Locate.{locate}
 
 pub laws : (graph text alphabet : List ℕ) (names : List (List ℕ)) (mode : Mode)
@@ -20,14 +20,14 @@ pub laws : (graph text alphabet : List ℕ) (names : List (List ℕ)) (mode : Mo
 laws graph text alphabet names mode policy novar chars = (
   alphabet_sound Decode Alphabet chars,
   λ letters. laws_then (λ graphs. reads text (text_format Decode letters) (λ tokens.
-      then (each (dictionary_format Decode Dela) names) (λ dics.
+      then (each (dictionary_format Decode Dela Image) names) (λ dics.
       gives (record { letters = letters; graphs = graphs; tokens = tokens; dics = dics }))))
       (λ graphs. (
         text_sound Decode letters,
         λ tokens. laws_then (λ dics.
             gives (record { letters = letters; graphs = graphs; tokens = tokens; dics = dics }))
-            (λ dics. tt) (each (dictionary_format Decode Dela) names)
-            (dictionaries_laws Decode Dela names),
+            (λ dics. tt) (each (dictionary_format Decode Dela Image) names)
+            (dictionaries_laws Decode Dela Image names),
       ))
       (grammar_plan Decode Grf Net TooManyGraphs graph letters)
       (grammar_laws Decode Grf TooManyGraphs Net graph letters),

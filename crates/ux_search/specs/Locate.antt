@@ -18,7 +18,7 @@ use Rattle.ux_alphabet.specs.Letters.{Letters}
 use Rattle.ux_grammars.specs.Reading.{Compiles}
 use Rattle.ux_texts.specs.Texts.{alphabet_format, text_format}
 use Rattle.ux_search.specs.declared.reason.Reason.{Reason}
-use Rattle.ux_search.specs.declared.reason.Reason.TheVariants.{Decode, Alphabet, Grf, Net, TooManyGraphs, Dela}
+use Rattle.ux_search.specs.declared.reason.Reason.TheVariants.{Decode, Alphabet, Grf, Net, TooManyGraphs, Dela, Image}
 use Rattle.ux_locate.specs.Hits.{IsHit}
 use Rattle.ux_locate.specs.Index.{IsIndex}
 
@@ -37,7 +37,7 @@ search_plan graph text alphabet dics chars =
     reads alphabet (alphabet_format Decode Alphabet chars) (λ letters.
     then (grammar_plan Decode Grf Net TooManyGraphs graph letters) (λ graphs.
     reads text (text_format Decode letters) (λ tokens.
-    then (each (dictionary_format Decode Dela) dics) (λ dics.
+    then (each (dictionary_format Decode Dela Image) dics) (λ dics.
     gives (record { letters = letters; graphs = graphs; tokens = tokens; dics = dics })))))
 
 -- the index of what the policy keeps of the grammar's hits in the text, to which the dictionaries'

@@ -7,6 +7,7 @@ ghost use Rattle.ux_plan.specs.Plans.{Answers, Halts};
 ghost use Rattle.ux_apply.specs.Belonging.{Belongs};
 ghost use Rattle.ux_locate.specs.Hits.{IsHit};
 ghost use Rattle.ux_locate.specs.Index.{IsIndex};
+ghost use Rattle.ux_locate.specs.Searchable.{IsSearchable};
 ghost use Rattle.ux_search.specs.Indexes.{IsAppliedIndex};
 ghost use Rattle.ux_search.specs.Locate.{locate as locate_command};
 
@@ -54,6 +55,7 @@ pub fn locate<F: Folder>(
 /// The index of the grammar's hits in the text with the entries that apply to it. The dictionaries
 /// are freed before it is searched.
 fn index_of(alloc: Global, files: Files, mode: Mode, policy: Policy, novar: NoVar) -> Mem<Vec<u8>>
+    requires { IsSearchable files.net }
     ensures { IfOk result (λ index. IsAppliedIndex files.alphabet files.text files.dics.items
         (net_grammar files.net) mode policy novar index.items) }
 {
@@ -72,8 +74,8 @@ fn index_of(alloc: Global, files: Files, mode: Mode, policy: Policy, novar: NoVa
     Ok(index.into_bytes())
 }
 
-/// The index of the hits, with no step taken before. Where outputs are ignored no text of a hit is
-/// copied before it is written.
+/// The index of the hits, with no step taken before. Where outputs are ignored, and the grammar has
+/// neither contexts nor cuts, no text of a hit is copied before it is written.
 fn hits_index<L: Ledger>(
     alloc: Global,
     net: &Net,
@@ -89,17 +91,18 @@ fn hits_index<L: Ledger>(
     requires parts { blank.parts ≡ L.parts }
     requires some { 0 < blank.parts }
     requires belongs { Belongs alphabet.now text.now applied.now }
+    requires searchable { IsSearchable net.now }
     ensures { IfOk result (λ index. IsIndex mode policy
         (IsHit alphabet.now text.now applied.now (net_grammar net.now) mode novar)
         (string_bytes index)) }
 {
     let mut steps = Steps::<L>::new(blank);
     match mode {
-        Mode::Ignore => {
+        Mode::Ignore if net.is_plain() => {
             let spans = locate_spans(alloc, net, text, alphabet, applied, policy, &mut steps)?;
             span_index(alloc, text, spans.as_slice())
         }
-        Mode::Merge | Mode::Replace => {
+        Mode::Ignore | Mode::Merge | Mode::Replace => {
             let hits = locate_hits(
                 alloc, net, text, alphabet, applied, mode, novar, policy, &mut steps,
             )?;

@@ -6,6 +6,8 @@ use ux_dela::DelaError;
 use ux_dictionaries::OfDela;
 use ux_grammars::OfGrammar;
 use ux_grf::GrfError;
+use ux_image_files::OfImage;
+use ux_image_reader::ImageError;
 use ux_net::NetError;
 use ux_plan::OfDecode;
 use ux_texts::OfAlphabet;
@@ -25,6 +27,8 @@ pub enum Reason {
     TooManyGraphs,
     /// The dictionary's own reason.
     Dela(DelaError),
+    /// The image's own reason.
+    Image(ImageError),
 }
 
 impl OfDecode for Reason {
@@ -76,5 +80,15 @@ impl OfDela for Reason {
 
     fn of_dela(error: DelaError) -> Reason {
         Reason::Dela(error)
+    }
+}
+
+impl OfImage for Reason {
+    ghost use Rattle.ux_search.specs.declared.reason.Reason.TheVariants as reason;
+
+    ghost image_as = { reason.Image };
+
+    fn of_image(error: ImageError) -> Reason {
+        Reason::Image(error)
     }
 }

@@ -23,12 +23,11 @@ fn show_label(all: &mut String, label: &Label) -> Result<(), AllocError> {
         Label::Call(_) => all.push('B'),
         Label::Begin(name) => put(all, "$", name.as_str(), "("),
         Label::End(name) => put(all, "$", name.as_str(), ")"),
-        Label::Mask(_)
-        | Label::Brace(_)
-        | Label::Positive
-        | Label::Negative
-        | Label::ContextEnd
-        | Label::Cut => all.push('?'),
+        Label::Positive => all.push('['),
+        Label::Negative => all.push('!'),
+        Label::ContextEnd => all.push(']'),
+        Label::Cut => all.push('*'),
+        Label::Mask(_) | Label::Brace(_) => all.push('?'),
     }
 }
 
@@ -96,8 +95,11 @@ fn told(alloc: Global, refusal: &NetError) -> Result<String, AllocError> {
         NetError::BadMask { graph, node, place } => {
             format!(in alloc; "bad mask {} {node} {place}", graph.as_str())
         },
-        NetError::NotYet { graph, node } => {
-            format!(in alloc; "not yet {} {node}", graph.as_str())
+        NetError::ContextClose { graph, node } => {
+            format!(in alloc; "context {} {node}", graph.as_str())
+        },
+        NetError::NegativeRecursion { graph } => {
+            format!(in alloc; "negative recursion {}", graph.as_str())
         },
         NetError::EmptyLoop { graph, node } => {
             format!(in alloc; "loop {} {node}", graph.as_str())
@@ -230,10 +232,50 @@ fn a_literal_is_cut_by_the_alphabet(rt: HostRuntime) -> Result<(), Fail> {
 }
 
 #[test]
-fn names_what_is_missing_or_not_yet_read(rt: HostRuntime) -> Result<(), Fail> {
+fn compiles_contexts_and_the_left_mark(rt: HostRuntime) -> Result<(), Fail> {
     const ROWS: &[Row] = &[
         ("a missing graph", &["E|2 | B|1"], "missing B"),
-        ("a context", &["E|2 | $[|1"], "not yet A 2"),
+        ("a context", &["E|2 | $[|3 a|4 $]|5 b|1"], ":[1:a2:]3:b4t"),
+        (
+            "a context in a context",
+            &["E|2 | $[|3 $[|4 a|5 $]|6 $]|1"],
+            ":[1:[2:a3:]4:]5t",
+        ),
+        (
+            "one that has to follow, closed in two boxes",
+            &["E|2 | $[|3 a|45 $]|1 $]|1"],
+            ":[1:a2:]3]4tt",
+        ),
+        (
+            "one that may not follow, and the mark",
+            &["E|2 | $![|3 a|4 $]|5 $*|1"],
+            ":!1:a2:]3:*4t",
+        ),
+    ];
+    compare_nets(&rt, rt.alloc(), ROWS)
+}
+
+#[test]
+fn names_the_first_context_that_is_not_closed(rt: HostRuntime) -> Result<(), Fail> {
+    const ROWS: &[Row] = &[
+        ("left open", &["E|2 | $[|1"], "context A 2"),
+        ("open at an end", &["E|2 | $[|3 a|14 $]|1"], "context A 2"),
+        (
+            "the outer one",
+            &["E|2 | $[|3 $[|4 a|5 $]|1"],
+            "context A 2",
+        ),
+        (
+            "one that may not follow, closed in two boxes",
+            &["E|2 | $![|3 a|45 $]|1 $]|1"],
+            "context A 2",
+        ),
+        ("not opened", &["E|2 | a|3 $]|1"], "context A 3"),
+        (
+            "in a graph that is called",
+            &["E|2 | B|1", "E|2 | $[|1"],
+            "context B 2",
+        ),
     ];
     compare_nets(&rt, rt.alloc(), ROWS)
 }

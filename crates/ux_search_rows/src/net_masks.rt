@@ -15,7 +15,8 @@ fn told(alloc: Global, refusal: &NetError) -> Result<String, AllocError> {
             format!(in alloc; "{} {node} {place}", graph.as_str())
         },
         NetError::MissingGraph { .. } => String::from_str(alloc, "missing"),
-        NetError::NotYet { .. } => String::from_str(alloc, "not yet"),
+        NetError::ContextClose { .. } => String::from_str(alloc, "context"),
+        NetError::NegativeRecursion { .. } => String::from_str(alloc, "negative recursion"),
         NetError::EmptyLoop { .. } => String::from_str(alloc, "loop"),
         NetError::LeftRecursion { .. } => String::from_str(alloc, "recursion"),
         NetError::NoMemory => String::from_str(alloc, "no memory"),
@@ -61,7 +62,7 @@ fn names_the_first_bad_mask(rt: HostRuntime) -> Result<(), Fail> {
         ("a box that is not reached", &["E|2 | <N>|1 <!>|1"], "1"),
         ("behind a missing graph", &["E|23 | <!>|1 B|1"], "missing"),
         (
-            "before what is not yet read",
+            "before a context that isn't closed",
             &["E|23 | $[|1 <!>|1"],
             "A 3 1",
         ),

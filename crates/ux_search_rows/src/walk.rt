@@ -19,7 +19,7 @@ use ux_dict::ListLexicon;
 use ux_net::Net;
 use ux_outputs::Event;
 use ux_tokens::Text;
-use ux_walk::walk;
+use ux_walk::{NoContexts, walk};
 
 /// The positions at which walks end, with a space behind each.
 fn ends(alloc: Global, found: &[(usize, Lst<Event>)]) -> Result<String, AllocError> {
@@ -48,7 +48,7 @@ fn walked(alloc: Global, net: &Net, text: &Text, alphabet: &Alphabet, start: usi
     walked_by::<Brand>(alloc, net, text, alphabet, &applied, start, Blank::new(1))
 }
 
-/// The ends of the walks from a position, with no step taken before.
+/// The ends of the walks from a position, with no step taken before, or `contexts`.
 fn walked_by<L: Ledger>(
     alloc: Global,
     net: &Net,
@@ -66,8 +66,20 @@ fn walked_by<L: Ledger>(
 {
     let mut steps = Steps::<L>::new(blank);
     net.is_measured();
-    let found = walk(alloc, net, text, alphabet, applied, start, &mut steps)?;
-    Ok(ends(alloc, &found)?)
+    if net.is_plain() {
+        let found = walk(
+            alloc,
+            net,
+            &NoContexts,
+            text,
+            alphabet,
+            applied,
+            start,
+            &mut steps,
+        )?;
+        return Ok(ends(alloc, &found)?);
+    }
+    Ok(String::from_str(alloc, "contexts")?)
 }
 
 /// A name, the content of the box, the position, and the ends.

@@ -32,7 +32,7 @@ fn way(alloc: Global, net: &Net, text: &Text, alphabet: &Alphabet, start: usize)
     way_by::<Brand>(alloc, net, text, alphabet, &applied, start, Blank::new(1))
 }
 
-/// The ends from a position, with no step taken before.
+/// The ends from a position, with no step taken before, or `contexts`.
 fn way_by<L: Ledger>(
     alloc: Global,
     net: &Net,
@@ -49,10 +49,13 @@ fn way_by<L: Ledger>(
     requires inside { start < length text.now }
 {
     let mut steps = Steps::<L>::new(blank);
-    let mut walker = Walker::of(alloc, net, text, alphabet, applied)?;
-    let mut ends = Vec::new(alloc);
-    walker.ends_from(alloc, start, &mut ends, &mut steps)?;
-    Ok(told(alloc, ends.as_slice(), walker.may_begin(start))?)
+    if net.is_plain() {
+        let mut walker = Walker::of(alloc, net, text, alphabet, applied)?;
+        let mut ends = Vec::new(alloc);
+        walker.ends_from(alloc, start, &mut ends, &mut steps)?;
+        return Ok(told(alloc, ends.as_slice(), walker.may_begin(start))?);
+    }
+    Ok(String::from_str(alloc, "contexts")?)
 }
 
 /// The ends, each after a space, behind a word that tells whether a walk may begin.

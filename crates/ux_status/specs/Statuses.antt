@@ -12,10 +12,12 @@ use Rattle.ux_net.specs.declared.error.NetError.{NetError}
 use Rattle.ux_net.specs.declared.error.NetError.TheVariants as net_error
 use Rattle.ux_dela.specs.declared.error.DelaError.{DelaError}
 use Rattle.ux_dela.specs.declared.error.DelaError.TheVariants as dela_error
+use Rattle.ux_image_reader.specs.declared.error.ImageError.{ImageError}
+use Rattle.ux_image_reader.specs.declared.error.ImageError.TheVariants as image_error
 use Rattle.ux_status.specs.declared.status.Status.{Status}
 use Rattle.ux_status.specs.declared.status.Status.TheVariants.{Done, Usage, Absent, Refused, ReadFault, WriteFault, TooLarge, NoMemory}
 use Rattle.ux_status.specs.declared.status.Reason.{Reason}
-use Rattle.ux_status.specs.declared.status.Reason.TheVariants.{Decode, Alphabet, Grf, Net, Dela, TooManyGraphs}
+use Rattle.ux_status.specs.declared.status.Reason.TheVariants.{Decode, Alphabet, Grf, Net, Dela, Image, TooManyGraphs}
 
 -- the exit status
 abbrev pub number_of : Status → ℕ
@@ -82,10 +84,21 @@ bad_mask graph node place = codes "BadMask graph=" ∷ graph ∷ codes " node=" 
 abbrev pub net_reason : NetError → List (List ℕ)
 net_reason (net_error.MissingGraph name) = codes "MissingGraph name=" ∷ name ∷ []
 net_reason (net_error.BadMask graph node place) = bad_mask graph node place
-net_reason (net_error.NotYet graph node) = at_node (codes "NotYet graph=") graph node
+net_reason (net_error.ContextClose graph node) = at_node (codes "ContextClose graph=") graph node
+net_reason (net_error.NegativeRecursion graph) = codes "NegativeRecursion graph=" ∷ graph ∷ []
 net_reason (net_error.EmptyLoop graph node) = at_node (codes "EmptyLoop graph=") graph node
 net_reason (net_error.LeftRecursion graph node) = at_node (codes "LeftRecursion graph=") graph node
 net_reason net_error.NoMemory = codes "NoMemory" ∷ []
+
+-- the same of an image
+abbrev pub image_reason : ImageError → List (List ℕ)
+image_reason image_error.BadMagic = codes "BadMagic" ∷ []
+image_reason image_error.Short = codes "Short" ∷ []
+image_reason (image_error.BadState offset) = codes "BadState offset=" ∷ decimal offset ∷ []
+image_reason (image_error.BadCode number) = codes "BadCode n=" ∷ decimal number ∷ []
+image_reason image_error.Trailing = codes "Trailing" ∷ []
+image_reason image_error.TooMany = codes "TooMany" ∷ []
+image_reason image_error.NoMemory = codes "NoMemory" ∷ []
 
 -- the same of any file
 abbrev pub reason_of : Reason → List (List ℕ)
@@ -94,6 +107,7 @@ reason_of (Alphabet error) = alphabet_reason error
 reason_of (Grf error) = grf_reason error
 reason_of (Net error) = net_reason error
 reason_of (Dela error) = dela_reason error
+reason_of (Image error) = image_reason error
 reason_of TooManyGraphs = codes "TooManyGraphs" ∷ []
 
 -- the line of a file that is refused, by its reason

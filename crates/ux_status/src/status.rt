@@ -6,6 +6,7 @@ use ux_base::{NoMemory, Txt};
 use ux_decode::DecodeError;
 use ux_dela::DelaError;
 use ux_grf::GrfError;
+use ux_image_reader::ImageError;
 use ux_net::NetError;
 
 /// How a run ended.
@@ -42,6 +43,8 @@ pub enum Reason {
     Net(NetError),
     /// The dictionary's own reason.
     Dela(DelaError),
+    /// The image's own reason.
+    Image(ImageError),
     /// The grammar has 65,535 graphs before this one.
     TooManyGraphs,
 }

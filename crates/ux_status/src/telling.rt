@@ -4,7 +4,7 @@ ghost use Rattle.std.specs.Prelude.{◌≢◌, ◌≤◌, ◌∷◌, [], OnOk, O
 ghost use Rattle.std.specs.Fmt.{decimal};
 ghost use Rattle.ux_base.specs.Outside.{Rose, Appended, AppendedFront};
 ghost use Rattle.ux_status.specs.declared.status.Status.TheVariants.{Done};
-ghost use Rattle.ux_status.specs.Statuses.{joined, line_of, refusal, reason_of, at_node, bad_mask, decode_reason, alphabet_reason, grf_reason, net_reason, at_place, dela_reason};
+ghost use Rattle.ux_status.specs.Statuses.{joined, line_of, refusal, reason_of, at_node, bad_mask, decode_reason, alphabet_reason, grf_reason, net_reason, at_place, dela_reason, image_reason};
 
 use crate::status::{Reason, Status};
 use itoa::Buffer;
@@ -13,6 +13,7 @@ use ux_base::{Sink, SinkError, Txt};
 use ux_decode::DecodeError;
 use ux_dela::DelaError;
 use ux_grf::GrfError;
+use ux_image_reader::ImageError;
 use ux_net::NetError;
 
 /// Writes the line of a status. A run that is done has none.
@@ -67,6 +68,7 @@ fn say_refusal<E: Sink>(err: &mut E, file: &str, reason: &Reason) -> Result<(), 
         Reason::Grf(error) => say_grf_error(err, file, error),
         Reason::Net(error) => say_net_error(err, file, error),
         Reason::Dela(error) => say_dela_error(err, file, error),
+        Reason::Image(error) => say_image_error(err, file, error),
         Reason::TooManyGraphs => say_name(err, file, "TooManyGraphs"),
     }
 }
@@ -152,6 +154,18 @@ fn say_missing<E: Sink>(err: &mut E, file: &str, name: &Txt) -> Result<(), SinkE
         (refusal file.now (codes "MissingGraph name=" ∷ name.now ∷ []))) }
 {
     say_text(err, file, "MissingGraph name=", name.as_str())
+}
+
+/// Writes the line of a grammar with a context that may not follow and uses what has it.
+fn say_recursion<E: Sink>(err: &mut E, file: &str, graph: &Txt) -> Result<(), SinkError>
+    ensures later { E.faults err.old ≤ E.faults err.new }
+    ensures cause { OnErr result (Rose (E.faults err.old) (E.faults err.new)) }
+    ensures line { OnOk result (Appended (E.written err.old) (E.written err.new)
+        (refusal file.now (codes "NegativeRecursion graph=" ∷ graph.now ∷ []))) }
+    ensures front { OnErr result (AppendedFront (E.written err.old) (E.written err.new)
+        (refusal file.now (codes "NegativeRecursion graph=" ∷ graph.now ∷ []))) }
+{
+    say_text(err, file, "NegativeRecursion graph=", graph.as_str())
 }
 
 /// Writes the line of a grammar that is refused at a node of a graph.
@@ -326,7 +340,10 @@ fn say_net_error<E: Sink>(err: &mut E, file: &str, error: &NetError) -> Result<(
         NetError::BadMask { graph, node, place } => {
             say_bad_mask(err, file, graph, *node, *place)
         },
-        NetError::NotYet { graph, node } => { say_node(err, file, "NotYet graph=", graph, *node) },
+        NetError::ContextClose { graph, node } => {
+            say_node(err, file, "ContextClose graph=", graph, *node)
+        },
+        NetError::NegativeRecursion { graph } => say_recursion(err, file, graph),
         NetError::EmptyLoop { graph, node } => {
             say_node(err, file, "EmptyLoop graph=", graph, *node)
         },
@@ -366,5 +383,25 @@ fn say_dela_error<E: Sink>(err: &mut E, file: &str, error: &DelaError) -> Result
             *place,
         ),
         DelaError::NoMemory => say_name(err, file, "NoMemory"),
+    }
+}
+
+/// Writes the line of an image that is refused.
+fn say_image_error<E: Sink>(err: &mut E, file: &str, error: &ImageError) -> Result<(), SinkError>
+    ensures later { E.faults err.old ≤ E.faults err.new }
+    ensures cause { OnErr result (Rose (E.faults err.old) (E.faults err.new)) }
+    ensures line { OnOk result (Appended (E.written err.old) (E.written err.new)
+        (refusal file.now (image_reason error.now))) }
+    ensures front { OnErr result (AppendedFront (E.written err.old) (E.written err.new)
+        (refusal file.now (image_reason error.now))) }
+{
+    match error {
+        ImageError::BadMagic => say_name(err, file, "BadMagic"),
+        ImageError::Short => say_name(err, file, "Short"),
+        ImageError::BadState { offset } => say_number(err, file, "BadState offset=", *offset),
+        ImageError::BadCode { number } => say_number(err, file, "BadCode n=", *number),
+        ImageError::Trailing => say_name(err, file, "Trailing"),
+        ImageError::TooMany => say_name(err, file, "TooMany"),
+        ImageError::NoMemory => say_name(err, file, "NoMemory"),
     }
 }

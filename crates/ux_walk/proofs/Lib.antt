@@ -5,6 +5,7 @@ pub mod NotedLemmas
 pub mod Results
 pub mod Adding
 pub mod Stepping
+pub mod ContextsLemmas
 pub mod OneStep
 pub mod LevelsLemmas
 pub mod Weights

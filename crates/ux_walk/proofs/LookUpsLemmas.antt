@@ -23,6 +23,7 @@ use Rattle.ux_outputs.specs.declared.event.Event.{Event}
 use Rattle.ux_walk.specs.declared.reached.Reached.{Reached}
 use Rattle.ux_walk.specs.declared.edge_index.EdgeIndex.{EdgeIndex}
 use Rattle.ux_walk.specs.declared.look_ups.LookUps.{LookUps}
+use Rattle.ux_walk.specs.Contexts.{Applying}
 use Rattle.ux_walk.specs.Courses.{Course, IsBehind, IsOverSome, IsOverSomeAt, put_events}
 use Rattle.ux_walk.specs.Configurations.{AddsFrom}
 use Rattle.ux_walk.specs.EdgeIndexes.{IsIndexOf}
@@ -98,80 +99,87 @@ module _ {K V : Type 0} (eq : K → K → Bool) (key : K)
   one_more value old new (Err e) ok is k v h =
       inl (subst (λ (l : List (K × V)). Contains l (k, v)) is h)
 
-module _ (alphabet : Letters) (tokens : List Token) (tables : Tables) (fs : List Frame) (i : ℕ)
-  where
-    -- a label that refuses the token's text leads nowhere
-    refused : (before : List Event) (label : Label) (token : Token) →
-        slice_get tokens (skip tokens i) ≡ Some token →
-        Refuses alphabet label token.text → (f : Frame) (w : Course) →
-        IsBehind alphabet tokens tables label f fs i before w → ⊥
-    refused before (Fold entry) token at refuses f w b = elim b [
-      | inl t ↦ refuses.1 (subst (λ (x : Token). FoldsTo alphabet entry x)
-          (same_Some t.1.1.0 token (sym t.1.1.1 ∙ at)) t.1.1.2.1)
-      | inr o ↦ elim o [
-        | inl s ↦ s.0
-        | inr h ↦ let no : Fold entry ≡ Call h.0 = h.1 in cc
+module _ (alphabet : Letters) (tokens : List Token) (tables : Tables) (applies : Applying)
+    (fs : List Frame) (i : ℕ) where
+  -- a label that refuses the token's text leads nowhere
+  refused : (before : List Event) (label : Label) (token : Token) →
+      slice_get tokens (skip tokens i) ≡ Some token →
+      Refuses alphabet label token.text → (f : Frame) (w : Course) →
+      IsBehind alphabet tokens tables applies label f fs i before w → ⊥
+  refused before (Fold entry) token at refuses f w b = elim b [
+    | inl t ↦ refuses.1 (subst (λ (x : Token). FoldsTo alphabet entry x)
+        (same_Some t.1.1.0 token (sym t.1.1.1 ∙ at)) t.1.1.2.1)
+    | inr o ↦ elim o [
+      | inl s ↦ s.0
+      | inr h ↦ elim h [
+        | inl g ↦ let no : Fold entry ≡ Call g.0 = g.1 in cc
+        | inr g ↦ let mark = g.1.1 in cc
       ]
     ]
-    refused before (Exact exact) token at refuses f w b = elim b [
-      | inl t ↦ refuses.1 (subst (λ (x : Token). x.text ≡ exact)
-          (same_Some t.1.1.0 token (sym t.1.1.1 ∙ at)) t.1.1.2.1)
-      | inr o ↦ elim o [
-        | inl s ↦ s.0
-        | inr h ↦ let no : Exact exact ≡ Call h.0 = h.1 in cc
+  ]
+  refused before (Exact exact) token at refuses f w b = elim b [
+    | inl t ↦ refuses.1 (subst (λ (x : Token). x.text ≡ exact)
+        (same_Some t.1.1.0 token (sym t.1.1.1 ∙ at)) t.1.1.2.1)
+    | inr o ↦ elim o [
+      | inl s ↦ s.0
+      | inr h ↦ elim h [
+        | inl g ↦ let no : Exact exact ≡ Call g.0 = g.1 in cc
+        | inr g ↦ let mark = g.1.1 in cc
       ]
     ]
-    refused before other token at refuses f w b = absurd refuses.0
+  ]
+  refused before other token at refuses f w b = absurd refuses.0
 
-    -- the edges at places that are enough lead where all edges lead
-    same_courses : (before : List Event) (f : Frame) (edges : List Edge) (places : List ℕ)
-        (token : Token) →
-        slice_get tokens (skip tokens i) ≡ Some token →
-        AreEnough alphabet token.text edges places → (w : Course) →
-        IsOverSomeAt alphabet tokens tables f fs i before edges places w
-        ↔ IsOverSome alphabet tokens tables f fs i before edges w
-    same_courses before f edges places token there enough w = (
-      λ (n, inside, (edge, at, over)). (
-        edge,
-        subst (Contains edges) (get_or_from_slice_get edges n edge edge at)
-            (Contains-get_or edges n edge (slice_get_within edges n edge at)),
-        over,
-      ),
-      λ (edge, inside, over).
-          let at : slice_get edges inside.0 ≡ Some edge =
-          slice_get-get_or edges inside.0 edge inside.1 ∙ ap (λ (x : Edge). Some x) inside.2 in
-          elim (enough inside.0 edge at) [
-            | inl listed ↦ (inside.0, listed, (edge, at, over))
-            | inr refuses ↦ absurd (refused (reverse (put_events edge.output) ++ before) edge.label
-                token there refuses
-                (record { graph = f.graph; state = edge.target }) w over)
-          ],
-    )
+  -- the edges at places that are enough lead where all edges lead
+  same_courses : (before : List Event) (f : Frame) (edges : List Edge) (places : List ℕ)
+      (token : Token) →
+      slice_get tokens (skip tokens i) ≡ Some token →
+      AreEnough alphabet token.text edges places → (w : Course) →
+      IsOverSomeAt alphabet tokens tables applies f fs i before edges places w
+      ↔ IsOverSome alphabet tokens tables applies f fs i before edges w
+  same_courses before f edges places token there enough w = (
+    λ (n, inside, (edge, at, over)). (
+      edge,
+      subst (Contains edges) (get_or_from_slice_get edges n edge edge at)
+          (Contains-get_or edges n edge (slice_get_within edges n edge at)),
+      over,
+    ),
+    λ (edge, inside, over).
+        let at : slice_get edges inside.0 ≡ Some edge =
+        slice_get-get_or edges inside.0 edge inside.1 ∙ ap (λ (x : Edge). Some x) inside.2 in
+        elim (enough inside.0 edge at) [
+          | inl listed ↦ (inside.0, listed, (edge, at, over))
+          | inr refuses ↦ absurd (refused (reverse (put_events edge.output) ++ before) edge.label
+              token there refuses
+              (record { graph = f.graph; state = edge.target }) w over)
+        ],
+  )
 
 module _ (alphabet : Letters) (edges : List Edge) (places : List ℕ) where
   -- a token is there, and the places are enough for its text
   abbrev pub AreEnoughFor : Option Token → Type 0
   AreEnoughFor o = IsSomeAnd o (λ token. AreEnough alphabet token.text edges places)
 
-  pub adds_listed : (tokens : List Token) (tables : Tables) (position : ℕ) (old new : Reached)
-      (c : Config) →
+  pub adds_listed : (tokens : List Token) (tables : Tables) (applies : Applying) (position : ℕ)
+      (old new : Reached) (c : Config) →
       position ≡ skip tokens c.at → AreEnoughFor (slice_get tokens position) →
       AddsFrom old new c (λ back before.
-      IsOverSomeAt alphabet tokens tables c.here back c.at before edges places) →
+      IsOverSomeAt alphabet tokens tables applies c.here back c.at before edges places) →
       AddsFrom old new c (λ back before.
-      IsOverSome alphabet tokens tables c.here back c.at before edges)
-  adds_listed tokens tables position old new c is enough adds =
+      IsOverSome alphabet tokens tables applies c.here back c.at before edges)
+  adds_listed tokens tables applies position old new c is enough adds =
       go (slice_get tokens position) refl enough
     where
       go : (o : Option Token) → slice_get tokens position ≡ o → AreEnoughFor o →
           AddsFrom old new c (λ back before.
-          IsOverSome alphabet tokens tables c.here back c.at before edges)
+          IsOverSome alphabet tokens tables applies c.here back c.at before edges)
       go None there enough = absurd enough
       go (Some token) there enough = λ back before sound spells.
-          adds_alike (IsOverSomeAt alphabet tokens tables c.here back c.at before edges places)
-          (IsOverSome alphabet tokens tables c.here back c.at before edges) old new
+          adds_alike (IsOverSomeAt alphabet tokens tables applies c.here back c.at before edges
+          places)
+          (IsOverSome alphabet tokens tables applies c.here back c.at before edges) old new
           (adds back before sound spells)
-          (same_courses alphabet tokens tables back c.at before c.here edges places token
+          (same_courses alphabet tokens tables applies back c.at before c.here edges places token
           (ap (slice_get tokens) (sym is) ∙ there) enough)
 
   -- places by an index that is kept are enough for the token

@@ -26,6 +26,7 @@ module _ (old new : List (List ℕ)) (kept : KeepPlaces old new) where
   stands_kept (note.Value place) e is = of_text_kept place (λ text. event.Value text) e is
   stands_kept (note.Begin place) e is = of_text_kept place (λ text. event.Begin text) e is
   stands_kept (note.End place) e is = of_text_kept place (λ text. event.End text) e is
+  stands_kept note.Cut e is = is
 
   all_kept : (ns : List Noted) (es : List Event) → AllZip (StandsFor old) ns es →
       AllZip (StandsFor new) ns es
@@ -58,6 +59,7 @@ module _ (texts : List (List ℕ)) where
   one_event (note.Begin place) d e is that =
       one_of_text place (λ text. event.Begin text) d e is that
   one_event (note.End place) d e is that = one_of_text place (λ text. event.End text) d e is that
+  one_event note.Cut d e is that = is ∙ sym that
 
   same_events : (ns : List Noted) (ds es : List Event) → AllZip (StandsFor texts) ns ds →
       AllZip (StandsFor texts) ns es → ds ≡ es
@@ -99,7 +101,7 @@ module _ (texts : List (List ℕ)) where
       (place : ℕ) × (slice_get texts place ≡ Some text) × (n ≡ note.Begin place)
   IsNotedAs (event.End text) n =
       (place : ℕ) × (slice_get texts place ≡ Some text) × (n ≡ note.End place)
-  IsNotedAs event.Cut n = ⊥
+  IsNotedAs event.Cut n = n ≡ note.Cut
 
   noted_as : (n : Noted) (e : Event) → StandsFor texts n e → IsNotedAs e n
   noted_as (note.Take from to) e is =
@@ -112,6 +114,7 @@ module _ (texts : List (List ℕ)) where
       subst (λ (x : Event). IsNotedAs x (note.Begin place)) (sym is.2) (place, is.1, refl)
   noted_as (note.End place) e is =
       subst (λ (x : Event). IsNotedAs x (note.End place)) (sym is.2) (place, is.1, refl)
+  noted_as note.Cut e is = subst (λ (x : Event). IsNotedAs x note.Cut) (sym is) refl
 
   module _ (once : StandOnce texts) where
     same_place : (of : ℕ → Noted) (n m : Noted) (text : List ℕ) →
@@ -130,7 +133,7 @@ module _ (texts : List (List ℕ)) where
         same_place (λ place. note.Begin place) n m text this that
     as_one (event.End text) n m this that =
         same_place (λ place. note.End place) n m text this that
-    as_one event.Cut n m this that = absurd this
+    as_one event.Cut n m this that = this ∙ sym that
 
     same_noted : (ns ms : List Noted) (es : List Event) → AllZip (StandsFor texts) ns es →
         AllZip (StandsFor texts) ms es → ns ≡ ms

@@ -1,4 +1,4 @@
--- A course completes as the courses one step on do, whatever contexts are refused.
+-- A course completes as the courses one step on do, where contexts apply as they are meant.
 use Rattle.std.proofs.Common.{◌≡◌, ℕ, List, [], ◌∷◌, ◌++◌, refl, sym, ◌∙◌, ap, subst, ◌⊎◌, inl, inr, append_assoc, append-nil, reverse}
 use Rattle.std.specs.Prelude.{Some, slice_get, Contains, map}
 use Rattle.std.proofs.lemmas.List.{reverse-append, reverse-reverse}
@@ -8,20 +8,23 @@ use Rattle.ux_apply.specs.Tables.{Tables}
 use Rattle.ux_grf.specs.declared.item.Piece.{Piece}
 use Rattle.ux_grf.specs.declared.item.Piece.TheVariants.{Chars, Value}
 use Rattle.ux_net.specs.declared.label.Label.{Label}
-use Rattle.ux_net.specs.declared.label.Label.TheVariants.{Empty, Fold, Exact, Mask, Brace, Space, Glue, Begin, End, Call}
+use Rattle.ux_net.specs.declared.label.Label.TheVariants.{Empty, Fold, Exact, Mask, Brace, Space, Glue, Begin, End, Positive, Negative, Cut, Call}
 use Rattle.ux_net.specs.declared.state.Edge.{Edge}
 use Rattle.ux_net.specs.declared.state.State.{State}
 use Rattle.ux_net.specs.declared.net_graph.NetGraph.{NetGraph}
-use Rattle.ux_net.specs.Words.{Letter, plain, piece, ordinary, opens, mark_of, letters, Run, stop, along, across}
+use Rattle.ux_net.specs.Words.{Sign, positive, negative, Letter, plain, piece, context, ordinary, opens, mark_of, letters, Run, stop, along, across, IsBody}
 use Rattle.ux_net.specs.Nets.{IsNetEnd, IsPlain, net_graph, net_grammar, states_of}
 use Rattle.ux_outputs.specs.declared.event.Event.{Event}
 use Rattle.ux_outputs.specs.declared.event.Event.TheVariants.{Take}
-use Rattle.ux_meaning.specs.Meaning.{Seq, done, takes, stays, calls, Stays, DerWith}
+use Rattle.ux_meaning.specs.Contexts.{Holds}
+use Rattle.ux_meaning.specs.Meaning.{Seq, done, takes, stays, calls, holds, refused, Stays, DerBy, RefusesBy}
 use Rattle.ux_meaning.specs.Texts.{Takes}
 use Rattle.ux_walk.specs.Settings.{applied_text}
 use Rattle.ux_apply.specs.Accepting.{Accepts}
 use Rattle.ux_walk.specs.declared.config.Frame.{Frame}
+use Rattle.ux_walk.specs.Contexts.{Applying, ApplyAsMeant, Opens}
 use Rattle.ux_walk.specs.Courses.{Course, GoesOn, Passes, TakesPlainly, passing, put_event, put_events}
+use Rattle.ux_walk.proofs.ContextsLemmas.{plain_mark, refused_iff}
 
 -- the events before, which are listed latest first, and the later ones
 abbrev pub onto : List Event → List Event → List Event
@@ -52,24 +55,16 @@ onto-passing : (x : Label) (before later : List Event) →
     onto (passing x ++ before) later ≡ onto before (passing x ++ later)
 onto-passing (Begin name) before later = refl
 onto-passing (End name) before later = refl
+onto-passing Cut before later = refl
 onto-passing other before later = refl
 
--- the labels of nets open and close no context
-plain_mark : (x : Label) → IsPlain x → mark_of (x ∷ []) ≡ ordinary
-plain_mark Empty is = refl
-plain_mark (Fold text) is = refl
-plain_mark (Exact text) is = refl
-plain_mark (Mask mask) is = refl
-plain_mark (Brace text) is = refl
-plain_mark Space is = refl
-plain_mark Glue is = refl
-plain_mark (Begin name) is = refl
-plain_mark (End name) is = refl
-plain_mark (Call h) is = refl
-plain_mark other is = absurd is
+module _ (alphabet : Letters) (tokens : List Token) (tables : Tables) (applies : Applying)
+    (graphs : List NetGraph) (meant : ApplyAsMeant (applied_text alphabet tokens tables) graphs
+    applies) where
+  -- a context is refused, as all levels tell
+  abbrev pub Refuses : (g opening closing p : ℕ) → Type 0
+  Refuses = RefusesBy (applied_text alphabet tokens tables) (net_grammar graphs) meant.levels
 
-module _ (alphabet : Letters) (tokens : List Token) (tables : Tables) (graphs : List NetGraph)
-    (Refuses : (g opening closing p : ℕ) → Type 0) where
   -- the letters of the word apply one after another
   abbrev Applies : List Letter → ℕ → ℕ → List Event → Type 0
   Applies word i j events =
@@ -86,12 +81,6 @@ module _ (alphabet : Letters) (tokens : List Token) (tables : Tables) (graphs : 
     pub word : List Letter
     pub run : Runs g n last word
     pub seq : Applies word i j events
-
-  -- each label on an edge of the state is one that nets have
-  abbrev pub ArePlainAt : (g n : ℕ) → Type 0
-  ArePlainAt g n = (state : State) (edge : Edge) →
-      slice_get (states_of graphs g) n ≡ Some state → Contains state.edges edge →
-      IsPlain edge.label
 
   -- each frame is gone through in turn
   abbrev pub Through : List Frame → ℕ → ℕ → List Event → Type 0
@@ -119,32 +108,37 @@ module _ (alphabet : Letters) (tokens : List Token) (tables : Tables) (graphs : 
       ⊎ ((h k : ℕ) × (inside later : List Event) × (x ≡ Call h) × Goes h 0 p k inside
       × Applies word k j later × (events ≡ inside ++ later)))
 
-  -- of the labels of nets `#` stays, and gives no event, and a variable begins or ends
-  stays_first : (x : Label) → IsPlain x → (word : List Letter) (p j : ℕ)
-      (here later : List Event) → Stays (applied_text alphabet tokens tables) (plain x) p here →
-      Applies word p j later → First x word p j (here ++ later)
-  stays_first Glue is word p j here later t s =
-      inr (inl (later, t.0, s, ap (λ (l : List Event). l ++ later) t.1))
-  stays_first (Begin name) is word p j here later t s =
-      inr (inl (later, tt, s, ap (λ (l : List Event). l ++ later) t))
-  stays_first (End name) is word p j here later t s =
-      inr (inl (later, tt, s, ap (λ (l : List Event). l ++ later) t))
-  stays_first Empty is word p j here later t s = absurd t
-  stays_first (Fold text) is word p j here later t s = absurd t
-  stays_first (Exact text) is word p j here later t s = absurd t
-  stays_first (Mask mask) is word p j here later t s = absurd t
-  stays_first (Brace text) is word p j here later t s = absurd t
-  stays_first Space is word p j here later t s = absurd t
-  stays_first (Call h) is word p j here later t s = absurd t
-  stays_first other is word p j here later t s = absurd is
+  -- what takes something is plain
+  takes_plain : (x : Label) (p k : ℕ) →
+      Takes alphabet tokens (Accepts alphabet tokens tables) x p k → IsPlain x
+  takes_plain (Fold text) p k t = tt
+  takes_plain (Exact text) p k t = tt
+  takes_plain (Mask mask) p k t = tt
+  takes_plain (Brace text) p k t = tt
+  takes_plain Space p k t = tt
+  takes_plain other p k t = absurd t
 
-  first_of : {x : Label} {word : List Letter} {p j : ℕ} {events : List Event} → IsPlain x →
+  -- of labels `#` stays, and gives no event, a variable begins or ends, and a cut is made
+  stays_first : (x : Label) (word : List Letter) (p j : ℕ) (here later : List Event) →
+      Stays (applied_text alphabet tokens tables) (plain x) p here →
+      Applies word p j later → First x word p j (here ++ later)
+  stays_first Glue word p j here later t s =
+      inr (inl (later, t.0, s, ap (λ (l : List Event). l ++ later) t.1))
+  stays_first (Begin name) word p j here later t s =
+      inr (inl (later, tt, s, ap (λ (l : List Event). l ++ later) t))
+  stays_first (End name) word p j here later t s =
+      inr (inl (later, tt, s, ap (λ (l : List Event). l ++ later) t))
+  stays_first Cut word p j here later t s =
+      inr (inl (later, tt, s, ap (λ (l : List Event). l ++ later) t))
+  stays_first other word p j here later t s = absurd t
+
+  first_of : {x : Label} {word : List Letter} {p j : ℕ} {events : List Event} →
       Applies (plain x ∷ word) p j events → First x word p j events
-  first_of is (takes {k = k} {later = later} t s) = inl (k, later, (is, t), s, refl)
-  first_of {x = x} {word = word} {p = p} {j = j} is (stays {later = later} here t s) =
-      stays_first x is word p j here later t s
-  first_of is
-      (calls {h = h} {called = called} {k = k} {inside = inside} {later = later} of i s) =
+  first_of {x = x} {p = p} (takes {k = k} {later = later} t s) =
+      inl (k, later, (takes_plain x p k t, t), s, refl)
+  first_of {x = x} {word = word} {p = p} {j = j} (stays {later = later} here t s) =
+      stays_first x word p j here later t s
+  first_of (calls {h = h} {called = called} {k = k} {inside = inside} {later = later} of i s) =
       inr (inr (
         h,
         k,
@@ -157,10 +151,10 @@ module _ (alphabet : Letters) (tokens : List Token) (tables : Tables) (graphs : 
       ))
 
   -- the same of a label of an edge, of which the empty word is no letter
-  first_letter : (x : Label) → IsPlain x → (word : List Letter) (p j : ℕ) (events : List Event) →
+  first_letter : (x : Label) (word : List Letter) (p j : ℕ) (events : List Event) →
       Applies (letters (x ∷ []) ++ word) p j events → First x word p j events
-  first_letter Empty is word p j events s = inr (inl (events, tt, s, refl))
-  first_letter other is word p j events s = first_of is s
+  first_letter Empty word p j events s = inr (inl (events, tt, s, refl))
+  first_letter other word p j events s = first_of s
 
   back_takes : (x : Label) (word : List Letter) (p j k : ℕ) (events later : List Event) →
       Takes alphabet tokens (Accepts alphabet tokens tables) x p k → Applies word k j later →
@@ -191,26 +185,30 @@ module _ (alphabet : Letters) (tokens : List Token) (tables : Tables) (graphs : 
   letter_back (End name) word p j events (inr (inl (later, t, s, is))) =
       subst (λ (e : List Event). Applies (plain (End name) ∷ word) p j e) (sym is)
       (stays (passing (End name)) refl s)
+  letter_back Cut word p j events (inr (inl (later, t, s, is))) =
+      subst (λ (e : List Event). Applies (plain Cut ∷ word) p j e) (sym is)
+      (stays (passing Cut) refl s)
   letter_back other word p j events (inr (inl (later, t, s, is))) = absurd t
   letter_back other word p j events (inl (k, later, t, s, is)) =
       back_takes other word p j k events later t.1 s is
   letter_back other word p j events (inr (inr (h, k, inside, later, label, goes, s, is))) =
       back_calls other word p j h k events inside later label goes s is
 
-  -- a label that applies so is one that nets have
-  passes_plain : (x : Label) (p : ℕ) → Passes tokens x p → IsPlain x
-  passes_plain Empty p t = tt
-  passes_plain Glue p t = tt
-  passes_plain (Begin name) p t = tt
-  passes_plain (End name) p t = tt
-  passes_plain other p t = absurd t
+  -- a label that applies so opens and closes no context
+  passes_mark : (x : Label) (p : ℕ) → Passes tokens x p → mark_of (x ∷ []) ≡ ordinary
+  passes_mark Empty p t = refl
+  passes_mark Glue p t = refl
+  passes_mark (Begin name) p t = refl
+  passes_mark (End name) p t = refl
+  passes_mark Cut p t = refl
+  passes_mark other p t = absurd t
 
-  first_plain : (x : Label) (word : List Letter) (p j : ℕ) (events : List Event) →
-      First x word p j events → IsPlain x
-  first_plain x word p j events (inl (k, later, t, s, is)) = t.0
-  first_plain x word p j events (inr (inl (later, t, s, is))) = passes_plain x p t
-  first_plain x word p j events (inr (inr (h, k, inside, later, label, goes, s, is))) =
-      subst (λ (y : Label). IsPlain y) (sym label) tt
+  first_mark : (x : Label) (word : List Letter) (p j : ℕ) (events : List Event) →
+      First x word p j events → mark_of (x ∷ []) ≡ ordinary
+  first_mark x word p j events (inl (k, later, t, s, is)) = plain_mark x t.0
+  first_mark x word p j events (inr (inl (later, t, s, is))) = passes_mark x p t
+  first_mark x word p j events (inr (inr (h, k, inside, later, label, goes, s, is))) =
+      subst (λ (y : Label). mark_of (y ∷ []) ≡ ordinary) (sym label) refl
 
   piece_event : (part : Piece) (p : ℕ) (here : List Event) →
       Stays (applied_text alphabet tokens tables) (piece part) p here →
@@ -257,8 +255,9 @@ module _ (alphabet : Letters) (tokens : List Token) (tables : Tables) (graphs : 
       × (events ≡ Take i k ∷ later))
       ⊎ (((later : List Event) × Passes tokens x i × Goes g n i j later
       × (events ≡ passing x ++ later))
-      ⊎ ((h k : ℕ) × (inside later : List Event) × (x ≡ Call h) × Goes h 0 i k inside
-      × Goes g n k j later × (events ≡ inside ++ later)))
+      ⊎ (((h k : ℕ) × (inside later : List Event) × (x ≡ Call h) × Goes h 0 i k inside
+      × Goes g n k j later × (events ≡ inside ++ later))
+      ⊎ ((c : ℕ) × Opens x × applies g x n i c × Goes g c i j events)))
 
   -- over an edge of the state, with its output first
   abbrev Ahead : (g n i j : ℕ) → List Event → Type 0
@@ -292,7 +291,7 @@ module _ (alphabet : Letters) (tokens : List Token) (tables : Tables) (graphs : 
     is,
   ))
   onward x g n i j events word last ends run
-      (inr (inr (h, k, inside, later, label, goes, s, is))) = inr (inr (
+      (inr (inr (h, k, inside, later, label, goes, s, is))) = inr (inr (inl (
         h,
         k,
         inside,
@@ -301,17 +300,52 @@ module _ (alphabet : Letters) (tokens : List Token) (tables : Tables) (graphs : 
         goes,
         record { last = last; ends = ends; word = word; run = run; seq = s },
         is,
-      ))
+      )))
 
-  goes_only : (g n i j : ℕ) (events : List Event) → ArePlainAt g n → Goes g n i j events →
+  -- a context that holds, and one that is refused
+  first_holds : {g o c p j : ℕ} {word : List Letter} {events : List Event} →
+      Applies (context positive g o c ∷ word) p j events →
+      Holds (applied_text alphabet tokens tables) (net_grammar graphs) meant.levels g o c p
+      × Applies word p j events
+  first_holds (holds {body = body} {k = k} {inside = inside} is i s) =
+      (record { word = body; body = is; end = k; events = inside; seq = i }, s)
+  first_holds (stays here t s) = absurd t
+
+  first_refused : {g o c p j : ℕ} {word : List Letter} {events : List Event} →
+      Applies (context negative g o c ∷ word) p j events →
+      Refuses g o c p × Applies word p j events
+  first_refused (refused r s) = (r, s)
+  first_refused (stays here t s) = absurd t
+
+  -- where a word begins with a context, it applies
+  first_context : (sign : Sign) (x : Label) → mark_of (x ∷ []) ≡ opens sign → (g o c p j : ℕ)
+      (body word : List Letter) (events : List Event) →
+      IsBody g (net_graph (states_of graphs g)) o c body →
+      Applies (context sign g o c ∷ word) p j events →
+      applies g x o p c × Applies word p j events
+  first_context positive Positive mark g o c p j body word events is s =
+      let first = first_holds s in
+      ((meant.exact g Positive o p c (positive, mark)).1 first.0, first.1)
+  first_context negative Negative mark g o c p j body word events is s =
+      let first = first_refused s in (
+        (meant.exact g Negative o p c (negative, mark)).1 (
+          (body, is),
+          (refused_iff (applied_text alphabet tokens tables) graphs applies meant g o c p).0
+              first.0,
+        ),
+        first.1,
+      )
+  first_context sign other mark g o c p j body word events is s = cc
+
+  goes_only : (g n i j : ℕ) (events : List Event) → Goes g n i j events →
       Stops g n i j events ⊎ Ahead g n i j events
-  goes_only g n i j events are goes = by_run goes.run are goes.ends goes.seq
+  goes_only g n i j events goes = by_run goes.run goes.ends goes.seq
     where
-      by_run : {a last : ℕ} {word : List Letter} → Runs g a last word → ArePlainAt g a →
+      by_run : {a last : ℕ} {word : List Letter} → Runs g a last word →
           IsNetEnd (states_of graphs g) last → Applies word i j events →
           Stops g a i j events ⊎ Ahead g a i j events
-      by_run stop are ends seq = let e = none_left seq in inl (ends, e.0, e.1)
-      by_run (along {b = b} {word = word} s is mark run) are ends seq =
+      by_run stop ends seq = let e = none_left seq in inl (ends, e.0, e.1)
+      by_run (along {b = b} {word = word} s is mark run) ends seq =
           let edge : Edge = is.edge in
           let at : Runs g edge.target b word = subst (λ m. Runs g m b word) is.to run in
           let after : List Letter = letters (edge.label ∷ []) ++ word in
@@ -323,8 +357,7 @@ module _ (alphabet : Letters) (tokens : List Token) (tables : Tables) (graphs : 
           (subst (λ (o : List Piece). Applies ((map piece o ++ letters s.labels) ++ word) i j
           events) is.puts seq)) in
           let rest = after_output edge.output after i j events split in
-          let first = first_letter edge.label (are is.state edge is.found is.inside) word i j rest.0
-          rest.1 in
+          let first = first_letter edge.label word i j rest.0 rest.1 in
           inr (
             is.state,
             is.found,
@@ -334,10 +367,37 @@ module _ (alphabet : Letters) (tokens : List Token) (tables : Tables) (graphs : 
             onward edge.label g edge.target i j rest.0 word b ends at first,
             rest.2,
           )
-      by_run (across sign s t is mark body closes closed run) are ends seq =
-          let no : opens sign ≡ ordinary = sym mark ∙ (ap mark_of is.label
-          ∙ plain_mark is.edge.label (are is.state is.edge is.found is.inside)) in
-          cc
+      by_run (across {b = b} {body = body} {word = word} sign s t is mark inner closing closed run)
+          ends seq =
+          let edge : Edge = is.edge in
+          let after : List Letter = context sign g s.to t.to ∷ word in
+          let marked : mark_of (edge.label ∷ []) ≡ opens sign =
+          ap mark_of (sym is.label) ∙ mark in
+          let split : Applies (map piece edge.output ++ after) i j events =
+          subst (λ (o : List Piece). Applies (map piece o ++ after) i j events) is.puts seq in
+          let rest = after_output edge.output after i j events split in
+          let first = first_context sign edge.label marked g s.to t.to i j body word rest.0
+          (record {
+            step = t;
+            inside = closing;
+            closed = closed;
+            after = refl;
+            run = inner;
+          }) rest.1 in
+          inr (
+            is.state,
+            is.found,
+            edge,
+            is.inside,
+            rest.0,
+            inr (inr (inr (
+              t.to,
+              (sign, marked),
+              subst (λ o. applies g edge.label o i t.to) is.to first.0,
+              record { last = b; ends = ends; word = word; run = run; seq = first.1 },
+            ))),
+            rest.2,
+          )
 
   -- the run from where an edge leads, with the edge in front
   by_edge : (g n i j : ℕ) (rest : List Event) (state : State) →
@@ -362,12 +422,62 @@ module _ (alphabet : Letters) (tokens : List Token) (tables : Tables) (graphs : 
       to = refl;
       label = refl;
       puts = refl;
-    }) (plain_mark edge.label (first_plain edge.label word i j rest first)) run;
+    }) (first_mark edge.label word i j rest first) run;
     seq = subst (λ (l : List Letter). Applies l i j (put_events edge.output ++ rest))
         (sym (append_assoc (map piece edge.output) (letters (edge.label ∷ [])) word))
         (output_back edge.output (letters (edge.label ∷ []) ++ word) i j rest
         (letter_back edge.label word i j rest first));
   }
+
+  -- the same with a context in front
+  by_context : (g n i j : ℕ) (rest : List Event) (state : State) →
+      slice_get (states_of graphs g) n ≡ Some state → (edge : Edge) → Contains state.edges edge →
+      (sign : Sign) → mark_of (edge.label ∷ []) ≡ opens sign → (c : ℕ) (body : List Letter) →
+      IsBody g (net_graph (states_of graphs g)) edge.target c body → (on : Goes g c i j rest) →
+      Applies (context sign g edge.target c ∷ on.word) i j rest →
+      Goes g n i j (put_events edge.output ++ rest)
+  by_context g n i j rest state found edge inside sign mark c body is on seq =
+      let put : List Letter = map piece edge.output in
+      record {
+        last = on.last;
+        ends = on.ends;
+        word = put ++ context sign g edge.target c ∷ on.word;
+        run = subst
+            (λ m. Runs g n on.last (put ++ context sign g edge.target m ∷ on.word)) is.after
+            (across sign (record {
+              from = n;
+              to = edge.target;
+              output = edge.output;
+              labels = edge.label ∷ [];
+            }) is.step (record {
+              state = state;
+              found = found;
+              edge = edge;
+              inside = inside;
+              to = refl;
+              label = refl;
+              puts = refl;
+            }) mark is.run is.inside is.closed
+            (subst (λ m. Runs g m on.last on.word) (sym is.after) on.run));
+        seq = output_back edge.output (context sign g edge.target c ∷ on.word) i j rest seq;
+      }
+
+  goes_across : (g n i j : ℕ) (rest : List Event) (state : State) →
+      slice_get (states_of graphs g) n ≡ Some state → (edge : Edge) → Contains state.edges edge →
+      (x : Label) → edge.label ≡ x → Opens x → (c : ℕ) → applies g x edge.target i c →
+      Goes g c i j rest → Goes g n i j (put_events edge.output ++ rest)
+  goes_across g n i j rest state found edge inside Positive is opening c applied on =
+      let h = (meant.exact g Positive edge.target i c opening).0 applied in
+      by_context g n i j rest state found edge inside positive
+      (ap (λ (x : Label). mark_of (x ∷ [])) is) c h.word h.body on (holds h.body h.seq on.seq)
+  goes_across g n i j rest state found edge inside Negative is opening c applied on =
+      let a = (meant.exact g Negative edge.target i c opening).0 applied in
+      let r = (refused_iff (applied_text alphabet tokens tables) graphs applies meant g
+      edge.target c i).1 a.1 in
+      by_context g n i j rest state found edge inside negative
+      (ap (λ (x : Label). mark_of (x ∷ [])) is) c a.0.0 a.0.1 on (refused r on.seq)
+  goes_across g n i j rest state found edge inside other is opening c applied on =
+      let mark = opening.1 in cc
 
   goes_by : (g n i j : ℕ) (rest : List Event) (state : State) →
       slice_get (states_of graphs g) n ≡ Some state → (edge : Edge) → Contains state.edges edge →
@@ -379,9 +489,11 @@ module _ (alphabet : Letters) (tokens : List Token) (tables : Tables) (graphs : 
       by_edge g n i j rest state found edge inside on.last on.ends on.word on.run
       (inr (inl (later, t, on.seq, is)))
   goes_by g n i j rest state found edge inside
-      (inr (inr (h, k, called, later, label, goes, on, is))) =
+      (inr (inr (inl (h, k, called, later, label, goes, on, is)))) =
       by_edge g n i j rest state found edge inside on.last on.ends on.word on.run
       (inr (inr (h, k, called, later, label, goes, on.seq, is)))
+  goes_by g n i j rest state found edge inside (inr (inr (inr (c, opening, applied, on)))) =
+      goes_across g n i j rest state found edge inside edge.label refl opening c applied on
 
   goes_at_end : (g n i : ℕ) → IsNetEnd (states_of graphs g) n → Goes g n i i []
   goes_at_end g n i ends =
@@ -397,10 +509,10 @@ module _ (alphabet : Letters) (tokens : List Token) (tables : Tables) (graphs : 
         ∙ sym (onto-put put before (rest ++ later)))
 
     -- what completes a course completes one a step on
-    pub step_forth : ArePlainAt f.graph f.state → Completes (f ∷ fs) i before j events →
-        (w : Course) × GoesOn alphabet tokens tables graphs f fs i before w × Ends w j events
-    step_forth are (all, (k, here, rest, goes, through, split), is) =
-        elim (goes_only f.graph f.state i k here are goes) [
+    pub step_forth : Completes (f ∷ fs) i before j events → (w : Course)
+        × GoesOn alphabet tokens tables applies graphs f fs i before w × Ends w j events
+    step_forth (all, (k, here, rest, goes, through, split), is) =
+        elim (goes_only f.graph f.state i k here goes) [
           | inl s ↦ (
             record { frames = fs; at = i; before = before },
             (s.0.state, s.0.found, inr (s.0.final, refl)),
@@ -420,7 +532,8 @@ module _ (alphabet : Letters) (tokens : List Token) (tables : Tables) (graphs : 
             (edge : Edge) → Contains state.edges edge → (after : List Event) →
             Onward edge.label f.graph edge.target i k after →
             events ≡ onto (reverse (put_events edge.output) ++ before) (after ++ rest) →
-            (w : Course) × GoesOn alphabet tokens tables graphs f fs i before w × Ends w j events
+            (w : Course) × GoesOn alphabet tokens tables applies graphs f fs i before w
+            × Ends w j events
         over state found edge inside after (inl (m, later, t, on, e)) whole =
             let next : Frame = record { graph = f.graph; state = edge.target } in
             let put : List Event = reverse (put_events edge.output) ++ before in (
@@ -447,18 +560,25 @@ module _ (alphabet : Letters) (tokens : List Token) (tables : Tables) (graphs : 
               ),
             )
         over state found edge inside after
-            (inr (inr (h, m, called, later, label, goes, on, e))) whole =
+            (inr (inr (inl (h, m, called, later, label, goes, on, e)))) whole =
             let next : Frame = record { graph = f.graph; state = edge.target } in
             let start : Frame = record { graph = h; state = 0 } in
             let put : List Event = reverse (put_events edge.output) ++ before in (
               record { frames = start ∷ next ∷ fs; at = i; before = put },
-              (state, found, inl (edge, inside, inr (inr (h, label, refl)))),
+              (state, found, inl (edge, inside, inr (inr (inl (h, label, refl))))),
               (
                 called ++ (later ++ rest),
                 (m, called, later ++ rest, goes, (k, later, rest, on, through, refl), refl),
                 whole ∙ ap (λ (l : List Event). onto put l)
                     (ap (λ (l : List Event). l ++ rest) e ∙ append_assoc called later rest),
               ),
+            )
+        over state found edge inside after (inr (inr (inr (c, opening, applied, on)))) whole =
+            let next : Frame = record { graph = f.graph; state = c } in
+            let put : List Event = reverse (put_events edge.output) ++ before in (
+              record { frames = next ∷ fs; at = i; before = put },
+              (state, found, inl (edge, inside, inr (inr (inr (c, opening, applied, refl))))),
+              (after ++ rest, (k, after, rest, on, through, refl), whole),
             )
 
     -- what an edge leads to, with what it puts out in front
@@ -484,7 +604,7 @@ module _ (alphabet : Letters) (tokens : List Token) (tables : Tables) (graphs : 
         )
 
     -- and the other way round
-    pub step_back : (w : Course) → GoesOn alphabet tokens tables graphs f fs i before w →
+    pub step_back : (w : Course) → GoesOn alphabet tokens tables applies graphs f fs i before w →
         Ends w j events → Completes (f ∷ fs) i before j events
     step_back w (state, found, inr (final, is)) ends =
         let c : Completes fs i before j events =
@@ -523,7 +643,15 @@ module _ (alphabet : Letters) (tokens : List Token) (tables : Tables) (graphs : 
         (c.2 ∙ onto-passing edge.label put c.0)
         (ap (λ (l : List Event). passing edge.label ++ l) u.5
         ∙ sym (append_assoc (passing edge.label) u.1 u.2))
-    step_back w (state, found, inl (edge, inside, inr (inr (h, label, is)))) ends =
+    step_back w (state, found, inl (edge, inside, inr (inr (inr (c, opening, applied, is))))) ends =
+        let next : Frame = record { graph = f.graph; state = c } in
+        let put : List Event = reverse (put_events edge.output) ++ before in
+        let whole : Completes (next ∷ fs) i put j events =
+        subst (λ (x : Course). Ends x j events) is ends in
+        let u = whole.1 in
+        back_over state found edge inside u.0 u.1 u.2 whole.0
+        (inr (inr (inr (c, opening, applied, u.3)))) u.4 whole.2 u.5
+    step_back w (state, found, inl (edge, inside, inr (inr (inl (h, label, is))))) ends =
         let next : Frame = record { graph = f.graph; state = edge.target } in
         let start : Frame = record { graph = h; state = 0 } in
         let put : List Event = reverse (put_events edge.output) ++ before in
@@ -532,12 +660,12 @@ module _ (alphabet : Letters) (tokens : List Token) (tables : Tables) (graphs : 
         let u = c.1 in
         let v = u.4 in
         back_over state found edge inside v.0 (u.1 ++ v.1) v.2 c.0
-        (inr (inr (h, u.0, u.1, v.1, label, u.3, v.3, refl))) v.4 c.2
+        (inr (inr (inl (h, u.0, u.1, v.1, label, u.3, v.3, refl)))) v.4 c.2
         (u.5 ∙ (ap (λ (l : List Event). u.1 ++ l) v.5 ∙ sym (append_assoc u.1 v.1 v.2)))
 
   -- a graph derives as the course from its start completes
   pub starts_forth : (g i j : ℕ) (events : List Event) →
-      DerWith (applied_text alphabet tokens tables) (net_grammar graphs) Refuses g i j events →
+      DerBy (applied_text alphabet tokens tables) (net_grammar graphs) meant.levels g i j events →
       Completes (record { graph = g; state = 0 } ∷ []) i [] j events
   starts_forth g i j events d = (
     events,
@@ -560,7 +688,7 @@ module _ (alphabet : Letters) (tokens : List Token) (tables : Tables) (graphs : 
 
   pub starts_back : (g i j : ℕ) (events : List Event) →
       Completes (record { graph = g; state = 0 } ∷ []) i [] j events →
-      DerWith (applied_text alphabet tokens tables) (net_grammar graphs) Refuses g i j events
+      DerBy (applied_text alphabet tokens tables) (net_grammar graphs) meant.levels g i j events
   starts_back g i j events (all, (k, here, rest, goes, through, split), is) =
       let same : here ≡ events = sym (is ∙ (split
       ∙ (ap (λ (l : List Event). here ++ l) through.1 ∙ append-nil here))) in

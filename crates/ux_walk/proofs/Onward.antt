@@ -17,7 +17,10 @@ use Rattle.ux_outputs.specs.declared.event.Event.{Event}
 use Rattle.ux_outputs.specs.Rendering.{kind_of, skip, skip_past}
 use Rattle.ux_meaning.specs.Texts.{IsSpaceAt, Takes}
 use Rattle.ux_walk.specs.declared.config.Frame.{Frame}
+use Rattle.ux_walk.specs.Contexts.{Applying, ApplyAsMeant}
 use Rattle.ux_walk.specs.Courses.{Course, GoesOn, Passes}
+use Rattle.ux_walk.specs.Settings.{applied_text}
+use Rattle.ux_walk.proofs.ContextsLemmas.{lower_behind}
 use Rattle.ux_walk.proofs.Weights.{weight_of}
 use Rattle.ux_walk.proofs.Lighter.{ended_lighter, stays_lighter, takes_lighter, calls_lighter}
 
@@ -77,50 +80,62 @@ module _ (graphs : List NetGraph) where
   weight_at len w = weight_of graphs ((len - w.at) + 1) w.frames
 
   module _ (alphabet : Letters) (tokens : List Token) (tables : Tables)
-      (forward : AreForward alphabet tokens tables) (measured : IsMeasured graphs) (f : Frame)
-      (fs : List Frame) (i : ℕ) (before : List Event) (inside : i ≤ length tokens) where
-    -- inside the text, and lighter than the frames at the position
-    abbrev IsLighter : Course → Type 0
-    IsLighter w = (w.at ≤ length tokens)
-        × (weight_at (length tokens) w < weight_of graphs ((length tokens - i) + 1) (f ∷ fs))
+      (applies : Applying) (meant : ApplyAsMeant (applied_text alphabet tokens tables) graphs
+      applies) (forward : AreForward alphabet tokens tables) (measured : IsMeasured graphs)
+      (f : Frame) (fs : List Frame) (i : ℕ) (before : List Event) (inside : i ≤ length tokens)
+    where
+      -- inside the text, and lighter than the frames at the position
+      abbrev IsLighter : Course → Type 0
+      IsLighter w = (w.at ≤ length tokens)
+          × (weight_at (length tokens) w < weight_of graphs ((length tokens - i) + 1) (f ∷ fs))
 
-    lower_of : (x : Label) (to : ℕ) → Falls graphs f.graph f.state to x → Passes tokens x i →
-        IsLower graphs f.graph f.state to
-    lower_of label.Empty to falls s = falls
-    lower_of label.Glue to falls s = falls
-    lower_of (label.Begin name) to falls s = falls
-    lower_of (label.End name) to falls s = falls
-    lower_of _ to falls s = absurd s
+      lower_of : (x : Label) (to : ℕ) → Falls graphs f.graph f.state to x → Passes tokens x i →
+          IsLower graphs f.graph f.state to
+      lower_of label.Empty to falls s = falls
+      lower_of label.Glue to falls s = falls
+      lower_of (label.Begin name) to falls s = falls
+      lower_of (label.End name) to falls s = falls
+      lower_of label.Cut to falls s = falls
+      lower_of _ to falls s = absurd s
 
-    -- a course one step on is so
-    pub next_lighter : (w : Course) → GoesOn alphabet tokens tables graphs f fs i before w →
-        IsLighter w
-    next_lighter w (state, found, inr (final, is)) =
-        subst (λ (v : Course). IsLighter v) (sym is) (
-          inside,
-          ended_lighter graphs f fs ((length tokens - i) + 1)
-              (measured.ends f.graph f.state state found final),
-        )
-    next_lighter w (state, found, inl (edge, of_state, inl (k, t, is))) =
-        let ahead = takes_forward alphabet tokens tables forward edge.label i k t.1 in
-        let further = ahead.0 in
-        let within = ahead.1 in
-        subst (λ (v : Course). IsLighter v) (sym is) (
-          within,
-          takes_lighter graphs f edge.target ((length tokens - k) + 1) ((length tokens - i) + 1) fs
-              (omega (arith, further, within)),
-        )
-    next_lighter w (state, found, inl (edge, of_state, inr (inl (s, is)))) =
-        subst (λ (v : Course). IsLighter v) (sym is) (
-          inside,
-          stays_lighter graphs f edge.target ((length tokens - i) + 1) fs
-              (lower_of edge.label edge.target
-              (measured.falls f.graph f.state state edge found of_state) s),
-        )
-    next_lighter w (state, found, inl (edge, of_state, inr (inr (h, label, is)))) =
-        subst (λ (v : Course). IsLighter v) (sym is) (
-          inside,
-          calls_lighter graphs f edge.target h ((length tokens - i) + 1) fs (omega arith)
-              (subst (λ (x : Label). Falls graphs f.graph f.state edge.target x) label
-              (measured.falls f.graph f.state state edge found of_state)),
-        )
+      -- a course one step on is so
+      pub next_lighter : (w : Course) →
+          GoesOn alphabet tokens tables applies graphs f fs i before w → IsLighter w
+      next_lighter w (state, found, inr (final, is)) =
+          subst (λ (v : Course). IsLighter v) (sym is) (
+            inside,
+            ended_lighter graphs f fs ((length tokens - i) + 1)
+                (measured.ends f.graph f.state state found final),
+          )
+      next_lighter w (state, found, inl (edge, of_state, inl (k, t, is))) =
+          let ahead = takes_forward alphabet tokens tables forward edge.label i k t.1 in
+          let further = ahead.0 in
+          let within = ahead.1 in
+          subst (λ (v : Course). IsLighter v) (sym is) (
+            within,
+            takes_lighter graphs f edge.target ((length tokens - k) + 1)
+                ((length tokens - i) + 1) fs (omega (arith, further, within)),
+          )
+      next_lighter w (state, found, inl (edge, of_state, inr (inl (s, is)))) =
+          subst (λ (v : Course). IsLighter v) (sym is) (
+            inside,
+            stays_lighter graphs f edge.target ((length tokens - i) + 1) fs
+                (lower_of edge.label edge.target
+                (measured.falls f.graph f.state state edge found of_state) s),
+          )
+      next_lighter w
+          (state, found, inl (edge, of_state, inr (inr (inr (c, opening, applied, is))))) =
+          subst (λ (v : Course). IsLighter v) (sym is) (
+            inside,
+            stays_lighter graphs f c ((length tokens - i) + 1) fs
+                (lower_behind (applied_text alphabet tokens tables) graphs applies meant f.graph
+                f.state edge.target edge.label i c opening
+                (measured.falls f.graph f.state state edge found of_state) applied),
+          )
+      next_lighter w (state, found, inl (edge, of_state, inr (inr (inl (h, label, is))))) =
+          subst (λ (v : Course). IsLighter v) (sym is) (
+            inside,
+            calls_lighter graphs f edge.target h ((length tokens - i) + 1) fs (omega arith)
+                (subst (λ (x : Label). Falls graphs f.graph f.state edge.target x) label
+                (measured.falls f.graph f.state state edge found of_state)),
+          )

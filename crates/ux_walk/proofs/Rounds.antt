@@ -7,10 +7,11 @@ use Rattle.ux_alphabet.specs.Letters.{Letters}
 use Rattle.ux_tokens.specs.Tokens.{Token}
 use Rattle.ux_apply.specs.Tables.{Tables}
 use Rattle.ux_net.specs.declared.net_graph.NetGraph.{NetGraph}
-use Rattle.ux_net.specs.Nets.{ArePlain, net_grammar}
+use Rattle.ux_net.specs.Nets.{net_grammar}
 use Rattle.ux_net.specs.Measured.{IsMeasured}
 use Rattle.ux_outputs.specs.declared.event.Event.{Event}
-use Rattle.ux_meaning.specs.Meaning.{DerWith}
+use Rattle.ux_meaning.specs.Meaning.{DerBy}
+use Rattle.ux_walk.specs.Contexts.{Applying, ApplyAsMeant}
 use Rattle.ux_walk.specs.Settings.{applied_text}
 use Rattle.ux_walk.specs.declared.lists.Link.{Link}
 use Rattle.ux_walk.specs.declared.config.Frame.{Frame}
@@ -47,12 +48,14 @@ nothing_below {A} links none = subst (λ (l : List (Link A)). AreBelow l) (sym n
     empty : let no : List (Link A) = [] in AreBelow no
     empty i link at = absurd (let w = slice_get_within [] i link at in omega (arith, w))
 
-module _ (alphabet : Letters) (tokens : List Token) (tables : Tables) (graphs : List NetGraph)
-    (Refuses : (g opening closing p : ℕ) → Type 0) (start : ℕ) where
-  -- the main graph derives the events from the start, where contexts are refused so
+module _ (alphabet : Letters) (tokens : List Token) (tables : Tables) (applies : Applying)
+    (graphs : List NetGraph) (meant : ApplyAsMeant (applied_text alphabet tokens tables) graphs
+    applies) (start : ℕ) where
+  -- the main graph derives the events from the start, as all levels tell
   abbrev IsDerived : ℕ → List Event → Type 0
   IsDerived j events =
-      DerWith (applied_text alphabet tokens tables) (net_grammar graphs) Refuses 1 start j events
+      DerBy (applied_text alphabet tokens tables) (net_grammar graphs) meant.levels 1 start j
+      events
 
   -- what was found, and what the pending configurations give, is all that is derived
   pub record Walking (r : Reached) : Type 0 where
@@ -60,10 +63,16 @@ module _ (alphabet : Letters) (tokens : List Token) (tables : Tables) (graphs : 
     pub inside : (w : Course) → Has r w → w.at ≤ length tokens
     pub exact : (j : ℕ) (events : List Event) →
         IsDerived j events
-        ↔ ((w : Course) × Has r w × Ends alphabet tokens tables graphs Refuses w j events)
+        ↔ ((w : Course) × Has r w × Ends alphabet tokens tables applies graphs meant w j events)
 
-  module _ (forward : AreForward alphabet tokens tables) (measured : IsMeasured graphs)
-      (are : ArePlain graphs) where
+  -- what is pending goes on in the text
+  pub pending_inside : (r : Reached) → Walking r → (c : Config) → Contains r.pending.keys c →
+      c.at ≤ length tokens
+  pending_inside r walk c h =
+      let w = walk.sound.pending c h in
+      subst (λ (v : Course). v.at ≤ length tokens) w.1.is (walk.inside w.0 (inl (c, h, w.1)))
+
+  module _ (forward : AreForward alphabet tokens tables) (measured : IsMeasured graphs) where
     -- after the first step
     pub walking_begins : (none r : Reached) → frames_of none ≡ [] → events_of none ≡ [] →
         none.pending.keys ≡ [] → none.found.keys ≡ [] → start ≤ length tokens →
@@ -73,7 +82,7 @@ module _ (alphabet : Letters) (tokens : List Token) (tables : Tables) (graphs : 
           at = start;
           events = 0;
         }) (λ back before.
-        GoesOn alphabet tokens tables graphs (record { graph = 1; state = 0 }) back start
+        GoesOn alphabet tokens tables applies graphs (record { graph = 1; state = 0 }) back start
         before) → Walking r
     walking_begins none r frames events pending found inside adds =
         let sound : IsSound none = record {
@@ -96,25 +105,26 @@ module _ (alphabet : Letters) (tokens : List Token) (tables : Tables) (graphs : 
           sound = first.sound;
           inside = λ w h. elim ((first.has w).0 h) [
             | inl o ↦ absurd (had_none w o)
-            | inr g ↦ (next_lighter graphs alphabet tokens tables forward measured main [] start []
-                inside w g).0
+            | inr g ↦ (next_lighter graphs alphabet tokens tables applies meant forward measured
+                main [] start [] inside w g).0
           ];
           exact = λ j es. (
             λ d.
-                let n = step_forth alphabet tokens tables graphs Refuses main [] start [] j es
-                (are 1 0) (starts_forth alphabet tokens tables graphs Refuses 1 start j es d) in
+                let n = step_forth alphabet tokens tables applies graphs meant main [] start [] j es
+                (starts_forth alphabet tokens tables applies graphs meant 1 start j es d) in
                 (n.0, (first.has n.0).1 (inr n.1), n.2),
             λ n. elim ((first.has n.0).0 n.1) [
               | inl o ↦ absurd (had_none n.0 o)
-              | inr g ↦ starts_back alphabet tokens tables graphs Refuses 1 start j es
-                  (step_back alphabet tokens tables graphs Refuses main [] start [] j es n.0 g n.2)
+              | inr g ↦ starts_back alphabet tokens tables applies graphs meant 1 start j es
+                  (step_back alphabet tokens tables applies graphs meant main [] start [] j es n.0
+                  g n.2)
             ],
           );
         }
 
     -- after a round
     pub walking_round : (old new : Reached) → Walking old → IsRound alphabet tokens tables
-        graphs old new →
+        applies graphs old new →
         Walking new
     walking_round old new walk round = record {
       sound = round.sound;
@@ -135,7 +145,7 @@ module _ (alphabet : Letters) (tokens : List Token) (tables : Tables) (graphs : 
     }
       where
         before_it : (c : Config) → Contains old.pending.keys c → (w : Course) →
-            (a : IsAfter alphabet tokens tables graphs old c w) →
+            (a : IsAfter alphabet tokens tables applies graphs old c w) →
             Has old (record { frames = c.here ∷ a.0; at = c.at; before = a.1 })
         before_it c h w a = inl (
           c,
@@ -144,35 +154,34 @@ module _ (alphabet : Letters) (tokens : List Token) (tables : Tables) (graphs : 
         )
 
         ahead : (c : Config) → Contains old.pending.keys c → (w : Course) →
-            IsAfter alphabet tokens tables graphs old c w → w.at ≤ length tokens
-        ahead c h w a = (next_lighter graphs alphabet tokens tables forward measured c.here
-            a.0 c.at a.1
-            (walk.inside _ (before_it c h w a)) w a.3).0
+            IsAfter alphabet tokens tables applies graphs old c w → w.at ≤ length tokens
+        ahead c h w a = (next_lighter graphs alphabet tokens tables applies meant forward measured
+            c.here a.0 c.at a.1 (walk.inside _ (before_it c h w a)) w a.3).0
 
         pending_forth : (c : Config) → Contains old.pending.keys c → (v : Course) →
             IsNamed old c v → (j : ℕ) (es : List Event) →
-            Ends alphabet tokens tables graphs Refuses v j es →
-            (w : Course) × Has new w × Ends alphabet tokens tables graphs Refuses w j es
+            Ends alphabet tokens tables applies graphs meant v j es →
+            (w : Course) × Has new w × Ends alphabet tokens tables applies graphs meant w j es
         pending_forth c h v named j es ends =
-            let whole : Completes alphabet tokens tables graphs Refuses (c.here ∷ named.back) c.at
-            named.before j es
-            = subst (λ (x : Course). Ends alphabet tokens tables graphs Refuses x j es)
+            let whole : Completes alphabet tokens tables applies graphs meant
+            (c.here ∷ named.back) c.at named.before j es
+            = subst (λ (x : Course). Ends alphabet tokens tables applies graphs meant x j es)
             named.is ends in
-            let n = step_forth alphabet tokens tables graphs Refuses c.here named.back c.at
+            let n = step_forth alphabet tokens tables applies graphs meant c.here named.back c.at
             named.before
-            j es (are c.here.graph c.here.state) whole in (
+            j es whole in (
               n.0,
               (round.has n.0).1 (inr (c, h, (named.back, named.before, named.spells, n.1))),
               n.2,
             )
 
         pending_back : (c : Config) → Contains old.pending.keys c → (w : Course) →
-            IsAfter alphabet tokens tables graphs old c w → (j : ℕ) (es : List Event) →
-            Ends alphabet tokens tables graphs Refuses w j es → IsDerived j es
+            IsAfter alphabet tokens tables applies graphs old c w → (j : ℕ) (es : List Event) →
+            Ends alphabet tokens tables applies graphs meant w j es → IsDerived j es
         pending_back c h w a j es ends = (walk.exact j es).1 (
           record { frames = c.here ∷ a.0; at = c.at; before = a.1 },
           before_it c h w a,
-          step_back alphabet tokens tables graphs Refuses c.here a.0 c.at a.1 j es w a.3 ends,
+          step_back alphabet tokens tables applies graphs meant c.here a.0 c.at a.1 j es w a.3 ends,
         )
 
     -- where nothing is pending all is found
@@ -191,10 +200,11 @@ module _ (alphabet : Letters) (tokens : List Token) (tables : Tables) (graphs : 
     )
       where
         ended : (f : Found) → Contains r.found.keys f → (w : Course) → IsFound r f w →
-            Ends alphabet tokens tables graphs Refuses w j events → IsFoundAs r j events
+            Ends alphabet tokens tables applies graphs meant w j events → IsFoundAs r j events
         ended f h w is ends =
-            let c : Completes alphabet tokens tables graphs Refuses [] f.end is.before j events =
-            subst (λ (x : Course). Ends alphabet tokens tables graphs Refuses x j events)
+            let c : Completes alphabet tokens tables applies graphs meant [] f.end is.before j
+            events =
+            subst (λ (x : Course). Ends alphabet tokens tables applies graphs meant x j events)
             is.is ends in
             record {
               found = f;
@@ -207,7 +217,7 @@ module _ (alphabet : Letters) (tokens : List Token) (tables : Tables) (graphs : 
 
     -- and each round has less to do
     module _ (old new : Reached) (walk : Walking old)
-        (round : IsRound alphabet tokens tables graphs old new) where
+        (round : IsRound alphabet tokens tables applies graphs old new) where
       load_is : (r : Reached) → IsSound r → (c : Config) (w : Course) → IsNamed r c w →
           load graphs (length tokens) (frames_of r) c
           ≡ weight_of graphs ((length tokens - w.at) + 1) w.frames
@@ -259,16 +269,15 @@ module _ (alphabet : Letters) (tokens : List Token) (tables : Tables) (graphs : 
           ]
         where
           by : (d : Config) → Contains old.pending.keys d → (w : Course) → IsNamed new c w →
-              IsAfter alphabet tokens tables graphs old d w →
+              IsAfter alphabet tokens tables applies graphs old d w →
               load graphs (length tokens) (frames_of new) c + 1
               < greatest graphs (length tokens) (frames_of old) old.pending.keys
           by d inside w named a =
               let v : Course = record { frames = d.here ∷ a.0; at = d.at; before = a.1 } in
               let was : IsNamed old d v =
               record { back = a.0; before = a.1; spells = a.2; is = refl } in
-              let less = (next_lighter graphs alphabet tokens tables forward measured d.here
-              a.0 d.at a.1
-              (walk.inside v (inl (d, inside, was))) w a.3).1 in
+              let less = (next_lighter graphs alphabet tokens tables applies meant forward measured
+              d.here a.0 d.at a.1 (walk.inside v (inl (d, inside, was))) w a.3).1 in
               let this = load_is new round.sound c w named in
               let that = load_is old walk.sound d v was in
               let top = below_greatest (frames_of old) old.pending.keys d inside in

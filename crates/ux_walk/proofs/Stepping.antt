@@ -24,7 +24,8 @@ use Rattle.ux_walk.specs.declared.matching.Passage.TheVariants as passage
 use Rattle.ux_walk.specs.declared.reached.Reached.{Reached}
 use Rattle.ux_walk.specs.Passages.{IsPassage, TakesUpTo}
 use Rattle.ux_walk.specs.Links.{link_at, Names, AreBelow}
-use Rattle.ux_walk.specs.Courses.{Course, IsBehind, IsOverSome, GoesOn, TakesPlainly, passing}
+use Rattle.ux_walk.specs.Contexts.{Applying}
+use Rattle.ux_walk.specs.Courses.{Course, IsBehind, IsClosed, IsOverSome, GoesOn, TakesPlainly, passing}
 use Rattle.ux_walk.specs.Configurations.{IsAfter, IsAfterSome, IsRound, IsNamed, IsPast, IsSound, Adds, AddsFrom, NamesEventsIn, frames_of, events_of, texts_of}
 use Rattle.ux_walk.proofs.LinksLemmas.{one_list}
 use Rattle.ux_walk.proofs.NotedLemmas.{one_telling}
@@ -71,16 +72,33 @@ module _ (r new : Reached) (c : Config) where
 calls_once : (k m : ℕ) → passage.Calls k ≡ passage.Calls m → k ≡ m
 calls_once k m h = cc
 
-module _ (alphabet : Letters) (tokens : List Token) (tables : Tables) (label : Label) (f : Frame)
-    (fs : List Frame) (i : ℕ) (before : List Event) (r : Passage)
+module _ (alphabet : Letters) (tokens : List Token) (tables : Tables) (applies : Applying)
+    (label : Label) (f : Frame) (fs : List Frame) (i : ℕ) (before : List Event) (r : Passage)
     (is : IsPassage alphabet tokens tables label i r) (w : Course) where
   abbrev Behind : Type 0
-  Behind = IsBehind alphabet tokens tables label f fs i before w
+  Behind = IsBehind alphabet tokens tables applies label f fs i before w
 
-  -- what the passage takes, where it is known
-  taken : (this : Passage) → r ≡ this → (k : ℕ) → TakesPlainly alphabet tokens tables label i k →
-      TakesUpTo this k
-  taken this is_this k takes = subst (λ (x : Passage). TakesUpTo x k) is_this ((is.takes k).1 takes)
+  -- what is behind the label, by the passage
+  by_passage : (Wanted : Type 0) →
+      ((k : ℕ) → TakesUpTo r k → IsPast i f fs before k w → Wanted) →
+      (r ≡ passage.Stays → w ≡ course (f ∷ fs) i (passing label ++ before) → Wanted) →
+      ((h : ℕ) → r ≡ passage.Calls h →
+      w ≡ course (record { graph = h; state = 0 } ∷ f ∷ fs) i before → Wanted) →
+      (r ≡ passage.Opens → (c : ℕ) → applies f.graph label f.state i c →
+      IsClosed f fs i before c w → Wanted) → Behind → Wanted
+  by_passage Wanted takes stays calls opens b = elim b [
+    | inl t ↦ takes t.0 ((is.takes t.0).1 t.1) t.2
+    | inr o ↦ elim o [
+      | inl s ↦ stays (is.stays.1 s.0) s.1
+      | inr p ↦ elim p [
+        | inl h ↦ calls h.0 ((is.calls h.0).1 h.1) h.2
+        | inr c ↦ opens (is.opens.1 c.1) c.0 c.2 c.3
+      ]
+    ]
+  ]
+
+  upto : (this : Passage) → r ≡ this → (k : ℕ) → TakesUpTo r k → TakesUpTo this k
+  upto this is_this k takes = subst (λ (x : Passage). TakesUpTo x k) is_this takes
 
   takes_it : (this : Passage) → r ≡ this → (k : ℕ) → TakesUpTo this k →
       TakesPlainly alphabet tokens tables label i k
@@ -90,67 +108,66 @@ module _ (alphabet : Letters) (tokens : List Token) (tables : Tables) (label : L
   pub behind_takes : (k : ℕ) → r ≡ passage.Takes k → IsPast i f fs before k w ↔ Behind
   behind_takes k this = (
     λ e. inl (k, takes_it (passage.Takes k) this k refl, e),
-    λ b. elim b [
-      | inl t ↦ t.2 ∙ ap (λ n. course (f ∷ fs) n (Take i n ∷ before))
-          (taken (passage.Takes k) this t.0 t.1)
-      | inr o ↦ elim o [
-        | inl s ↦ let no : passage.Takes k ≡ passage.Stays = sym this ∙ is.stays.1 s.0 in cc
-        | inr h ↦
-            let no : passage.Takes k ≡ passage.Calls h.0 = sym this ∙ (is.calls h.0).1 h.1 in cc
-      ]
-    ],
+    by_passage (IsPast i f fs before k w)
+        (λ m takes e. e ∙ ap (λ n. course (f ∷ fs) n (Take i n ∷ before))
+        (upto (passage.Takes k) this m takes))
+        (λ that e. let no : passage.Takes k ≡ passage.Stays = sym this ∙ that in cc)
+        (λ h that e. let no : passage.Takes k ≡ passage.Calls h = sym this ∙ that in cc)
+        (λ that c applied e. let no : passage.Takes k ≡ passage.Opens = sym this ∙ that in cc),
   )
 
   pub behind_spans : (ends : Vec ℕ Global) → r ≡ passage.Spans ends →
       ((k : ℕ) × Contains ends.items k × IsPast i f fs before k w) ↔ Behind
   behind_spans ends this = (
     λ (k, inside, e). inl (k, takes_it (passage.Spans ends) this k inside, e),
-    λ b. elim b [
-      | inl t ↦ (t.0, taken (passage.Spans ends) this t.0 t.1, t.2)
-      | inr o ↦ elim o [
-        | inl s ↦ let no : passage.Spans ends ≡ passage.Stays = sym this ∙ is.stays.1 s.0 in cc
-        | inr h ↦
-            let no : passage.Spans ends ≡ passage.Calls h.0 = sym this ∙ (is.calls h.0).1 h.1 in cc
-      ]
-    ],
+    by_passage ((k : ℕ) × Contains ends.items k × IsPast i f fs before k w)
+        (λ m takes e. (m, upto (passage.Spans ends) this m takes, e))
+        (λ that e. let no : passage.Spans ends ≡ passage.Stays = sym this ∙ that in cc)
+        (λ h that e. let no : passage.Spans ends ≡ passage.Calls h = sym this ∙ that in cc)
+        (λ that c applied e. let no : passage.Spans ends ≡ passage.Opens = sym this ∙ that in cc),
   )
 
   pub behind_stays : r ≡ passage.Stays →
       (w ≡ course (f ∷ fs) i (passing label ++ before)) ↔ Behind
   behind_stays this = (
     λ e. inr (inl (is.stays.0 this, e)),
-    λ b. elim b [
-      | inl t ↦ absurd (taken passage.Stays this t.0 t.1)
-      | inr o ↦ elim o [
-        | inl s ↦ s.1
-        | inr h ↦ let no : passage.Stays ≡ passage.Calls h.0 = sym this ∙ (is.calls h.0).1 h.1 in cc
-      ]
-    ],
+    by_passage (w ≡ course (f ∷ fs) i (passing label ++ before))
+        (λ m takes e. absurd (upto passage.Stays this m takes))
+        (λ that e. e)
+        (λ h that e. let no : passage.Stays ≡ passage.Calls h = sym this ∙ that in cc)
+        (λ that c applied e. let no : passage.Stays ≡ passage.Opens = sym this ∙ that in cc),
   )
 
   pub behind_calls : (h : ℕ) → r ≡ passage.Calls h →
       (w ≡ course (record { graph = h; state = 0 } ∷ f ∷ fs) i before) ↔ Behind
   behind_calls h this = (
-    λ e. inr (inr (h, (is.calls h).0 this, e)),
-    λ b. elim b [
-      | inl t ↦ absurd (taken (passage.Calls h) this t.0 t.1)
-      | inr o ↦ elim o [
-        | inl s ↦ let no : passage.Calls h ≡ passage.Stays = sym this ∙ is.stays.1 s.0 in cc
-        | inr g ↦
-            let same : h ≡ g.0 = calls_once h g.0 (sym this ∙ (is.calls g.0).1 g.1) in
-            g.2 ∙ ap (λ n. course (record { graph = n; state = 0 } ∷ f ∷ fs) i before) (sym same)
-      ]
-    ],
+    λ e. inr (inr (inl (h, (is.calls h).0 this, e))),
+    by_passage (w ≡ course (record { graph = h; state = 0 } ∷ f ∷ fs) i before)
+        (λ m takes e. absurd (upto (passage.Calls h) this m takes))
+        (λ that e. let no : passage.Calls h ≡ passage.Stays = sym this ∙ that in cc)
+        (λ g that e. e ∙ ap (λ n. course (record { graph = n; state = 0 } ∷ f ∷ fs) i before)
+        (sym (calls_once h g (sym this ∙ that))))
+        (λ that c applied e. let no : passage.Calls h ≡ passage.Opens = sym this ∙ that in cc),
+  )
+
+  pub behind_opens : r ≡ passage.Opens → (closers : List ℕ) →
+      ((c : ℕ) → Contains closers c ↔ applies f.graph label f.state i c) →
+      ((c : ℕ) × Contains closers c × IsClosed f fs i before c w) ↔ Behind
+  behind_opens this closers exact = (
+    λ (c, inside, e). inr (inr (inr (c, is.opens.0 this, (exact c).0 inside, e))),
+    by_passage ((c : ℕ) × Contains closers c × IsClosed f fs i before c w)
+        (λ m takes e. absurd (upto passage.Opens this m takes))
+        (λ that e. let no : passage.Opens ≡ passage.Stays = sym this ∙ that in cc)
+        (λ h that e. let no : passage.Opens ≡ passage.Calls h = sym this ∙ that in cc)
+        (λ that c applied e. (c, (exact c).1 applied, e)),
   )
 
   pub behind_closed : r ≡ passage.Closed → Behind → ⊥
-  behind_closed this b = elim b [
-    | inl t ↦ taken passage.Closed this t.0 t.1
-    | inr o ↦ elim o [
-      | inl s ↦ let no : passage.Closed ≡ passage.Stays = sym this ∙ is.stays.1 s.0 in cc
-      | inr h ↦ let no : passage.Closed ≡ passage.Calls h.0 = sym this ∙ (is.calls h.0).1 h.1 in cc
-    ]
-  ]
+  behind_closed this = by_passage ⊥
+      (λ m takes e. upto passage.Closed this m takes)
+      (λ that e. let no : passage.Closed ≡ passage.Stays = sym this ∙ that in cc)
+      (λ h that e. let no : passage.Closed ≡ passage.Calls h = sym this ∙ that in cc)
+      (λ that c applied e. let no : passage.Closed ≡ passage.Opens = sym this ∙ that in cc)
 
 module _ {S : Type 0} (Leads : S → Course → Type 0) where
   -- what some element of the list leads to
@@ -197,13 +214,13 @@ module _ {S : Type 0} (Leads : S → Course → Type 0) where
   adds_all old now all i past adds =
       subst (λ (l : List S). Adds (Among l) old now) (take_all i all past) adds
 
-module _ (alphabet : Letters) (tokens : List Token) (tables : Tables) (graphs : List NetGraph)
-    (c : Config) where
+module _ (alphabet : Letters) (tokens : List Token) (tables : Tables) (applies : Applying)
+    (graphs : List NetGraph) (c : Config) where
   abbrev Next : List Frame → List Event → Course → Type 0
-  Next back before = GoesOn alphabet tokens tables graphs c.here back c.at before
+  Next back before = GoesOn alphabet tokens tables applies graphs c.here back c.at before
 
   abbrev Over : List Edge → List Frame → List Event → Course → Type 0
-  Over edges back before = IsOverSome alphabet tokens tables c.here back c.at before edges
+  Over edges back before = IsOverSome alphabet tokens tables applies c.here back c.at before edges
 
   abbrev Left : List Frame → List Event → Course → Type 0
   Left back before w = w ≡ course back c.at before
@@ -261,26 +278,27 @@ module _ (alphabet : Letters) (tokens : List Token) (tables : Tables) (graphs : 
               ],
         ))
 
-module _ (alphabet : Letters) (tokens : List Token) (tables : Tables) (graphs : List NetGraph) where
+module _ (alphabet : Letters) (tokens : List Token) (tables : Tables) (applies : Applying)
+    (graphs : List NetGraph) where
   -- a course one step on from one for which a configuration stands, which stands for no other
   pub adds_after : (old now new : Reached) (c : Config) (v : Course) → (kept : Keeps old now) →
       IsNamed old c v → IsSound now → AddsFrom now new c (λ back before.
-      GoesOn alphabet tokens tables graphs c.here back c.at before) →
-      Adds (IsAfter alphabet tokens tables graphs old c) now new
+      GoesOn alphabet tokens tables applies graphs c.here back c.at before) →
+      Adds (IsAfter alphabet tokens tables applies graphs old c) now new
   adds_after old now new c v kept named sound adds =
       let here = adds named.back named.before sound
       (spells_kept old now kept c named.back named.before named.spells) in
-      adds_alike (GoesOn alphabet tokens tables graphs c.here named.back c.at named.before)
-      (IsAfter alphabet tokens tables graphs old c) now new here (λ w. (
+      adds_alike (GoesOn alphabet tokens tables applies graphs c.here named.back c.at named.before)
+      (IsAfter alphabet tokens tables applies graphs old c) now new here (λ w. (
         λ n. (named.back, named.before, named.spells, n),
         λ a.
             let frames : a.0 ≡ named.back = one_list (frames_of old) c.back a.0 named.back
             a.2.frames named.spells.frames in
             let events : a.1 ≡ named.before = one_telling (texts_of old) (events_of old) c.events
             a.1 named.before a.2.events named.spells.events in
-            subst (λ (b : List Event). GoesOn alphabet tokens tables graphs c.here
+            subst (λ (b : List Event). GoesOn alphabet tokens tables applies graphs c.here
             named.back c.at b w)
-            events (subst (λ (b : List Frame). GoesOn alphabet tokens tables graphs c.here b
+            events (subst (λ (b : List Frame). GoesOn alphabet tokens tables applies graphs c.here b
             c.at a.1 w)
             frames a.3),
       ))
@@ -289,8 +307,8 @@ module _ (alphabet : Letters) (tokens : List Token) (tables : Tables) (graphs : 
   pub rounds : (old mid new : Reached) (configs : List Config) → SameLists old mid →
       mid.found.keys ≡ old.found.keys → mid.pending.keys ≡ [] → configs ≡ old.pending.keys →
       (IsSound mid → ((c : Config) → Contains configs c → (w : Course) × IsNamed mid c w) →
-      Adds (IsAfterSome alphabet tokens tables graphs mid configs) mid new) →
-      IsSound old → IsRound alphabet tokens tables graphs old new
+      Adds (IsAfterSome alphabet tokens tables applies graphs mid configs) mid new) →
+      IsSound old → IsRound alphabet tokens tables applies graphs old new
   rounds old mid new configs same found none all adds sound =
       let forth = keeps_same old mid same in
       let back = keeps_same mid old (same_back old mid same) in

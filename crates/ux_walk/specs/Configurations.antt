@@ -15,6 +15,7 @@ use Rattle.ux_walk.specs.declared.noted.Noted.{Noted}
 use Rattle.ux_walk.specs.declared.reached.Reached.{Reached}
 use Rattle.ux_walk.specs.Links.{Names, AreBelow, Extends}
 use Rattle.ux_walk.specs.Noted.{IsPlacedIn, KeepPlaces, NamesEvents, listed_in}
+use Rattle.ux_walk.specs.Contexts.{Applying}
 use Rattle.ux_walk.specs.Courses.{Course, GoesOn}
 
 abbrev pub frames_of : Reached → List (Link Frame)
@@ -111,21 +112,21 @@ abbrev pub Notes : (old new : Reached) → (events : List Event) → (from to : 
 Notes old new events from to = (before : List Event) → IsSound old → NamesEventsIn old from before →
     Adds NoCourse old new × NamesEventsIn new to (events ++ before)
 
-module _ (alphabet : Letters) (tokens : List Token) (tables : Tables) (graphs : List NetGraph)
-  where
-    -- a course one step on from one for which the configuration stands
-    abbrev pub IsAfter : Reached → Config → Course → Type 0
-    IsAfter r c w = (back : List Frame) × (before : List Event) × Spells r c back before
-        × GoesOn alphabet tokens tables graphs c.here back c.at before w
+module _ (alphabet : Letters) (tokens : List Token) (tables : Tables) (applies : Applying)
+    (graphs : List NetGraph) where
+  -- a course one step on from one for which the configuration stands
+  abbrev pub IsAfter : Reached → Config → Course → Type 0
+  IsAfter r c w = (back : List Frame) × (before : List Event) × Spells r c back before
+      × GoesOn alphabet tokens tables applies graphs c.here back c.at before w
 
-    -- a course one step on from one of the configurations
-    abbrev pub IsAfterSome : Reached → List Config → Course → Type 0
-    IsAfterSome r configs w = (c : Config) × Contains configs c × IsAfter r c w
+  -- a course one step on from one of the configurations
+  abbrev pub IsAfterSome : Reached → List Config → Course → Type 0
+  IsAfterSome r configs w = (c : Config) × Contains configs c × IsAfter r c w
 
-    -- a round: what was found stays, and each pending configuration went one step on
-    pub record IsRound (old new : Reached) : Type 0 where
-      pub sound : IsSound new
-      pub has : (w : Course) → Has new w ↔ (IsEnded old w ⊎ IsAfterSome old old.pending.keys w)
+  -- a round: what was found stays, and each pending configuration went one step on
+  pub record IsRound (old new : Reached) : Type 0 where
+    pub sound : IsSound new
+    pub has : (w : Course) → Has new w ↔ (IsEnded old w ⊎ IsAfterSome old old.pending.keys w)
 
 -- some derivation was found with this end and these events
 pub record IsFoundAs (r : Reached) (end : ℕ) (events : List Event) : Type 0 where

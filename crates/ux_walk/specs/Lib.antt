@@ -1,5 +1,6 @@
 pub mod Settings
 pub mod Links
+pub mod Contexts
 pub mod Courses
 pub mod Leads
 pub mod Passages

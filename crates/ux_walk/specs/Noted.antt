@@ -26,6 +26,7 @@ StandsFor texts (note.Put place) e = IsOfText texts place (λ text. event.Put te
 StandsFor texts (note.Value place) e = IsOfText texts place (λ text. event.Value text) e
 StandsFor texts (note.Begin place) e = IsOfText texts place (λ text. event.Begin text) e
 StandsFor texts (note.End place) e = IsOfText texts place (λ text. event.End text) e
+StandsFor texts note.Cut e = e ≡ event.Cut
 
 -- the number names a list of noted events that stand for these, latest first
 pub record NamesEvents (texts : List (List ℕ)) (links : List (Link Noted)) (number : ℕ)

@@ -8,6 +8,7 @@ use Rattle.ux_net.specs.declared.label.Label.{Label}
 use Rattle.ux_net.specs.declared.label.Label.TheVariants.{Call}
 use Rattle.ux_walk.specs.declared.matching.Passage.{Passage}
 use Rattle.ux_walk.specs.declared.matching.Passage.TheVariants as passage
+use Rattle.ux_walk.specs.Contexts.{Opens}
 use Rattle.ux_walk.specs.Courses.{Passes, TakesPlainly}
 
 -- the passage takes the tokens up to this position
@@ -22,3 +23,4 @@ pub record IsPassage (alphabet : Letters) (tokens : List Token) (tables : Tables
   pub takes : (k : ℕ) → TakesUpTo r k ↔ TakesPlainly alphabet tokens tables label i k
   pub stays : (r ≡ passage.Stays) ↔ Passes tokens label i
   pub calls : (graph : ℕ) → (r ≡ passage.Calls graph) ↔ (label ≡ Call graph)
+  pub opens : (r ≡ passage.Opens) ↔ Opens label

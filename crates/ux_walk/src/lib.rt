@@ -1,7 +1,7 @@
 //! Walks through compiled grammars: what the main graph of a net derives over a text's tokens.
 //!
-//! `specs/Leads.antt` says where walks lead, step by step, and the law `leads_exactly` that these are the
-//! ends of derivations. `walk` lists derivations with their events, in rounds over configurations.
+//! `specs/Leads.antt` says where walks lead, step by step, and the law `leads_meant` that these are the
+//! ends of derivations, where contexts apply as they are meant. `walk` lists derivations with their events, in rounds over configurations.
 //! Each pending configuration goes one step on: over each edge of the state in which it is, and back
 //! to the frame that called where the state is final. A call pushes a frame, so nothing here calls
 //! itself. Over an edge the events of its output come first, then what its label gives. Frames and
@@ -11,15 +11,17 @@
 //! take nothing, so the rounds come to an end.
 //!
 //! Begin with `walking`; `reached` goes one step on, and `matching` alone tells how a label applies.
-//! Contexts are a further case of its `Passage`. Where a state has many edges, `edge_index` tells those
-//! that may apply at a token, by its number, and no others are tried there.
+//! Which contexts apply, and where the walk goes on behind them, it is told by its `Contexts`; of a
+//! net without any these are `NoContexts`. Where a state has many edges, `edge_index` tells those that
+//! may apply at a token, by its number, and no others are tried there.
 //!
 //! ```text
-//! let found = walk(alloc, &net, &text, &alphabet, &applied, start, steps)?;
+//! let found = walk(alloc, &net, &NoContexts, &text, &alphabet, &applied, start, steps)?;
 //! ```
 #![tactic(auto)]
 
 pub mod config;
+pub mod contexts;
 pub mod edge_index;
 pub mod lists;
 mod literals;
@@ -32,4 +34,5 @@ mod texts;
 mod walking;
 pub mod words;
 
+pub use contexts::{Contexts, NoContexts};
 pub use walking::{walk, walk_through};

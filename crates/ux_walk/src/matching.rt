@@ -6,6 +6,7 @@ ghost use Rattle.ux_apply.specs.Belonging.{Belongs};
 ghost use Rattle.ux_net.specs.declared.label.Label.{Label};
 ghost use Rattle.ux_outputs.specs.Rendering.{kind_of, skip as skip_of};
 ghost use Rattle.ux_meaning.specs.Texts.{Folds, FoldsTo, IsBraced, IsSpaceAt, MayStandFor, TakesOne, TakesToken};
+ghost use Rattle.ux_walk.specs.Contexts.{Opens};
 ghost use Rattle.ux_walk.specs.Courses.{Passes, TakesPlainly};
 ghost use Rattle.ux_walk.specs.Passages.{TakesUpTo};
 
@@ -29,6 +30,8 @@ pub enum Passage {
     Stays,
     /// It calls this graph.
     Calls(u32),
+    /// It opens a context.
+    Opens,
     /// It doesn't apply.
     Closed,
 }
@@ -42,8 +45,8 @@ impl Passage {
     }
 }
 
-/// How the label applies at the position. Labels that stand in no net don't apply. A mask takes one
-/// step, and memory for the positions up to which it takes tokens.
+/// How the label applies at the position. One that closes a context doesn't apply by itself. A mask
+/// takes one step, and memory for the positions up to which it takes tokens.
 pub fn passage_at<L: Ledger>(
     alloc: Global,
     text: &Text,
@@ -60,9 +63,10 @@ pub fn passage_at<L: Ledger>(
         (passage ≡ Passage.Stays) ↔ Passes text.now label.now position) }
     ensures calls { IfOk result (λ passage. (graph : ℕ) →
         (passage ≡ Passage.Calls graph) ↔ (label.now ≡ Label.Call graph)) }
+    ensures opens { IfOk result (λ passage. (passage ≡ Passage.Opens) ↔ Opens label.now) }
 {
     match label {
-        Label::Empty | Label::Begin(_) | Label::End(_) => Ok(Passage::Stays),
+        Label::Empty | Label::Begin(_) | Label::End(_) | Label::Cut => Ok(Passage::Stays),
         Label::Fold(entry) => Ok(taking(after_fold(text, alphabet, entry.as_str(), position))),
         Label::Exact(exact) => Ok(taking(after_exact(text, exact.as_str(), position))),
         Label::Brace(brace) => Ok(taking(after_brace(text, brace.as_str(), position))),
@@ -73,7 +77,8 @@ pub fn passage_at<L: Ledger>(
         Label::Space => Ok(taking(after_space(text, position))),
         Label::Glue => Ok(staying(!is_space(text, position))),
         Label::Call(graph) => Ok(Passage::Calls(*graph)),
-        Label::Positive | Label::Negative | Label::ContextEnd | Label::Cut => Ok(Passage::Closed),
+        Label::Positive | Label::Negative => Ok(Passage::Opens),
+        Label::ContextEnd => Ok(Passage::Closed),
     }
 }
 
@@ -82,6 +87,7 @@ fn taking(end: Option<usize>) -> Passage
     ensures takes { (k : ℕ) → TakesUpTo result k ↔ (end ≡ Some k) }
     ensures stays { result ≡ Passage.Stays → ⊥ }
     ensures calls { (graph : ℕ) → result ≡ Passage.Calls graph → ⊥ }
+    ensures opens { result ≡ Passage.Opens → ⊥ }
 {
     match end {
         Some(end) => Passage::Takes(end),
@@ -94,6 +100,7 @@ fn staying(is_open: bool) -> Passage
     ensures takes { (k : ℕ) → TakesUpTo result k → ⊥ }
     ensures stays { (result ≡ Passage.Stays) ↔ IsTrue is_open }
     ensures calls { (graph : ℕ) → result ≡ Passage.Calls graph → ⊥ }
+    ensures opens { result ≡ Passage.Opens → ⊥ }
 {
     if is_open {
         Passage::Stays

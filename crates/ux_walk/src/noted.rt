@@ -21,4 +21,6 @@ pub enum Noted {
     Begin(usize),
     /// A variable ends.
     End(usize),
+    /// What stands on the left is cut off.
+    Cut,
 }

@@ -1,6 +1,6 @@
 //! What a walk has reached, and how it goes one step on.
 
-ghost use Rattle.std.specs.Prelude.{◌≡◌, ◌<◌, ◌↔◌, ℕ, List, [], ◌∷◌, ◌++◌, Contains, IfOk, IsTrue, OnOk, length, option_copied, reverse, slice_get, Some};
+ghost use Rattle.std.specs.Prelude.{◌≡◌, ◌<◌, ◌≤◌, ◌↔◌, ℕ, List, [], ◌∷◌, ◌++◌, Contains, IfOk, IsTrue, OnOk, length, option_copied, reverse, slice_get, Some};
 ghost use Rattle.ux_alphabet.specs.Letters.{Letters};
 ghost use Rattle.ux_apply.specs.Belonging.{Belongs};
 ghost use Rattle.ux_apply.specs.Tables.{Tables};
@@ -13,11 +13,14 @@ ghost use Rattle.ux_walk.specs.Links.{AreOnce};
 ghost use Rattle.ux_walk.specs.LookUps.{AreSound};
 ghost use Rattle.ux_walk.specs.declared.config.Config.{Config};
 ghost use Rattle.ux_walk.specs.Configurations.{Adds, AddsFrom, IsAfterSome, IsFoundAs, IsNamed, IsNothing, IsPast, IsRound, IsSound, Notes, Places, NamesEventsIn, texts_of};
-ghost use Rattle.ux_walk.specs.Courses.{Course, GoesOn, IsBehind, IsOver, IsOverAt, IsOverSome, IsOverSomeAt, passing, put_event, put_events};
+ghost use Rattle.ux_walk.specs.Contexts.{ContextsTold, MayAsk, Opens};
+ghost use Rattle.ux_walk.specs.Courses.{Course, GoesOn, IsBehind, IsClosed, IsOver, IsOverAt, IsOverSome, IsOverSomeAt, at_state, passing, put_event, put_events};
 ghost use Rattle.ux_walk.specs.Noted.{StandsFor};
 ghost use Rattle.ux_walk.specs.Passages.{IsPassage};
+ghost use Rattle.ux_walk.specs.Settings.{setting_of};
 
 use crate::config::{Config, Found, Frame};
+use crate::contexts::Contexts;
 use crate::lists::Lists;
 use crate::look_ups::LookUps;
 use crate::matching::{Passage, passage_at, skip};
@@ -77,10 +80,11 @@ impl<'t> Reached<'t> {
     }
 
     /// Goes one step on from each pending configuration.
-    pub fn round<L: Ledger>(
+    pub fn round<C: Contexts, L: Ledger>(
         &mut self,
         alloc: Global,
         net: &'t Net,
+        contexts: &C,
         text: &'t Text,
         alphabet: &Alphabet,
         applied: &Applied,
@@ -89,14 +93,20 @@ impl<'t> Reached<'t> {
     ) -> Mem<()>
         requires belongs { Belongs alphabet.now text.now applied.now }
         requires sound { AreSound alphabet.now net.now (different_texts text.now) look_ups.now }
+        requires told { ContextsTold (setting_of net.now text.now alphabet.now applied.now)
+            (C.asks contexts.now) (C.applies contexts.now) }
+        requires inside { (c : Config) → Contains self.old.pending.keys c →
+            c.at ≤ length text.now }
         ensures sound { AreSound alphabet.now net.now (different_texts text.now) look_ups.new }
         ensures round { OnOk result (IsSound self.old →
-            IsRound alphabet.now text.now applied.now net.now self.old self.new) }
+            IsRound alphabet.now text.now applied.now (C.applies contexts.now)
+            net.now self.old self.new) }
     {
         let configs = mem::replace(&mut self.pending, IndexSet::new(alloc));
         self.step_each(
             alloc,
             net,
+            contexts,
             text,
             alphabet,
             applied,
@@ -151,14 +161,16 @@ impl<'t> Reached<'t> {
             Noted::Value(place) => Ok(Event::Value(self.texts.text(alloc, place)?)),
             Noted::Begin(place) => Ok(Event::Begin(self.texts.text(alloc, place)?)),
             Noted::End(place) => Ok(Event::End(self.texts.text(alloc, place)?)),
+            Noted::Cut => Ok(Event::Cut),
         }
     }
 
     /// Goes one step on from each of the configurations.
-    fn step_each<L: Ledger>(
+    fn step_each<C: Contexts, L: Ledger>(
         &mut self,
         alloc: Global,
         net: &'t Net,
+        contexts: &C,
         text: &'t Text,
         alphabet: &Alphabet,
         applied: &Applied,
@@ -168,15 +180,19 @@ impl<'t> Reached<'t> {
     ) -> Mem<()>
         requires belongs { Belongs alphabet.now text.now applied.now }
         requires sound { AreSound alphabet.now net.now (different_texts text.now) look_ups.now }
+        requires told { ContextsTold (setting_of net.now text.now alphabet.now applied.now)
+            (C.asks contexts.now) (C.applies contexts.now) }
+        requires inside { (c : Config) → Contains configs.now c → c.at ≤ length text.now }
         ensures sound { AreSound alphabet.now net.now (different_texts text.now) look_ups.new }
         ensures adds { OnOk result (IsSound self.old →
             ((c : Config) → Contains configs.now c → (w : Course) × IsNamed self.old c w) →
-            Adds (IsAfterSome alphabet.now text.now applied.now net.now self.old configs.now)
+            Adds (IsAfterSome alphabet.now text.now applied.now (C.applies contexts.now)
+            net.now self.old configs.now)
             self.old self.new) }
     {
         for config in configs {
             self.step(
-                alloc, net, text, alphabet, applied, look_ups, *config, steps,
+                alloc, net, contexts, text, alphabet, applied, look_ups, *config, steps,
             )?;
         }
         Ok(())
@@ -184,10 +200,11 @@ impl<'t> Reached<'t> {
 
     /// Goes one step on from a configuration: over each edge of its state, and back where that is
     /// final.
-    pub fn step<L: Ledger>(
+    pub fn step<C: Contexts, L: Ledger>(
         &mut self,
         alloc: Global,
         net: &'t Net,
+        contexts: &C,
         text: &'t Text,
         alphabet: &Alphabet,
         applied: &Applied,
@@ -197,15 +214,19 @@ impl<'t> Reached<'t> {
     ) -> Mem<()>
         requires belongs { Belongs alphabet.now text.now applied.now }
         requires sound { AreSound alphabet.now net.now (different_texts text.now) look_ups.now }
+        requires told { ContextsTold (setting_of net.now text.now alphabet.now applied.now)
+            (C.asks contexts.now) (C.applies contexts.now) }
+        requires inside { config.at ≤ length text.now }
         ensures sound { AreSound alphabet.now net.now (different_texts text.now) look_ups.new }
         ensures adds { OnOk result (AddsFrom self.old self.new config (λ back before.
-            GoesOn alphabet.now text.now applied.now net.now config.here back config.at before)) }
+            GoesOn alphabet.now text.now applied.now (C.applies contexts.now) net.now
+            config.here back config.at before)) }
     {
         let Some(state) = net.state(config.here.graph, config.here.state) else {
             return Ok(());
         };
         self.follow_state(
-            alloc, text, alphabet, applied, look_ups, config, state, steps,
+            alloc, contexts, text, alphabet, applied, look_ups, config, state, steps,
         )?;
         if state.is_final {
             self.leave(config)?;
@@ -214,9 +235,10 @@ impl<'t> Reached<'t> {
     }
 
     /// Goes over each edge of the state that applies: of many those that may apply at the token.
-    fn follow_state<L: Ledger>(
+    fn follow_state<C: Contexts, L: Ledger>(
         &mut self,
         alloc: Global,
+        contexts: &C,
         text: &'t Text,
         alphabet: &Alphabet,
         applied: &Applied,
@@ -226,6 +248,7 @@ impl<'t> Reached<'t> {
         steps: &mut Steps<L>,
     ) -> Mem<()>
         requires belongs { Belongs alphabet.now text.now applied.now }
+        requires asked { MayAsk (C.asks contexts.now) config.here.graph state.now.edges config.at }
         ensures sound { (net : List NetGraph) →
             slice_get (states_of net config.here.graph) config.here.state ≡ Some state.now →
             AreSound alphabet.now net (different_texts text.now) look_ups.old →
@@ -234,21 +257,26 @@ impl<'t> Reached<'t> {
             slice_get (states_of net config.here.graph) config.here.state ≡ Some state.now →
             AreSound alphabet.now net (different_texts text.now) look_ups.old →
             AddsFrom self.old self.new config (λ back before.
-            IsOverSome alphabet.now text.now applied.now config.here back config.at before
-            state.now.edges)) }
+            IsOverSome alphabet.now text.now applied.now (C.applies contexts.now)
+            config.here back config.at before state.now.edges)) }
     {
         let edges = state.edges.as_slice();
         let position = skip(text, config.at);
         if !has_index(edges.len()) || text.len() <= position {
-            return self.follow_edges(alloc, text, alphabet, applied, config, edges, steps);
+            return self.follow_edges(
+                alloc, contexts, text, alphabet, applied, config, edges, steps,
+            );
         }
         look_ups.meet(alloc, text, alphabet, config.here, edges)?;
         let Some(index) = look_ups.index(config.here) else {
-            return self.follow_edges(alloc, text, alphabet, applied, config, edges, steps);
+            return self.follow_edges(
+                alloc, contexts, text, alphabet, applied, config, edges, steps,
+            );
         };
         let places = index.places(alloc, text.number(position))?;
         self.follow_places(
             alloc,
+            contexts,
             text,
             alphabet,
             applied,
@@ -260,9 +288,10 @@ impl<'t> Reached<'t> {
     }
 
     /// Goes over the edges at the places that apply.
-    fn follow_places<L: Ledger>(
+    fn follow_places<C: Contexts, L: Ledger>(
         &mut self,
         alloc: Global,
+        contexts: &C,
         text: &Text,
         alphabet: &Alphabet,
         applied: &Applied,
@@ -272,21 +301,24 @@ impl<'t> Reached<'t> {
         steps: &mut Steps<L>,
     ) -> Mem<()>
         requires belongs { Belongs alphabet.now text.now applied.now }
+        requires asked { MayAsk (C.asks contexts.now) config.here.graph edges.now config.at }
         ensures { OnOk result (AddsFrom self.old self.new config (λ back before.
-            IsOverSomeAt alphabet.now text.now applied.now config.here back config.at
-            before edges.now
-            places.now)) }
+            IsOverSomeAt alphabet.now text.now applied.now (C.applies contexts.now)
+            config.here back config.at before edges.now places.now)) }
     {
         for place in places {
-            self.follow_place(alloc, text, alphabet, applied, config, edges, *place, steps)?;
+            self.follow_place(
+                alloc, contexts, text, alphabet, applied, config, edges, *place, steps,
+            )?;
         }
         Ok(())
     }
 
     /// Goes over the edge at a place, if it applies.
-    fn follow_place<L: Ledger>(
+    fn follow_place<C: Contexts, L: Ledger>(
         &mut self,
         alloc: Global,
+        contexts: &C,
         text: &Text,
         alphabet: &Alphabet,
         applied: &Applied,
@@ -296,20 +328,26 @@ impl<'t> Reached<'t> {
         steps: &mut Steps<L>,
     ) -> Mem<()>
         requires belongs { Belongs alphabet.now text.now applied.now }
+        requires asked { MayAsk (C.asks contexts.now) config.here.graph edges.now config.at }
         ensures { OnOk result (AddsFrom self.old self.new config (λ back before.
-            IsOverAt alphabet.now text.now applied.now config.here back config.at before
-            edges.now place)) }
+            IsOverAt alphabet.now text.now applied.now (C.applies contexts.now)
+            config.here back config.at before edges.now place)) }
     {
         match edge_at(edges, place) {
-            Some(edge) => self.follow(alloc, text, alphabet, applied, config, edge, steps),
+            Some(edge) => {
+                self.follow(
+                    alloc, contexts, text, alphabet, applied, config, edge, steps,
+                )
+            },
             None => Ok(()),
         }
     }
 
     /// Goes over each of the edges that applies.
-    fn follow_edges<L: Ledger>(
+    fn follow_edges<C: Contexts, L: Ledger>(
         &mut self,
         alloc: Global,
+        contexts: &C,
         text: &Text,
         alphabet: &Alphabet,
         applied: &Applied,
@@ -318,20 +356,24 @@ impl<'t> Reached<'t> {
         steps: &mut Steps<L>,
     ) -> Mem<()>
         requires belongs { Belongs alphabet.now text.now applied.now }
+        requires asked { MayAsk (C.asks contexts.now) config.here.graph edges.now config.at }
         ensures { OnOk result (AddsFrom self.old self.new config (λ back before.
-            IsOverSome alphabet.now text.now applied.now config.here back config.at before
-            edges.now)) }
+            IsOverSome alphabet.now text.now applied.now (C.applies contexts.now)
+            config.here back config.at before edges.now)) }
     {
         for edge in edges {
-            self.follow(alloc, text, alphabet, applied, config, edge, steps)?;
+            self.follow(
+                alloc, contexts, text, alphabet, applied, config, edge, steps,
+            )?;
         }
         Ok(())
     }
 
     /// Goes over the edge, if it applies.
-    fn follow<L: Ledger>(
+    fn follow<C: Contexts, L: Ledger>(
         &mut self,
         alloc: Global,
+        contexts: &C,
         text: &Text,
         alphabet: &Alphabet,
         applied: &Applied,
@@ -340,8 +382,11 @@ impl<'t> Reached<'t> {
         steps: &mut Steps<L>,
     ) -> Mem<()>
         requires belongs { Belongs alphabet.now text.now applied.now }
+        requires asked { Opens edge.now.label →
+            C.asks contexts.now config.here.graph edge.now config.at }
         ensures { OnOk result (AddsFrom self.old self.new config (λ back before.
-            IsOver alphabet.now text.now applied.now config.here back config.at before edge.now)) }
+            IsOver alphabet.now text.now applied.now (C.applies contexts.now)
+            config.here back config.at before edge.now)) }
     {
         let passage = passage_at(
             alloc,
@@ -355,28 +400,64 @@ impl<'t> Reached<'t> {
         if passage.is_closed() {
             return Ok(());
         }
+        let events = self.put_out(config.events, edge.output.as_slice())?;
+        self.go_on(contexts, Config { events, ..config }, edge, passage)
+    }
+
+    /// Goes on after an edge whose label applies in this way.
+    fn go_on<C: Contexts>(
+        &mut self,
+        contexts: &C,
+        config: Config,
+        edge: &'t Edge,
+        passage: Passage,
+    ) -> Mem<()>
+        requires asked { passage ≡ Passage.Opens →
+            C.asks contexts.now config.here.graph edge.now config.at }
+        ensures { OnOk result ((alphabet : Letters) (tokens : List Token) (tables : Tables) →
+            IsPassage alphabet tokens tables edge.now.label config.at passage →
+            AddsFrom self.old self.new config (λ back before.
+            IsBehind alphabet tokens tables (C.applies contexts.now) edge.now.label
+            (at_state config.here edge.now.target) back config.at before)) }
+    {
         let here = Frame {
             graph: config.here.graph,
             state: edge.target,
         };
-        let events = self.put_out(config.events, edge.output.as_slice())?;
-        self.go_on(Config { events, ..config }, here, &edge.label, passage)
-    }
-
-    /// Goes on in a frame after a label that applies in this way.
-    fn go_on(&mut self, config: Config, here: Frame, label: &'t Label, passage: Passage) -> Mem<()>
-        ensures { OnOk result ((alphabet : Letters) (tokens : List Token) (tables : Tables) →
-            IsPassage alphabet tokens tables label.now config.at passage →
-            AddsFrom self.old self.new config (λ back before.
-            IsBehind alphabet tokens tables label.now here back config.at before)) }
-    {
         match passage {
             Passage::Takes(end) => self.take(config, here, end),
             Passage::Spans(ends) => self.take_each(config, here, ends.as_slice()),
-            Passage::Stays => self.pass(config, here, label),
+            Passage::Stays => self.pass(config, here, &edge.label),
             Passage::Calls(graph) => self.call(config, here, graph),
+            Passage::Opens => {
+                let closers = contexts.closers(here.graph, edge, config.at);
+                self.close_each(config, closers)
+            },
             Passage::Closed => Ok(()),
         }
+    }
+
+    /// Goes on behind a context, at each of the states into which it is closed.
+    fn close_each(&mut self, config: Config, closers: &[u32]) -> Mem<()>
+        ensures { OnOk result (AddsFrom self.old self.new config (λ back before w.
+            (c : ℕ) × Contains closers.now c × IsClosed config.here back config.at before c w)) }
+    {
+        for closer in closers {
+            self.close(config, *closer)?;
+        }
+        Ok(())
+    }
+
+    /// Goes on behind a context that is closed into a state.
+    fn close(&mut self, config: Config, closer: u32) -> Mem<()>
+        ensures { OnOk result (AddsFrom self.old self.new config (λ back before.
+            IsClosed config.here back config.at before closer)) }
+    {
+        let here = Frame {
+            graph: config.here.graph,
+            state: closer,
+        };
+        self.pend(Config { here, ..config })
     }
 
     /// Goes on in a frame after the tokens up to each of the ends.
@@ -531,6 +612,7 @@ impl<'t> Reached<'t> {
                 let place = self.place(name.as_str())?;
                 self.note(events, Noted::End(place))
             },
+            Label::Cut => self.note(events, Noted::Cut),
             Label::Empty
             | Label::Fold(_)
             | Label::Exact(_)
@@ -541,7 +623,6 @@ impl<'t> Reached<'t> {
             | Label::Positive
             | Label::Negative
             | Label::ContextEnd
-            | Label::Cut
             | Label::Call(_) => Ok(events),
         }
     }

@@ -5,6 +5,7 @@ ghost use Rattle.ux_net.specs.Measured.{IsMeasured};
 ghost use Rattle.ux_outputs.specs.declared.event.Event.{Event};
 ghost use Rattle.ux_outputs.specs.Following.{Follows};
 ghost use Rattle.ux_apply.specs.Belonging.{Belongs};
+ghost use Rattle.ux_walk.specs.Contexts.{ContextsTold};
 ghost use Rattle.ux_walk.specs.Settings.{Derives, setting_of};
 ghost use Rattle.ux_walk.specs.Configurations.{IsFoundAs, IsNothing, IsSound};
 ghost use Rattle.ux_tokens.specs.Numbers.{different_texts};
@@ -12,6 +13,7 @@ ghost use Rattle.ux_walk.specs.Links.{AreOnce};
 ghost use Rattle.ux_walk.specs.LookUps.{AreSound};
 
 use crate::config::{Config, Frame};
+use crate::contexts::Contexts;
 use crate::look_ups::LookUps;
 use crate::reached::Reached;
 use std::alloc::Global;
@@ -27,9 +29,10 @@ use ux_tokens::Text;
 ///
 /// Until a first edge applies, a mask is tried or a state of many edges is met, it takes no memory.
 /// Each try of a mask takes a step.
-pub fn walk<L: Ledger>(
+pub fn walk<C: Contexts, L: Ledger>(
     alloc: Global,
     net: &Net,
+    contexts: &C,
     text: &Text,
     alphabet: &Alphabet,
     applied: &Applied,
@@ -38,6 +41,8 @@ pub fn walk<L: Ledger>(
 ) -> Mem<Vec<(usize, Lst<Event>)>>
     requires measured { IsMeasured net.now }
     requires belongs { Belongs alphabet.now text.now applied.now }
+    requires told { ContextsTold (setting_of net.now text.now alphabet.now applied.now)
+        (C.asks contexts.now) (C.applies contexts.now) }
     requires inside { start ≤ length text.now }
     ensures exactly { IfOk result (λ found. (end : ℕ) (events : List Event) →
         Contains found.items (end, events)
@@ -50,6 +55,7 @@ pub fn walk<L: Ledger>(
     walk_through(
         alloc,
         net,
+        contexts,
         text,
         alphabet,
         applied,
@@ -62,9 +68,10 @@ pub fn walk<L: Ledger>(
 /// Each end and event list that the main graph derives from `start`, once, by rounds. The look-ups
 /// are kept from start to start, and with them the texts of which events speak. Each try of a mask
 /// takes a step.
-pub fn walk_through<'t, L: Ledger>(
+pub fn walk_through<'t, C: Contexts, L: Ledger>(
     alloc: Global,
     net: &'t Net,
+    contexts: &C,
     text: &'t Text,
     alphabet: &Alphabet,
     applied: &Applied,
@@ -75,6 +82,8 @@ pub fn walk_through<'t, L: Ledger>(
     requires measured { IsMeasured net.now }
     requires belongs { Belongs alphabet.now text.now applied.now }
     requires sound { AreSound alphabet.now net.now (different_texts text.now) look_ups.now }
+    requires told { ContextsTold (setting_of net.now text.now alphabet.now applied.now)
+        (C.asks contexts.now) (C.applies contexts.now) }
     requires inside { start ≤ length text.now }
     ensures sound { AreSound alphabet.now net.now (different_texts text.now) look_ups.new }
     ensures exactly { IfOk result (λ found. (end : ℕ) (events : List Event) →
@@ -89,6 +98,7 @@ pub fn walk_through<'t, L: Ledger>(
     reach(
         alloc,
         net,
+        contexts,
         text,
         alphabet,
         applied,
@@ -103,9 +113,10 @@ pub fn walk_through<'t, L: Ledger>(
 }
 
 /// Goes on from `start` by rounds, until no configuration is pending.
-fn reach<'t, L: Ledger>(
+fn reach<'t, C: Contexts, L: Ledger>(
     alloc: Global,
     net: &'t Net,
+    contexts: &C,
     text: &'t Text,
     alphabet: &Alphabet,
     applied: &Applied,
@@ -117,6 +128,8 @@ fn reach<'t, L: Ledger>(
     requires measured { IsMeasured net.now }
     requires belongs { Belongs alphabet.now text.now applied.now }
     requires sound { AreSound alphabet.now net.now (different_texts text.now) look_ups.now }
+    requires told { ContextsTold (setting_of net.now text.now alphabet.now applied.now)
+        (C.asks contexts.now) (C.applies contexts.now) }
     requires inside { start ≤ length text.now }
     requires nothing { IsNothing reached.now }
     ensures sound { AreSound alphabet.now net.now (different_texts text.now) look_ups.new }
@@ -125,7 +138,6 @@ fn reach<'t, L: Ledger>(
         IsFoundAs reached.new end events
         ↔ Derives (setting_of net.now text.now alphabet.now applied.now) start end events) }
 {
-    net.is_plain();
     let main = Frame { graph: 1, state: 0 };
     let first = Config {
         here: main,
@@ -133,9 +145,13 @@ fn reach<'t, L: Ledger>(
         at: start,
         events: 0,
     };
-    reached.step(alloc, net, text, alphabet, applied, look_ups, first, steps)?;
+    reached.step(
+        alloc, net, contexts, text, alphabet, applied, look_ups, first, steps,
+    )?;
     while reached.is_pending() {
-        reached.round(alloc, net, text, alphabet, applied, look_ups, steps)?;
+        reached.round(
+            alloc, net, contexts, text, alphabet, applied, look_ups, steps,
+        )?;
     }
     Ok(())
 }

@@ -5,6 +5,7 @@
 
 ghost use Rattle.std.specs.Prelude.{◌≡◌, ◌<◌, ◌≤◌, [], ℕ, IfOk, OnOk, false, length};
 ghost use Rattle.ux_apply.specs.Belonging.{Belongs};
+ghost use Rattle.ux_net.specs.Nets.{ArePlain};
 ghost use Rattle.ux_meaning.specs.Texts.{IsSpaceAt};
 ghost use Rattle.ux_walk.specs.Ends.{AreEnds};
 ghost use Rattle.ux_walk.specs.Settings.{setting_of};
@@ -46,7 +47,7 @@ impl<'a> Model for Walker<'a> {
 }
 
 impl<'a> Walker<'a> {
-    /// A walker over the text with the entries that apply to it.
+    /// A walker over the text with the entries that apply to it, of a net without contexts.
     pub fn of(
         alloc: Global,
         net: &'a Net,
@@ -54,7 +55,8 @@ impl<'a> Walker<'a> {
         alphabet: &'a Alphabet,
         applied: &'a Applied,
     ) -> Mem<Walker<'a>>
-        requires { Belongs alphabet.now text.now applied.now }
+        requires belongs { Belongs alphabet.now text.now applied.now }
+        requires plain { ArePlain net.now }
         ensures { IfOk result (λ walker.
             walker ≡ setting_of net.now text.now alphabet.now applied.now) }
     {
@@ -81,7 +83,6 @@ impl<'a> Walker<'a> {
             return true;
         }
         self.net.is_measured();
-        self.net.is_plain();
         self.automaton.may_begin(start)
     }
 
@@ -105,7 +106,6 @@ impl<'a> Walker<'a> {
         }
         self.is_spent = true;
         self.net.is_measured();
-        self.net.is_plain();
         walk(
             alloc,
             self.text,

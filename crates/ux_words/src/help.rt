@@ -35,12 +35,18 @@ usage: unitex COMMAND ARGUMENTS
                                entries it has
     --delas                    the dictionary is one of lemmas with their
                                classes
+  compress DIC                 reads a dictionary of forms, writes its image
   dico TEXT ALPHABET [DIC..]   reads a text, its letters and dictionaries,
                                writes their report
     --chars                    each letter is a token of its own
+  bench N                      searches a text of N words that is made up, at
+                               most 200000, writes how many words, tokens and
+                               hits there are, and the longest hit's tokens
 
 A mask in a graph takes tokens of a kind, as <WORD>, <NB> or <TOKEN>, or by the
 entries that the dictionaries have for them, as <N:p>, <be.V> or <!DIC>.
+
+A dictionary of forms whose name ends in .udi is read as an image.
 
 Options and names of files stand in any order, an option as --name value or
 --name=value. After -- all words are names of files. --help and --version stand

@@ -211,7 +211,12 @@ fn ends_before_a_file_is_read(rt: HostRuntime) -> Result<(), Fail> {
             b"a,N",
             ("", "absent: e.udi\n", 2),
         ),
-        ("an image", &["check", "d.udi"], b"a,.N", USAGE),
+        (
+            "a text in place of an image",
+            &["check", "d.udi"],
+            b"a,.N",
+            ("", "refused: d.udi: BadMagic\n", 3),
+        ),
         ("no name", &["check"], b"a,.N", USAGE),
         ("two names", &["check", "d.dic", "s.dic"], b"a,.N", USAGE),
         (

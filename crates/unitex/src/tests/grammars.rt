@@ -394,7 +394,7 @@ fn refuses_grammars(rt: HostRuntime) -> Result<(), Fail> {
                 ),
             ],
             "a",
-            ("", "refused: X.grf: NotYet graph=X node=4\n", 3),
+            ("#I\n", "", 0),
         ),
         (
             "a mask that is not closed",

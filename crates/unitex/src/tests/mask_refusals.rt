@@ -104,14 +104,14 @@ fn refuses_the_first_mask_of_a_grammar(rt: HostRuntime) -> Result<(), Fail> {
             ("", "absent: Y.grf\n", 2),
         ),
         (
-            "a mask on a line beside a context isn't built",
+            "a mask on a line beside a context that isn't closed",
             &[(
                 "g.grf",
                 "#Unigraph\n#\n3\n\"<E>\" 0 0 1 2 \n\"\" 0 0 0 \n\"<N>+$[\" 0 0 1 1 \n",
             )],
             "a",
             &[],
-            ("", "refused: g.grf: NotYet graph=g node=2\n", 3),
+            ("", "refused: g.grf: ContextClose graph=g node=2\n", 3),
         ),
     ];
     check_grammars(&rt, ROWS)
@@ -263,10 +263,15 @@ fn reads_all_files_of_a_search(rt: HostRuntime) -> Result<(), Fail> {
             ("", "refused: t.txt: OddLength\n", 3),
         ),
         (
-            "an image",
+            "an image that isn't there",
             &["locate", "g.grf", "t.txt", "a.txt", "c.dic", "d.udi"],
-            &[("a.txt", b"Aa"), ("g.grf", NOUN), ("t.txt", b"a")],
-            ("", "usage: unitex COMMAND ARGUMENTS\n", 1),
+            &[
+                ("a.txt", b"Aa"),
+                ("g.grf", NOUN),
+                ("t.txt", b"a"),
+                ("c.dic", b"a,.N"),
+            ],
+            ("", "absent: d.udi\n", 2),
         ),
     ];
     for row in ROWS {

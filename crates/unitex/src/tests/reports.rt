@@ -274,11 +274,11 @@ fn reads_dictionaries_behind_the_text(rt: HostRuntime) -> Result<(), Fail> {
             ("refused: t.txt: BadLine line=1\n", 3),
         ),
         (
-            "an image",
+            "a bad image behind a good dictionary",
             &["dico", "t.txt", "a.txt", "c.dic", "d.udi"],
             b"run",
-            b"",
-            ("usage: unitex COMMAND ARGUMENTS\n", 1),
+            b"UXUDI\x02\r",
+            ("refused: d.udi: Short\n", 3),
         ),
         (
             "no alphabet",

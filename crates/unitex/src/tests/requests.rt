@@ -97,7 +97,6 @@ fn answers_usage(rt: HostRuntime) -> Result<(), Fail> {
             ],
             "",
         ),
-        (&["locate", "g.grf", "t.txt", "a.txt", "d.udi"], ""),
         (&["locate", "g.fst2", "t.txt", "a.txt"], ""),
         (&["locate", "--mode=both", "g.grf", "t.txt", "a.txt"], ""),
         (&["locate", "--novar=drop", "g.grf", "t.txt", "a.txt"], ""),
@@ -106,7 +105,7 @@ fn answers_usage(rt: HostRuntime) -> Result<(), Fail> {
         (&["tokenize", "--x", "t.txt", "a.txt"], ""),
         (&["tokenize", "t.txt", "a.txt", "a.txt"], ""),
         (&["dico", "--x", "t.txt", "a.txt"], ""),
-        (&["compress", "d.dic"], ""),
+        (&["inflect", "s.dic"], ""),
         (&["--help", "locate"], ""),
     ];
     compare_words(&rt, ROWS, ("usage: unitex COMMAND ARGUMENTS\n", 1))

@@ -80,6 +80,12 @@ const TOKENS: &[&str] = &["tokenize", "t.txt", "a.txt"];
 
 const CHECK: &[&str] = &["check", "d.dic"];
 
+const CHECK_IMAGE: &[&str] = &["check", "d.udi"];
+
+const COMPRESS: &[&str] = &["compress", "d.dic"];
+
+const COMPRESS_IMAGE: &[&str] = &["compress", "d.udi"];
+
 const CHECK_STEMS: &[&str] = &["check", "--delas", "s.dic"];
 
 const REPORT: &[&str] = &["dico", "t.txt", "a.txt", "d.dic", "e.dic"];
@@ -96,6 +102,9 @@ const ROWS: &[Row] = &[
     (TOKENS, "t.txt", b"a\xff", "BadUtf8 place=1"),
     (CHECK, "d.dic", b"abc", "NoComma line=1 place=3"),
     (CHECK_STEMS, "s.dic", b"abc", "NoComma line=1 place=3"),
+    (CHECK_IMAGE, "d.udi", b"UXUDI\x01\r\n", "Short"),
+    (COMPRESS, "d.dic", b"cat,.N\nabc", "NoComma line=2 place=3"),
+    (COMPRESS_IMAGE, "d.udi", b"UXUDI\x03", "BadMagic"),
     (REPORT, "a.txt", b"abc", "BadLine line=1"),
     (REPORT, "t.txt", b"\xff", "BadUtf8 place=0"),
     (REPORT, "d.dic", b"cat,.N\nabc", "NoComma line=2 place=3"),

@@ -16,6 +16,13 @@ follow-requires-clause-inside g c = (
       (c.loop-edge.edge-index, c.loop-edge-test.true, sym c.edge-item.is),
 )
 
+pub follow-requires-clause-known : goal.follow-requires-clause-known
+follow-requires-clause-known g c =
+    c.requires.known c.args.graph c.args.from.state c.in-Some.state.now c.edge-item.result
+    (sym c.in-Some.ensures)
+    (subst (λ (xs : List Edge). Contains xs c.edge-item.result) c.as_slice-edge-items.ensures
+    (c.loop-edge.edge-index, c.loop-edge-test.true, sym c.edge-item.is))
+
 pub loop-edge-preserved : goal.loop-edge-preserved
 loop-edge-preserved g c =
     let edge = c.edge-item.result in

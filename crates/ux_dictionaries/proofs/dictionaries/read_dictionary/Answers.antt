@@ -1,24 +1,45 @@
-use Rattle.std.proofs.Common.{List, ℕ, subst, string_bytes}
-use Rattle.ux_apply.specs.Names.{IsPriorityOf}
-use Rattle.ux_dela.specs.Files.{Refuses}
-use Rattle.ux_dict.specs.FileContent.{IsFileContent}
-use Rattle.ux_plan.specs.Plans.{said_as}
-use Rattle.ux_plan.proofs.Decoded.{decoded_reads}
-use Rattle.ux_dictionaries.specs.Dictionaries.{IsDictionary}
+use Rattle.std.proofs.Common.{◌≡◌, true, false, List, sym, ◌∙◌}
+use Rattle.ux_dela.specs.declared.entry.Entry.{Entry}
+use Rattle.ux_apply.specs.declared.priority.Priority.{Priority}
+use Rattle.ux_dictionaries.specs.Dictionaries.{imaged_format, text_format}
+use Rattle.ux_image_files.specs.ImageFiles.{is_image}
+use Rattle.ux_image_files.proofs.ByteSteps.{image_err, image_ok, other_err, other_ok}
 use Rattle.ux_dictionaries.proofs.dictionaries.read_dictionary.Goals as goal
 
--- the file has a text, which is a dictionary
-pub returns-in-Ok-clause-ok : goal.returns-in-Ok-clause-ok
-returns-in-Ok-clause-ok g c =
-    let name = c.args.name.now in
-    let content = c.in-Ok.lexicon in
-    let dic : IsDictionary name (string_bytes c.in_ok-text.text) (c.of.result, content) =
-    record {
-      priority = subst (λ (n : List ℕ). IsPriorityOf n c.of.result) c.base_of.ensures c.of.ensures;
-      content = subst (λ (t : List ℕ). IsFileContent t content) c.as_str.ensures.value
-          c.in-Ok.ensures.ok;
-    } in
-    decoded_reads g.R.OfDecode.decode_as
-    (said_as g.R.OfDela.dela_as (IsDictionary name) Refuses) name
-    (g.F.Folder.seen c.args.folder.now).files (string_bytes c.in_ok-text.text)
-    (c.of.result, content) c.in_ok-text.ensures.ok dic
+pub returns-then-is_image-clause-ok : goal.returns-then-is_image-clause-ok
+returns-then-is_image-clause-ok g c =
+    let is : is_image c.args.name.now ≡ true = sym c.is_image.ensures ∙ c.if-is_image.true in
+    image_ok (imaged_format g.R.OfImage.image_as c.args.name.now)
+    (text_format g.R.OfDecode.decode_as g.R.OfDela.dela_as c.args.name.now)
+    (λ (dic : Priority × List Entry). dic)
+    c.args.name.now c.read_imaged.result (is_image c.args.name.now) is
+    (g.F.Folder.seen c.args.folder.now).files c.read_imaged.ensures.ok
+
+pub returns-then-is_image-clause-err : goal.returns-then-is_image-clause-err
+returns-then-is_image-clause-err g c =
+    let seen = g.F.Folder.seen in
+    let is : is_image c.args.name.now ≡ true = sym c.is_image.ensures ∙ c.if-is_image.true in
+    image_err (imaged_format g.R.OfImage.image_as c.args.name.now)
+    (text_format g.R.OfDecode.decode_as g.R.OfDela.dela_as c.args.name.now)
+    (λ (dic : Priority × List Entry). dic)
+    c.args.name.now c.read_imaged.result (is_image c.args.name.now) is
+    (seen c.args.folder.now) (seen c.read_imaged.new.folder) c.read_imaged.ensures.err
+
+pub returns-else-is_image-clause-ok : goal.returns-else-is_image-clause-ok
+returns-else-is_image-clause-ok g c =
+    let is : is_image c.args.name.now ≡ false = sym c.is_image.ensures ∙ c.if-is_image.false in
+    other_ok (imaged_format g.R.OfImage.image_as c.args.name.now)
+    (text_format g.R.OfDecode.decode_as g.R.OfDela.dela_as c.args.name.now)
+    (λ (dic : Priority × List Entry). dic)
+    c.args.name.now c.read_text.result (is_image c.args.name.now) is
+    (g.F.Folder.seen c.args.folder.now).files c.read_text.ensures.ok
+
+pub returns-else-is_image-clause-err : goal.returns-else-is_image-clause-err
+returns-else-is_image-clause-err g c =
+    let seen = g.F.Folder.seen in
+    let is : is_image c.args.name.now ≡ false = sym c.is_image.ensures ∙ c.if-is_image.false in
+    other_err (imaged_format g.R.OfImage.image_as c.args.name.now)
+    (text_format g.R.OfDecode.decode_as g.R.OfDela.dela_as c.args.name.now)
+    (λ (dic : Priority × List Entry). dic)
+    c.args.name.now c.read_text.result (is_image c.args.name.now) is
+    (seen c.args.folder.now) (seen c.read_text.new.folder) c.read_text.ensures.err

@@ -1,11 +1,11 @@
+use Rattle.std.proofs.lemmas.Result.{IfOk-weaker}
 use Rattle.ux_net.specs.Nets.{net_grammar}
 use Rattle.ux_locate.specs.declared.search.Search.{Search}
 use Rattle.ux_locate.specs.Finding.{IsFound, IsHitFrom}
 use Rattle.ux_locate.specs.Hits.{IsHit}
-use Rattle.ux_locate.specs.Keeping.{first_of, last_of}
+use Rattle.ux_locate.specs.Index.{IsKeptListing}
 use Rattle.ux_locate.proofs.HitLemmas.{found_hit}
-use Rattle.ux_locate.proofs.KeepingLemmas.{kept_same}
-use Rattle.ux_locate.proofs.KeptLemmas.{kept_listing}
+use Rattle.ux_locate.proofs.KeptLemmas.{listing_same}
 use Rattle.ux_locate.proofs.locating.locate.Goals as goal
 
 pub returns : goal.returns
@@ -19,10 +19,10 @@ returns g c =
       novar = c.args.novar;
       policy = c.args.policy;
     } in
+    let Found = IsFound search.text.now (IsHitFrom search) in
     let Is = IsHit search.alphabet.now search.text.now search.applied.now
     (net_grammar search.net.now) search.mode search.novar in
-    let kept = c.in_ok-hits.hits.items in
-    kept_listing search.policy Is kept c.sort_hits.new.hits.items
-    (kept_same search.policy first_of last_of (IsFound search.text.now (IsHitFrom search)) Is
-    (found_hit search) kept c.in_ok-hits.ensures)
-    c.sort_hits.ensures.same c.sort_hits.ensures.in_order
+    IfOk-weaker c.listed_hits.result (λ kept. IsKeptListing search.policy Found kept.items)
+    (λ kept. IsKeptListing search.policy Is kept.items)
+    (λ kept. listing_same Found Is (found_hit search) kept.items search.policy)
+    c.listed_hits.ensures

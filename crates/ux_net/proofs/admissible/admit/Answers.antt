@@ -16,4 +16,5 @@ returns-clause-ranks c =
     c.deref-13.ensures.value))
     (ranks_are c.args.graphs.now c.requires.fit c.in_ok-marks.marks.items
     c.in_ok-marks.ensures c.in_ok-numbers.numbers.items c.in_ok-numbers.ensures
-    c.in_ok-refuse_loops.ensures.ok c.in_ok-refuse_recursion.ensures.ok))
+    c.requires.opened c.in_ok-refuse_loops.ensures.ok
+    c.in_ok-refuse_recursion.ensures.ok))

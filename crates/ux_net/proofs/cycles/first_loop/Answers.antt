@@ -19,7 +19,7 @@ pub returns : goal.returns
 returns c =
     first_loop_is c.args.graphs.now c.requires.fit c.args.ways.now c.requires.ways
     c.deref-2.result.now c.deref-3.result.now c.least.result c.least.ensures c.args.marks.now
-    c.requires.marks c.deref.result.now
+    c.requires.marks c.deref.result.now c.requires.opened
     (subst (λ (rows : List (List ℕ)). AreFreeEdges c.args.graphs.now rows)
     (sym c.deref.ensures.value) c.in_ok-rows.ensures)
     (subst (λ (numbers : List ℕ). AreComponents c.deref.result.now numbers)

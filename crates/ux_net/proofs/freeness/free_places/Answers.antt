@@ -1,6 +1,8 @@
-use Rattle.std.proofs.Common.{◌∙◌, ℕ, List, subst, sym}
+use Rattle.std.proofs.Common.{◌∙◌, ℕ, List, [], subst, sym}
+use Rattle.ux_digraph.specs.declared.closing.Rule.{Rule}
 use Rattle.ux_digraph.specs.Rules.{AreRulesInside}
-use Rattle.ux_net.specs.Ways.{AreEnds}
+use Rattle.ux_net.specs.Gains.{Gains, SoOfOne}
+use Rattle.ux_net.specs.Ways.{AreEnds, IsRuleOf}
 use Rattle.ux_net.specs.Numbers.{number_of}
 use Rattle.ux_net.proofs.MarksLemmas.{rules_inside, derived_exactly, rules_by_ways}
 use Rattle.ux_net.proofs.freeness.free_places.Goals as goal
@@ -11,7 +13,8 @@ closure-requires c = record {
       (sym c.count_of.ensures)
       (rules_inside c.args.graphs.now c.requires.fit c.deref.result.now c.deref-2.result.now
       (rules_by_ways c.args.graphs.now c.args.ways.now c.requires.ways c.deref.result.now
-      (c.deref.ensures.value ∙ c.in_ok-rules.ensures))
+      (subst (λ (rules : List Rule). Gains [] rules (SoOfOne c.args.ways.now IsRuleOf))
+      (sym c.deref.ensures.value) c.in_ok-rules.ensures))
       (subst (λ (ends : List ℕ). AreEnds c.args.graphs.now ends) (sym c.deref-2.ensures.value)
       c.in_ok-ends.ensures));
 }
@@ -19,7 +22,9 @@ closure-requires c = record {
 pub returns : goal.returns
 returns c =
     let by_ways = rules_by_ways c.args.graphs.now c.args.ways.now c.requires.ways
-    c.deref.result.now (c.deref.ensures.value ∙ c.in_ok-rules.ensures) in
+    c.deref.result.now
+    (subst (λ (rules : List Rule). Gains [] rules (SoOfOne c.args.ways.now IsRuleOf))
+    (sym c.deref.ensures.value) c.in_ok-rules.ensures) in
     let at_ends = subst (λ (ends : List ℕ). AreEnds c.args.graphs.now ends)
     (sym c.deref-2.ensures.value) c.in_ok-ends.ensures in
     record {

@@ -1,9 +1,10 @@
-use Rattle.std.proofs.Common.{arith}
-use Rattle.std.proofs.lemmas.Grind.{common_steps}
+use Rattle.std.proofs.Common.{List, subst}
+use Rattle.ux_digraph.specs.declared.closing.Rule.{Rule}
+use Rattle.ux_net.specs.Gains.{Gains, SoOfOne}
+use Rattle.ux_net.specs.Ways.{IsRuleOf}
 use Rattle.ux_net.proofs.freeness.rules_of.Goals as goal
 
-pub loop-way-preserved : goal.loop-way-preserved
-loop-way-preserved c = grind (arith, common_steps)
-
 pub returns : goal.returns
-returns c = grind (arith, common_steps)
+returns c =
+    subst (λ (rules : List Rule). Gains rules c.push_rules.new.rules.items
+    (SoOfOne c.args.ways.now IsRuleOf)) c.new-rules.ensures.items c.in_ok-push_rules.ensures

@@ -1,5 +1,6 @@
-use Rattle.std.proofs.Common.{arith}
+use Rattle.std.proofs.Common.{arith, rules}
 use Rattle.std.proofs.lemmas.Grind.{common_steps}
+use Rattle.ux_net.proofs.FirstLemmas.{loop_there, recursion_there}
 use Rattle.ux_net.proofs.grammar.admitted.Goals as goal
 
 pub admit-requires : goal.admit-requires
@@ -40,3 +41,33 @@ returns-in_ok-name_of-in-Err-EmptyLoop-clause-err c = grind (arith, common_steps
 
 pub returns-in_ok-name_of-in-Err-LeftRecursion-clause-err : goal.returns-in_ok-name_of-in-Err-LeftRecursion-clause-err
 returns-in_ok-name_of-in-Err-LeftRecursion-clause-err c = grind (arith, common_steps)
+
+pub name_of-requires-clause-to : goal.name_of-requires-clause-to
+name_of-requires-clause-to c =
+    let e = c.in-Err-EmptyLoop in
+    let there = loop_there c.args.places.now c.requires.few e.field-0 e.graph e.node e.field-0-is
+    e.ensures.cause in
+    let count = c.requires.count in
+    omega (arith, there.0, count)
+
+pub overflow_cast-result : goal.overflow_cast-result
+overflow_cast-result c =
+    let e = c.in-Err-EmptyLoop in
+    let there = loop_there c.args.places.now c.requires.few e.field-0 e.graph e.node e.field-0-is
+    e.ensures.cause in
+    search (rules, there.1)
+
+pub name_of-requires-in-Err-LeftRecursion-clause-to : goal.name_of-requires-in-Err-LeftRecursion-clause-to
+name_of-requires-in-Err-LeftRecursion-clause-to c =
+    let e = c.in-Err-LeftRecursion in
+    let there = recursion_there c.args.places.now c.requires.few e.field-0 e.graph e.node e.field-0-is
+    e.ensures.cause in
+    let count = c.requires.count in
+    omega (arith, there.0, count)
+
+pub overflow_cast-result-in-Err-LeftRecursion : goal.overflow_cast-result-in-Err-LeftRecursion
+overflow_cast-result-in-Err-LeftRecursion c =
+    let e = c.in-Err-LeftRecursion in
+    let there = recursion_there c.args.places.now c.requires.few e.field-0 e.graph e.node e.field-0-is
+    e.ensures.cause in
+    search (rules, there.1)

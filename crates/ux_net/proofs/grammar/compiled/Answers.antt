@@ -2,9 +2,9 @@ use Rattle.std.proofs.Common.{arith, ◌≡◌, ℕ, List, length, map, string_b
 use Rattle.std.proofs.lemmas.List.{length-map}
 use Rattle.std.proofs.lemmas.Result.{IfErr-weaker, IfOk-weaker, on_ok_weaker}
 use Rattle.ux_net.specs.Boxes.{Drawn, names_of}
-use Rattle.ux_net.specs.Compiling.{AreTested, IsBuiltOf, RefusesPlaces}
+use Rattle.ux_net.specs.Compiling.{AreTested, IsBuiltOf, RefusesNet}
 use Rattle.ux_net.specs.Refusing.{drawn, drawn_of}
-use Rattle.ux_net.proofs.TestedLaw.{handed, tested_fit, tested_few, tested_are_fit, tested_count, tested_compilable, tested_constructed, tested_same, tested_sound, tested_refused}
+use Rattle.ux_net.proofs.TestedLaw.{handed, tested_fit, tested_few, tested_are_fit, tested_count, tested_compilable, tested_constructed, tested_same, tested_sound, tested_marked, tested_told, tested_refused}
 use Rattle.ux_net.proofs.RefusingLemmas.{Given}
 use Rattle.ux_net.proofs.grammar.compiled.Goals as goal
 
@@ -70,10 +70,10 @@ returns-clause-compilable c =
     handed c.args.alphabet.now c.deref.result.now c.args.graphs.items
     c.in_ok-places.places.items c.deref-4.result.now c.deref.ensures.value
     c.deref-4.ensures.value c.in_ok-places.ensures.ok in
-    on_ok_weaker c.net_of.result (λ admissible.
+    on_ok_weaker c.net_of.result (λ sound.
     tested_compilable c.args.alphabet.now c.args.graphs.items c.requires.well_formed
-    c.requires.small c.requires.distinct c.deref-4.result.now tested admissible)
-    c.net_of.ensures.admissible
+    c.requires.small c.requires.distinct c.deref-4.result.now tested sound)
+    c.net_of.ensures.sound
 
 pub returns-clause-built : goal.returns-clause-built
 returns-clause-built c =
@@ -123,6 +123,39 @@ returns-clause-sound c =
     (subst (λ (l : List (List ℕ)). IsBuiltOf l c.deref-4.result.now net.items) names of)
     c.requires.some c.requires.few) c.net_of.ensures.built
 
+pub returns-clause-marked : goal.returns-clause-marked
+returns-clause-marked c =
+    let tested : AreTested c.args.alphabet.now (drawn c.args.graphs.items) c.deref-4.result.now =
+    handed c.args.alphabet.now c.deref.result.now c.args.graphs.items
+    c.in_ok-places.places.items c.deref-4.result.now c.deref.ensures.value
+    c.deref-4.ensures.value c.in_ok-places.ensures.ok in
+    let names : map string_bytes c.deref-3.result.now ≡ names_of (drawn c.args.graphs.items) =
+    ap (λ (l : List (String Global)). map string_bytes l) c.deref-3.ensures.value
+    ∙ (c.in_ok-names.ensures
+    ∙ ap (λ (l : List Given). names_of (drawn l)) c.deref-2.ensures.value) in
+    IfOk-weaker c.net_of.result _ _ (λ net of.
+    tested_marked c.args.alphabet.now c.args.graphs.items c.requires.well_formed
+    c.requires.small c.requires.distinct c.deref-4.result.now tested net.items
+    (subst (λ (l : List (List ℕ)). IsBuiltOf l c.deref-4.result.now net.items) names of)
+    c.requires.few)
+    c.net_of.ensures.built
+
+pub returns-clause-told : goal.returns-clause-told
+returns-clause-told c =
+    let tested : AreTested c.args.alphabet.now (drawn c.args.graphs.items) c.deref-4.result.now =
+    handed c.args.alphabet.now c.deref.result.now c.args.graphs.items
+    c.in_ok-places.places.items c.deref-4.result.now c.deref.ensures.value
+    c.deref-4.ensures.value c.in_ok-places.ensures.ok in
+    let names : map string_bytes c.deref-3.result.now ≡ names_of (drawn c.args.graphs.items) =
+    ap (λ (l : List (String Global)). map string_bytes l) c.deref-3.ensures.value
+    ∙ (c.in_ok-names.ensures
+    ∙ ap (λ (l : List Given). names_of (drawn l)) c.deref-2.ensures.value) in
+    IfOk-weaker c.net_of.result _ _ (λ net of.
+    tested_told c.args.alphabet.now c.args.graphs.items c.requires.well_formed
+    c.requires.small c.requires.distinct c.deref-4.result.now tested net.items
+    (subst (λ (l : List (List ℕ)). IsBuiltOf l c.deref-4.result.now net.items) names of))
+    c.net_of.ensures.built
+
 pub returns-clause-err : goal.returns-clause-err
 returns-clause-err c =
     let tested : AreTested c.args.alphabet.now (drawn c.args.graphs.items) c.deref-4.result.now =
@@ -136,5 +169,5 @@ returns-clause-err c =
     IfErr-weaker c.net_of.result _ _ (λ error refuses.
     tested_refused c.args.alphabet.now c.args.graphs.items c.requires.well_formed
     c.requires.small c.requires.distinct c.deref-4.result.now tested error
-    (subst (λ (l : List (List ℕ)). RefusesPlaces l c.deref-4.result.now error) names refuses))
+    (subst (λ (l : List (List ℕ)). RefusesNet l c.deref-4.result.now error) names refuses))
     c.net_of.ensures.err

@@ -1,21 +1,4 @@
-use Rattle.std.proofs.Common.{arith}
-use Rattle.ux_net.proofs.AllFitLemmas.{ranks_small}
 use Rattle.ux_net.proofs.grammar.net_of.Goals as goal
 
-pub build-requires-clause-small : goal.build-requires-clause-small
-build-requires-clause-small c =
-    let places = c.args.places.now in
-    let admission = c.in_ok-admission.admission in
-    let count = c.requires.count in
-    let few = c.requires.few_graphs in
-    ranks_small places admission.ranks.items admission.free.items c.requires.few
-    (omega (arith, count, few)) c.in_ok-admission.ensures.ranks
-
-pub returns-clause-built : goal.returns-clause-built
-returns-clause-built c = record {
-  named = c.in_ok-build.ensures.names;
-  ranks = c.in_ok-admission.admission.ranks.items;
-  free = c.in_ok-admission.admission.free.items;
-  ranked = c.in_ok-admission.ensures.ranks;
-  built = c.in_ok-build.ensures.built;
-}
+pub closed_contexts-requires-clause-inside : goal.closed_contexts-requires-clause-inside
+closed_contexts-requires-clause-inside c = λ k d within. (c.requires.fit k d within).inside

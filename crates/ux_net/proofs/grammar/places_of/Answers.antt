@@ -1,4 +1,4 @@
-use Rattle.std.proofs.Common.{ℕ, List, sym, subst}
+use Rattle.std.proofs.Common.{List, sym, subst, ℕ}
 use Rattle.std.specs.Prelude.{All}
 use Rattle.ux_net.specs.Splitting.{IsSplittableBox}
 use Rattle.ux_net.proofs.CompileLemmas.{all_splittable}
@@ -11,4 +11,4 @@ split_graphs-requires-clause-splittable c =
     All (λ (graph : Given). All (IsSplittableBox names) graph.1.boxes) c.args.graphs.now)
     (sym c.in_ok-names.ensures)
     (all_splittable c.args.graphs.now c.in_ok-refuse_missing.ensures.ok
-    c.in_ok-refuse_bad_masks.ensures.ok c.in_ok-refuse_beyond.ensures.ok)
+    c.in_ok-refuse_bad_masks.ensures.ok)

@@ -29,8 +29,26 @@ push_call-requires-clause-there c = grind (arith, common_steps)
 pub returns-in-Call : goal.returns-in-Call
 returns-in-Call c = grind (arith, common_steps)
 
-pub unreachable-requires : goal.unreachable-requires
-unreachable-requires c = grind (arith, common_steps)
+pub returns-in_err-push-in-Positive : goal.returns-in_err-push-in-Positive
+returns-in_err-push-in-Positive c = grind (arith, common_steps)
 
-pub unreachable-unreachable : goal.unreachable-unreachable
-unreachable-unreachable c = grind (arith, common_steps)
+pub returns-in-Positive : goal.returns-in-Positive
+returns-in-Positive c = grind (arith, common_steps)
+
+pub returns-in_err-push-in-Negative : goal.returns-in_err-push-in-Negative
+returns-in_err-push-in-Negative c = grind (arith, common_steps)
+
+pub returns-in-Negative : goal.returns-in-Negative
+returns-in-Negative c = grind (arith, common_steps)
+
+pub returns-in_err-push-in-ContextEnd : goal.returns-in_err-push-in-ContextEnd
+returns-in_err-push-in-ContextEnd c = grind (arith, common_steps)
+
+pub returns-in-ContextEnd : goal.returns-in-ContextEnd
+returns-in-ContextEnd c = grind (arith, common_steps)
+
+pub returns-in_err-push-in-Cut : goal.returns-in_err-push-in-Cut
+returns-in_err-push-in-Cut c = grind (arith, common_steps)
+
+pub returns-in-Cut : goal.returns-in-Cut
+returns-in-Cut c = grind (arith, common_steps)

@@ -1,4 +1,4 @@
-use Rattle.std.proofs.Common.{rules, arith, ◌≡◌, ◌-◌, ◌∙◌, List, [], ap, get_or, length, subst, sym}
+use Rattle.std.proofs.Common.{rules, arith, ◌≡◌, ◌+◌, ◌-◌, ◌∙◌, List, [], ap, get_or, length, subst, sym}
 use Rattle.std.proofs.lemmas.List.{get_or_default}
 use Rattle.ux_net.specs.declared.label.Label.{Label}
 use Rattle.ux_net.specs.declared.place.Place.{Place}
@@ -7,7 +7,7 @@ use Rattle.ux_net.specs.Fit.{IsFitLine}
 use Rattle.ux_net.specs.Gains.{Gains}
 use Rattle.ux_net.specs.Ways.{IsWayAlong}
 use Rattle.ux_net.proofs.GainsLemmas.{gains_next, gains_done}
-use Rattle.ux_net.proofs.WaysExact.{gains_elements, number_at, number_small, line_at}
+use Rattle.ux_net.proofs.WaysExact.{gains_elements, number_at, number_small, line_at, row_at, row_room}
 use Rattle.ux_net.proofs.ways.push_target.Goals as goal
 
 pub overflow_add-step : goal.overflow_add-step
@@ -38,6 +38,16 @@ push_line-requires c =
           (line_at c.args.graphs.now c.requires.fit c.args.offsets.now c.requires.offsets
           c.args.graph c.args.target c.loop-line.line-index c.requires.from c.requires.to
           (omega (arith, len, below)));
+      target = omega arith;
+      room = row_room c.args.graphs.now c.args.offsets.now c.requires.offsets c.args.graph
+          c.args.target c.row_of-row.result.now c.requires.from c.requires.to
+          (get_or c.args.offsets.now (c.args.graph - 1) 0 + c.args.target - c.args.target)
+          (omega arith)
+          (row_at c.args.graphs.now c.args.closers.now c.requires.closers c.args.graph c.args.target
+          (get_or c.args.offsets.now (c.args.graph - 1) 0 + c.args.target) c.row_of-row.result.now
+          c.requires.target
+          (number_at c.args.graphs.now c.args.offsets.now c.requires.offsets c.args.graph
+          c.args.target c.requires.from c.requires.to) c.row_of-row.ensures);
     }
 
 pub loop-line-preserved : goal.loop-line-preserved
@@ -59,7 +69,12 @@ loop-line-preserved c =
     (number_at c.args.graphs.now c.args.offsets.now c.requires.offsets c.args.graph
     c.args.source c.requires.from c.requires.to)
     (number_at c.args.graphs.now c.args.offsets.now c.requires.offsets c.args.graph
-    c.args.target c.requires.from c.requires.to)))
+    c.args.target c.requires.from c.requires.to)
+    (row_at c.args.graphs.now c.args.closers.now c.requires.closers c.args.graph c.args.target
+    (get_or c.args.offsets.now (c.args.graph - 1) 0 + c.args.target) c.row_of-row.result.now
+    c.requires.target
+    (number_at c.args.graphs.now c.args.offsets.now c.requires.offsets c.args.graph
+    c.args.target c.requires.from c.requires.to) c.row_of-row.ensures)))
 
 pub returns : goal.returns
 returns c =

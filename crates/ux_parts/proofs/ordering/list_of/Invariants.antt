@@ -2,5 +2,5 @@ use Rattle.std.proofs.Common.{◌≡◌, map, take}
 use Rattle.ux_parts.specs.Order.{part_of}
 use Rattle.ux_parts.proofs.ordering.list_of.Given as goal
 
-abbrev pub invariant-loop-graph : goal.invariant-loop-graph
-invariant-loop-graph l = l.list.items ≡ map part_of (take l.graph-index l.order)
+abbrev pub invariant-loop-entry : goal.invariant-loop-entry
+invariant-loop-entry l = l.list.items ≡ map (part_of l.net) (take l.entry-index l.order)

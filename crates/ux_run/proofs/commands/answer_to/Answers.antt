@@ -1,3 +1,4 @@
+use Rattle.std.proofs.lemmas.Result.{IfErr-weaker, IfOk-weaker}
 use Rattle.ux_words.specs.declared.help.TheConstants.{HELP, VERSION}
 use Rattle.ux_run.proofs.Ending.{text_answers, text_denies}
 use Rattle.ux_run.proofs.commands.answer_to.Goals as goal
@@ -39,3 +40,15 @@ returns-in-Version-clause-err g c =
     let seen = g.F.Folder.seen c.args.folder.now in
     let text = c.text_of-in-Version in
     rw c.in-Version.is (text_denies VERSION.now text.result seen seen text.ensures.err)
+
+pub returns-in-Bench-clause-ok : goal.returns-in-Bench-clause-ok
+returns-in-Bench-clause-ok g c =
+    let files = (g.F.Folder.seen c.args.folder.now).files in
+    rw c.in-Bench.is (IfOk-weaker c.summary_of.result _ _ (λ answer answers. answers files)
+    c.summary_of.ensures.ok)
+
+pub returns-in-Bench-clause-err : goal.returns-in-Bench-clause-err
+returns-in-Bench-clause-err g c =
+    let seen = g.F.Folder.seen c.args.folder.now in
+    rw c.in-Bench.is (IfErr-weaker c.summary_of.result _ _ (λ status denies. denies seen seen)
+    c.summary_of.ensures.err)

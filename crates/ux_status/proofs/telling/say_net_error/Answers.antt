@@ -14,11 +14,19 @@ returns-in-BadMask-clause-line g c = rw c.in-BadMask.is c.say_bad_mask.ensures.l
 pub returns-in-BadMask-clause-front : goal.returns-in-BadMask-clause-front
 returns-in-BadMask-clause-front g c = rw c.in-BadMask.is c.say_bad_mask.ensures.front
 
-pub returns-in-NotYet-clause-line : goal.returns-in-NotYet-clause-line
-returns-in-NotYet-clause-line g c = rw c.in-NotYet.is c.say_node.ensures.line
+pub returns-in-ContextClose-clause-line : goal.returns-in-ContextClose-clause-line
+returns-in-ContextClose-clause-line g c = rw c.in-ContextClose.is c.say_node.ensures.line
 
-pub returns-in-NotYet-clause-front : goal.returns-in-NotYet-clause-front
-returns-in-NotYet-clause-front g c = rw c.in-NotYet.is c.say_node.ensures.front
+pub returns-in-ContextClose-clause-front : goal.returns-in-ContextClose-clause-front
+returns-in-ContextClose-clause-front g c = rw c.in-ContextClose.is c.say_node.ensures.front
+
+pub returns-in-NegativeRecursion-clause-line : goal.returns-in-NegativeRecursion-clause-line
+returns-in-NegativeRecursion-clause-line g c =
+    rw c.in-NegativeRecursion.is c.say_recursion.ensures.line
+
+pub returns-in-NegativeRecursion-clause-front : goal.returns-in-NegativeRecursion-clause-front
+returns-in-NegativeRecursion-clause-front g c =
+    rw c.in-NegativeRecursion.is c.say_recursion.ensures.front
 
 pub returns-in-EmptyLoop-clause-line : goal.returns-in-EmptyLoop-clause-line
 returns-in-EmptyLoop-clause-line g c = rw c.in-EmptyLoop.is c.say_node-in-EmptyLoop.ensures.line
@@ -40,11 +48,17 @@ returns-in-MissingGraph-clause-later g c = grind (arith, common_steps)
 pub returns-in-MissingGraph-clause-cause : goal.returns-in-MissingGraph-clause-cause
 returns-in-MissingGraph-clause-cause g c = grind (arith, common_steps)
 
-pub returns-in-NotYet-clause-later : goal.returns-in-NotYet-clause-later
-returns-in-NotYet-clause-later g c = grind (arith, common_steps)
+pub returns-in-ContextClose-clause-later : goal.returns-in-ContextClose-clause-later
+returns-in-ContextClose-clause-later g c = grind (arith, common_steps)
 
-pub returns-in-NotYet-clause-cause : goal.returns-in-NotYet-clause-cause
-returns-in-NotYet-clause-cause g c = grind (arith, common_steps)
+pub returns-in-ContextClose-clause-cause : goal.returns-in-ContextClose-clause-cause
+returns-in-ContextClose-clause-cause g c = grind (arith, common_steps)
+
+pub returns-in-NegativeRecursion-clause-later : goal.returns-in-NegativeRecursion-clause-later
+returns-in-NegativeRecursion-clause-later g c = grind (arith, common_steps)
+
+pub returns-in-NegativeRecursion-clause-cause : goal.returns-in-NegativeRecursion-clause-cause
+returns-in-NegativeRecursion-clause-cause g c = grind (arith, common_steps)
 
 pub returns-in-EmptyLoop-clause-later : goal.returns-in-EmptyLoop-clause-later
 returns-in-EmptyLoop-clause-later g c = grind (arith, common_steps)

@@ -67,3 +67,15 @@ returns-in-TooManyGraphs-clause-later g c = grind (arith, common_steps)
 
 pub returns-in-TooManyGraphs-clause-cause : goal.returns-in-TooManyGraphs-clause-cause
 returns-in-TooManyGraphs-clause-cause g c = grind (arith, common_steps)
+
+pub returns-in-Image-clause-later : goal.returns-in-Image-clause-later
+returns-in-Image-clause-later g c = grind (arith, common_steps)
+
+pub returns-in-Image-clause-cause : goal.returns-in-Image-clause-cause
+returns-in-Image-clause-cause g c = grind (arith, common_steps)
+
+pub returns-in-Image-clause-line : goal.returns-in-Image-clause-line
+returns-in-Image-clause-line g c = grind (arith, common_steps)
+
+pub returns-in-Image-clause-front : goal.returns-in-Image-clause-front
+returns-in-Image-clause-front g c = grind (arith, common_steps)

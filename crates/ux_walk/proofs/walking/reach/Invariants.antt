@@ -1,7 +1,6 @@
-use Rattle.std.proofs.Common.{ℕ, length}
+use Rattle.std.proofs.Common.{length}
 use Rattle.ux_tokens.specs.Numbers.{different_texts}
-use Rattle.ux_net.specs.Nets.{net_grammar}
-use Rattle.ux_meaning.specs.Meaning.{RefusesBy}
+use Rattle.ux_walk.specs.Contexts.{ApplyAsMeant}
 use Rattle.ux_walk.specs.Settings.{applied_text}
 use Rattle.ux_walk.specs.Configurations.{frames_of}
 use Rattle.ux_walk.specs.LookUps.{AreSound}
@@ -9,13 +8,13 @@ use Rattle.ux_walk.proofs.Rounds.{Walking}
 use Rattle.ux_walk.proofs.Weights.{greatest}
 use Rattle.ux_walk.proofs.walking.reach.Given as goal
 
--- what was found, and what the pending configurations give, is all that each level derives
+-- what was found, and what the pending configurations give, is all that is derived, as it is meant
 abbrev pub invariant-loop-alloc : goal.invariant-loop-alloc
 invariant-loop-alloc g l = record {
   sound : AreSound l.alphabet l.net (different_texts l.text) l.look_ups;
-  walking : (n : ℕ) → Walking l.alphabet l.text l.applied l.net
-      (RefusesBy (applied_text l.alphabet l.text l.applied) (net_grammar l.net) n)
-      l.start l.reached;
+  walking : (meant : ApplyAsMeant (applied_text l.alphabet l.text l.applied) l.net
+      (g.C.Contexts.applies l.contexts)) → Walking l.alphabet l.text l.applied
+      (g.C.Contexts.applies l.contexts) l.net meant l.start l.reached;
 }
 
 -- the greatest weight of a pending configuration falls

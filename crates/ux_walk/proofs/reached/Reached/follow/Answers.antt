@@ -3,22 +3,28 @@ use Rattle.ux_grf.specs.declared.item.Piece.{Piece}
 use Rattle.ux_outputs.specs.declared.event.Event.{Event}
 use Rattle.ux_walk.specs.declared.config.Frame.{Frame}
 use Rattle.ux_walk.specs.Configurations.{Notes}
-use Rattle.ux_walk.specs.Courses.{IsBehind, put_events}
+use Rattle.ux_walk.specs.Courses.{IsBehind, at_state, put_events}
 use Rattle.ux_walk.proofs.Results.{on_ok}
 use Rattle.ux_walk.proofs.Adding.{adds_nothing, adds_noted}
 use Rattle.ux_walk.proofs.Stepping.{behind_closed}
 use Rattle.ux_walk.proofs.reached.Reached.follow.Goals as goal
+
+pub go_on-requires : goal.go_on-requires
+go_on-requires g c = record {
+  asked = λ opens. c.requires.asked (c.in_ok-passage.ensures.opens.0 opens);
+}
 
 pub returns : goal.returns
 returns g c = on_ok c.go_on.result _ _ (λ adds.
     let alphabet = c.args.alphabet.now in
     let tokens = c.args.text.now in
     let tables = c.args.applied.now in
+    let applies = g.C.Contexts.applies c.args.contexts.now in
     let edge = c.args.edge.now in
     let config = c.args.config in
-    let here : Frame = record { graph = config.here.graph; state = edge.target } in
+    let here : Frame = at_state config.here edge.target in
     adds_noted (λ (back : List Frame) (before : List Event).
-    IsBehind alphabet tokens tables edge.label here back config.at before)
+    IsBehind alphabet tokens tables applies edge.label here back config.at before)
     c.args.self.now c.put_out.new.self c.go_on.new.self config config.here config.at
     (reverse (put_events edge.output)) c.in_ok-events.events
     (subst (λ (l : List Piece). Notes c.args.self.now c.put_out.new.self (reverse (put_events l))
@@ -27,15 +33,17 @@ returns g c = on_ok c.go_on.result _ _ (λ adds.
       takes = c.in_ok-passage.ensures.takes;
       stays = c.in_ok-passage.ensures.stays;
       calls = c.in_ok-passage.ensures.calls;
+      opens = c.in_ok-passage.ensures.opens;
     }))) c.go_on.ensures
 
 pub returns-then-is_closed : goal.returns-then-is_closed
 returns-then-is_closed g c = λ back before sound spells.
     adds_nothing _ c.args.self.now sound (λ w.
     behind_closed c.args.alphabet.now c.args.text.now c.args.applied.now
-    c.args.edge.now.label _ back
-    c.args.config.at _ c.in_ok-passage.passage (record {
+    (g.C.Contexts.applies c.args.contexts.now) c.args.edge.now.label _ back c.args.config.at _
+    c.in_ok-passage.passage (record {
       takes = c.in_ok-passage.ensures.takes;
       stays = c.in_ok-passage.ensures.stays;
       calls = c.in_ok-passage.ensures.calls;
+      opens = c.in_ok-passage.ensures.opens;
     }) w (c.is_closed.ensures.0 c.if-is_closed.true))

@@ -6,13 +6,14 @@ use Rattle.ux_walk.proofs.reached.Reached.follow_edges.Goals as goal
 pub loop-edge-init : goal.loop-edge-init
 loop-edge-init g c = λ back before sound spells.
     adds_first (IsOver c.args.alphabet.now c.args.text.now c.args.applied.now
-    c.args.config.here back
+    (g.C.Contexts.applies c.args.contexts.now) c.args.config.here back
     c.args.config.at before) c.args.self.now c.args.edges.now sound
 
 pub loop-edge-preserved : goal.loop-edge-preserved
 loop-edge-preserved g c = λ back before sound spells.
     let now = c.loop-edge.invariant back before sound spells in
-    adds_next (IsOver c.args.alphabet.now c.args.text.now c.args.applied.now c.args.config.here back
+    adds_next (IsOver c.args.alphabet.now c.args.text.now c.args.applied.now
+    (g.C.Contexts.applies c.args.contexts.now) c.args.config.here back
     c.args.config.at before) c.args.self.now c.loop-edge.self c.follow.new.self c.args.edges.now
     c.loop-edge.edge-index c.edge-item.result c.loop-edge-test.true c.edge-item.is now
     (c.in_ok-follow.ensures back before now.sound
@@ -20,6 +21,7 @@ loop-edge-preserved g c = λ back before sound spells.
 
 pub returns : goal.returns
 returns g c = λ back before sound spells.
-    adds_all (IsOver c.args.alphabet.now c.args.text.now c.args.applied.now c.args.config.here back
+    adds_all (IsOver c.args.alphabet.now c.args.text.now c.args.applied.now
+    (g.C.Contexts.applies c.args.contexts.now) c.args.config.here back
     c.args.config.at before) c.args.self.now c.loop-edge.self c.args.edges.now
     c.loop-edge.edge-index c.loop-edge-test.false (c.loop-edge.invariant back before sound spells)

@@ -6,5 +6,6 @@ use Rattle.ux_walk.proofs.reached.Reached.follow_edges.Given as goal
 -- what is behind the edges so far was added
 abbrev pub invariant-loop-edge : goal.invariant-loop-edge
 invariant-loop-edge g l = AddsFrom l.fn.self l.self l.config (λ back before.
-    IsOverSome l.alphabet l.text l.applied l.config.here back l.config.at before
+    IsOverSome l.alphabet l.text l.applied (g.C.Contexts.applies l.contexts)
+    l.config.here back l.config.at before
     (take l.edge-index l.edges))

@@ -11,7 +11,7 @@ returns-in-Some g c = on_ok c.follow.result _ _ (λ adds back before sound spell
     adds_alike _ _ c.args.self.now c.follow.new.self (adds back before sound spells) (λ w. (
       λ over. (c.in-Some.edge.now, sym c.in-Some.ensures, over),
       λ at. subst (λ (e : Edge). IsOver c.args.alphabet.now c.args.text.now c.args.applied.now
-          c.args.config.here back
+          (g.C.Contexts.applies c.args.contexts.now) c.args.config.here back
           c.args.config.at before e w)
           (same_Some at.0 c.in-Some.edge.now (sym at.1 ∙ sym c.in-Some.ensures)) at.2,
     ))) c.follow.ensures

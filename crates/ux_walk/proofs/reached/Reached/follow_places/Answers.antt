@@ -7,14 +7,14 @@ use Rattle.ux_walk.proofs.reached.Reached.follow_places.Goals as goal
 pub loop-place-init : goal.loop-place-init
 loop-place-init g c = λ back before sound spells.
     adds_first (IsOverAt c.args.alphabet.now c.args.text.now c.args.applied.now
-    c.args.config.here back
+    (g.C.Contexts.applies c.args.contexts.now) c.args.config.here back
     c.args.config.at before c.args.edges.now) c.args.self.now c.args.places.now sound
 
 pub loop-place-preserved : goal.loop-place-preserved
 loop-place-preserved g c = λ back before sound spells.
     let now = c.loop-place.invariant back before sound spells in
     adds_next (IsOverAt c.args.alphabet.now c.args.text.now c.args.applied.now
-    c.args.config.here back
+    (g.C.Contexts.applies c.args.contexts.now) c.args.config.here back
     c.args.config.at before c.args.edges.now) c.args.self.now c.loop-place.self
     c.follow_place.new.self c.args.places.now
     c.loop-place.place-index (get_or c.args.places.now c.loop-place.place-index 0)
@@ -26,7 +26,7 @@ loop-place-preserved g c = λ back before sound spells.
 pub returns : goal.returns
 returns g c = λ back before sound spells.
     adds_all (IsOverAt c.args.alphabet.now c.args.text.now c.args.applied.now
-    c.args.config.here back
+    (g.C.Contexts.applies c.args.contexts.now) c.args.config.here back
     c.args.config.at before c.args.edges.now) c.args.self.now c.loop-place.self c.args.places.now
     c.loop-place.place-index c.loop-place-test.false
     (c.loop-place.invariant back before sound spells)

@@ -6,5 +6,6 @@ use Rattle.ux_walk.proofs.reached.Reached.follow_places.Given as goal
 -- what is behind the edges at the places so far was added
 abbrev pub invariant-loop-place : goal.invariant-loop-place
 invariant-loop-place g l = AddsFrom l.fn.self l.self l.config (λ back before.
-    IsOverSomeAt l.alphabet l.text l.applied l.config.here back l.config.at before l.edges
+    IsOverSomeAt l.alphabet l.text l.applied (g.C.Contexts.applies l.contexts)
+    l.config.here back l.config.at before l.edges
     (take l.place-index l.places))

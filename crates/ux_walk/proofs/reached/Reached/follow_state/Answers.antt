@@ -28,14 +28,16 @@ pub returns-then-not-has_index-clause-adds : goal.returns-then-not-has_index-cla
 returns-then-not-has_index-clause-adds g c = on_ok c.follow_edges.result _ _
     (λ adds net found sound. subst (λ (l : List Edge).
     AddsFrom c.args.self.now c.follow_edges.new.self c.args.config (λ back before.
-    IsOverSome c.args.alphabet.now c.args.text.now c.args.applied.now c.args.config.here back
+    IsOverSome c.args.alphabet.now c.args.text.now c.args.applied.now
+    (g.C.Contexts.applies c.args.contexts.now) c.args.config.here back
     c.args.config.at before l)) c.as_slice-edges.ensures adds) c.follow_edges.ensures
 
 pub returns-in_default-clause-adds : goal.returns-in_default-clause-adds
 returns-in_default-clause-adds g c = on_ok c.follow_edges-in_default.result _ _
     (λ adds net found sound. subst (λ (l : List Edge).
     AddsFrom c.args.self.now c.follow_edges-in_default.new.self c.args.config (λ back before.
-    IsOverSome c.args.alphabet.now c.args.text.now c.args.applied.now c.args.config.here back
+    IsOverSome c.args.alphabet.now c.args.text.now c.args.applied.now
+    (g.C.Contexts.applies c.args.contexts.now) c.args.config.here back
     c.args.config.at before l)) c.as_slice-edges.ensures adds) c.follow_edges-in_default.ensures
 
 pub returns-clause-adds : goal.returns-clause-adds
@@ -43,12 +45,13 @@ returns-clause-adds g c = on_ok c.follow_places.result _ _ (λ adds net found so
     let alphabet = c.args.alphabet.now in
     let tokens = c.args.text.now in
     let tables = c.args.applied.now in
+    let applies = g.C.Contexts.applies c.args.contexts.now in
     let config = c.args.config in
     let state = c.args.state.now in
     let position = c.skip-position.result in
     let places = c.in_ok-places.places.items in
     let now = c.meet.ensures net state found (sym c.as_slice-edges.ensures) sound in
-    adds_listed alphabet state.edges places tokens tables position c.args.self.now
+    adds_listed alphabet state.edges places tokens tables applies position c.args.self.now
     c.follow_places.new.self config c.skip-position.ensures
     (kept_enough alphabet state.edges places (different_texts tokens) c.in-Some.index.now
     (now.indexes config.here c.in-Some.index.now c.in-Some.ensures state found)
@@ -57,8 +60,9 @@ returns-clause-adds g c = on_ok c.follow_places.result _ _ (λ adds net found so
     state.edges text is
     numbered))
     (subst (λ (l : List Edge). AddsFrom c.args.self.now c.follow_places.new.self config
-    (λ back before. IsOverSomeAt alphabet tokens tables config.here back config.at before l places))
+    (λ back before. IsOverSomeAt alphabet tokens tables applies config.here back config.at before
+    l places))
     c.as_slice-edges.ensures
     (subst (λ (l : List ℕ). AddsFrom c.args.self.now c.follow_places.new.self config
-    (λ back before. IsOverSomeAt alphabet tokens tables config.here back config.at before
+    (λ back before. IsOverSomeAt alphabet tokens tables applies config.here back config.at before
     c.as_slice-edges.result.now l)) c.as_slice.ensures.value adds))) c.follow_places.ensures

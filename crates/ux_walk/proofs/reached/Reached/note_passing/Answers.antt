@@ -1,6 +1,6 @@
 use Rattle.std.proofs.Common.{◌≡◌, ◌∙◌, ◌∷◌, [], List, ap, refl, subst, sym}
 use Rattle.ux_outputs.specs.declared.event.Event.{Event}
-use Rattle.ux_outputs.specs.declared.event.Event.TheVariants.{Begin, End}
+use Rattle.ux_outputs.specs.declared.event.Event.TheVariants.{Begin, End, Cut}
 use Rattle.ux_walk.specs.Configurations.{Notes}
 use Rattle.ux_walk.specs.Courses.{passing}
 use Rattle.ux_walk.proofs.Results.{if_ok}
@@ -30,3 +30,8 @@ returns-in_ok-place-in-End c = if_ok c.note-in-End.result _ _ (λ number notes.
     (notes_text c.args.self.now c.place-in-End.new.self c.note-in-End.new.self name
     c.in_ok-place-in-End.place (End name ∷ []) c.args.events number placed
     (notes (End name) (name, placed.placed.at, refl)))) c.note-in-End.ensures
+
+pub returns-in-Cut : goal.returns-in-Cut
+returns-in-Cut c = if_ok c.note-in-Cut.result _ _ (λ number notes.
+    subst (λ (l : List Event). Notes c.args.self.now c.note-in-Cut.new.self l c.args.events number)
+    (sym (ap passing c.in-Cut.is)) (notes Cut refl)) c.note-in-Cut.ensures

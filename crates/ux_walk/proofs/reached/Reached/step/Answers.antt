@@ -3,9 +3,21 @@ use Rattle.std.proofs.lemmas.Grind.{common_steps}
 use Rattle.ux_walk.proofs.Stepping.{steps_final, steps_on}
 use Rattle.ux_walk.proofs.reached.Reached.step.Goals as goal
 
+pub follow_state-requires-clause-asked : goal.follow_state-requires-clause-asked
+follow_state-requires-clause-asked g c = λ edge inside opens.
+    c.requires.told.asked c.args.config.here.graph edge c.args.config.at (record {
+      from = c.args.config.here.state;
+      state = c.in-Some.state.now;
+      found = sym c.in-Some.ensures;
+      inside = inside;
+      sign = opens.0;
+      is = opens.1;
+    }) c.requires.inside
+
 pub returns-in_ok-leave-clause-adds : goal.returns-in_ok-leave-clause-adds
 returns-in_ok-leave-clause-adds g c =
-    steps_final c.args.alphabet.now c.args.text.now c.args.applied.now c.args.net.now c.args.config
+    steps_final c.args.alphabet.now c.args.text.now c.args.applied.now
+    (g.C.Contexts.applies c.args.contexts.now) c.args.net.now c.args.config
     c.in-Some.state.now (sym c.in-Some.ensures) c.args.self.now c.follow_state.new.self
     c.leave.new.self c.in-Some.state.now.edges refl c.if-state.true
     (c.in_ok-follow_state.ensures.adds c.args.net.now (sym c.in-Some.ensures) c.requires.sound)
@@ -13,7 +25,8 @@ returns-in_ok-leave-clause-adds g c =
 
 pub returns-else-state-clause-adds : goal.returns-else-state-clause-adds
 returns-else-state-clause-adds g c =
-    steps_on c.args.alphabet.now c.args.text.now c.args.applied.now c.args.net.now c.args.config
+    steps_on c.args.alphabet.now c.args.text.now c.args.applied.now
+    (g.C.Contexts.applies c.args.contexts.now) c.args.net.now c.args.config
     c.in-Some.state.now (sym c.in-Some.ensures) c.args.self.now c.follow_state.new.self
     c.in-Some.state.now.edges refl
     (λ yes. let no : false ≡ true = sym c.if-state.false ∙ yes in cc)

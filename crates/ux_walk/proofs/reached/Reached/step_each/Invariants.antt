@@ -13,6 +13,7 @@ invariant-loop-config g l = record {
   sound : AreSound l.alphabet l.net (different_texts l.text) l.look_ups;
   adds : IsSound l.fn.self →
       ((c : Config) → Contains l.configs c → (w : Course) × IsNamed l.fn.self c w) →
-      Adds (IsAfterSome l.alphabet l.text l.applied l.net l.fn.self (take l.config-index l.configs))
+      Adds (IsAfterSome l.alphabet l.text l.applied (g.C.Contexts.applies l.contexts) l.net
+      l.fn.self (take l.config-index l.configs))
       l.fn.self l.self;
 }

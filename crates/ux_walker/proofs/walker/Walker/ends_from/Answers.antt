@@ -13,5 +13,5 @@ returns-clause-ends g c =
     (c.in_ok-walk.ensures.same ∙ (c.self.invariant.automaton c.if-self.false ∙ is))
     (subst (λ (s : Setting). Belongs s.alphabet s.tokens s.tables) is c.self.invariant.belongs)
     (subst (λ (s : Setting). IsMeasured s.net) is c.is_measured.ensures)
-    (subst (λ (s : Setting). ArePlain s.net) is c.is_plain.ensures) c.args.start c.requires.inside
-    c.walk.new.ends.items c.in_ok-walk.ensures.ends
+    (subst (λ (s : Setting). ArePlain s.net) is c.self.invariant.plain) c.args.start
+    c.requires.inside c.walk.new.ends.items c.in_ok-walk.ensures.ends

@@ -15,7 +15,7 @@ returns c none free =
     ends_from_nothing c.args.self.now
     (subst (λ (s : Setting). Belongs s.alphabet s.tokens s.tables) is c.self.invariant.belongs)
     (subst (λ (s : Setting). IsMeasured s.net) is c.is_measured.ensures)
-    (subst (λ (s : Setting). ArePlain s.net) is c.is_plain.ensures) start
+    (subst (λ (s : Setting). ArePlain s.net) is c.self.invariant.plain) start
     (let inside = c.requires.inside in omega (arith, inside))
     (subst (λ (s : Setting). (IsSpaceAt s.tokens start → ⊥) → BeginsNothing s start)
     (c.self.invariant.automaton c.if-self.false ∙ is) (c.may_begin.ensures none) free)

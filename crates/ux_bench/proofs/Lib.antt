@@ -1,0 +1,5 @@
+pub mod BenchLaws
+pub mod CommandLemmas
+pub mod GrammarLemmas
+pub mod LongestLemmas
+pub mod StopLemmas

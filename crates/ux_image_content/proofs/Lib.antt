@@ -1,0 +1,24 @@
+pub mod AcceptedLemmas
+pub mod ChosenBackLemmas
+pub mod ContentLaws
+pub mod EntryLemmas
+mod Examples
+pub mod FirstUseLemmas
+pub mod FormLemmas
+pub mod FrontBackLemmas
+pub mod GroupBackLemmas
+pub mod LemmaLemmas
+pub mod ListsBackLemmas
+pub mod NumberedLemmas
+pub mod PathLemmas
+pub mod PrintedTextLemmas
+pub mod ReadBackLaws
+pub mod ReadLemmas
+pub mod ShortestBackLemmas
+pub mod ToldBackLemmas
+pub mod ToldLemmas
+pub mod VersionOneLaws
+pub mod WalkLemmas
+pub mod WalkStepLemmas
+pub mod WayLemmas
+pub mod WordLemmas

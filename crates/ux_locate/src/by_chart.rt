@@ -1,0 +1,148 @@
+//! The hits of any grammar, with contexts and cuts too.
+//!
+//! A chart of the text tells which contexts apply, and from which starts a derivation ends. Behind a cut
+//! a hit begins after its start, so hits from several starts may begin together: all are listed here,
+//! and what a policy keeps of them is chosen afterwards.
+
+ghost use Rattle.std.specs.Prelude.{◌≡◌, ◌<◌, ◌≤◌, ℕ, List, false, IfOk, OnOk, length};
+ghost use Rattle.ux_net.specs.Closings.{TellsClosings};
+ghost use Rattle.ux_net.specs.Marked.{IsMarked};
+ghost use Rattle.ux_outputs.specs.declared.event.Event.{Event};
+ghost use Rattle.ux_text_chart.specs.TextCharts.{IsTextChart, chart_setting};
+ghost use Rattle.ux_walk.specs.Noting.{Includes};
+ghost use Rattle.ux_walk.specs.Settings.{Derives};
+ghost use Rattle.ux_locate.specs.ByChart.{AsksChart, tells_in};
+ghost use Rattle.ux_locate.specs.Finding.{AreAllHits, AreKeptFor, BelongIn, IsHitAt, setting_in};
+
+use crate::from_start::best_hits;
+use crate::search::Search;
+use crate::walks::is_start;
+use std::alloc::Global;
+use std::sync::ledger::Ledger;
+use ux_base::{Mem, Policy, Steps};
+use ux_net::Edge;
+use ux_outputs::Hit;
+use ux_parts::Parts;
+use ux_text_chart::TextChart;
+use ux_walk::Contexts;
+use ux_walk::look_ups::LookUps;
+
+/// The contexts of a net, as the chart of a text tells them.
+#[derive(Drop)]
+pub struct ChartContexts<'a> {
+    /// The chart.
+    pub chart: &'a TextChart<'a>,
+}
+
+impl<'a> Contexts for ChartContexts<'a> {
+    ghost asks = { λ contexts. AsksChart contexts.chart.now };
+
+    ghost applies = { λ contexts. tells_in contexts.chart.now };
+
+    fn closers(&self, graph: u32, edge: &Edge, at: usize) -> &[u32] {
+        self.chart.closers(graph, edge, at)
+    }
+}
+
+/// The hits from all starts, in no order. Equal ones may stand there twice.
+pub fn all_hits<L: Ledger>(alloc: Global, search: &Search, steps: &mut Steps<L>) -> Mem<Vec<Hit>>
+    requires belongs { BelongIn search.now }
+    requires marked { IsMarked search.now.net.now }
+    requires told { TellsClosings search.now.net.now }
+    ensures { IfOk result (λ hits. AreAllHits search.now hits.items) }
+{
+    // The chart is let go at one place alone: each costs the prover a look at all of its parts.
+    let net = search.net;
+    let parts = Parts::of(alloc, net)?;
+    let (text, alphabet, applied) = (search.text, search.alphabet, search.applied);
+    let chart = TextChart::fill(alloc, net, parts, text, alphabet, applied, steps)?;
+    hits_by_chart(alloc, search, &chart, steps)
+}
+
+/// The same, by this chart.
+fn hits_by_chart<L: Ledger>(
+    alloc: Global,
+    search: &Search,
+    chart: &TextChart,
+    steps: &mut Steps<L>,
+) -> Mem<Vec<Hit>>
+    requires belongs { BelongIn search.now }
+    requires chart { IsTextChart chart.now }
+    requires made { chart_setting chart.now ≡ setting_in search.now }
+    ensures { IfOk result (λ hits. AreAllHits search.now hits.items) }
+{
+    let mut look_ups = LookUps::new(alloc);
+    hits_from_all(alloc, search, chart, &mut look_ups, steps)
+}
+
+/// The same, by this chart and these look-ups.
+fn hits_from_all<'t, L: Ledger>(
+    alloc: Global,
+    search: &Search<'t>,
+    chart: &TextChart,
+    look_ups: &mut LookUps<'t>,
+    steps: &mut Steps<L>,
+) -> Mem<Vec<Hit>>
+    requires belongs { BelongIn search.now }
+    requires chart { IsTextChart chart.now }
+    requires made { chart_setting chart.now ≡ setting_in search.now }
+    requires kept { AreKeptFor search.now look_ups.old }
+    ensures { IfOk result (λ hits. AreAllHits search.now hits.items) }
+{
+    let mut hits = Vec::new(alloc);
+    for start in 0..search.text.len() {
+        add_hits(alloc, search, chart, look_ups, start, &mut hits, steps)?;
+    }
+    Ok(hits)
+}
+
+/// Adds the hits from a position, if it is a start.
+fn add_hits<'t, L: Ledger>(
+    alloc: Global,
+    search: &Search<'t>,
+    chart: &TextChart,
+    look_ups: &mut LookUps<'t>,
+    start: usize,
+    hits: &mut Vec<Hit>,
+    steps: &mut Steps<L>,
+) -> Mem<()>
+    requires belongs { BelongIn search.now }
+    requires chart { IsTextChart chart.now }
+    requires made { chart_setting chart.now ≡ setting_in search.now }
+    requires kept { AreKeptFor search.now look_ups.old }
+    requires within { start < length search.now.text.now }
+    ensures kept { AreKeptFor search.now look_ups.new }
+    ensures hits { OnOk result
+        (Includes (IsHitAt search.now start) hits.old.items hits.new.items) }
+{
+    if !is_start(search.text, start) {
+        return Ok(());
+    }
+    if !may_derive(chart, start) {
+        return Ok(());
+    }
+    let contexts = ChartContexts { chart };
+    let mut found = best_hits(
+        alloc,
+        search,
+        Policy::All,
+        &contexts,
+        look_ups,
+        start,
+        steps,
+    )?;
+    hits.append(&mut found)?;
+    Ok(())
+}
+
+/// Whether a derivation from the position ends somewhere.
+fn may_derive(chart: &TextChart, start: usize) -> bool
+    requires chart { IsTextChart chart.now }
+    requires within { start ≤ length (chart_setting chart.now).tokens }
+    ensures { result ≡ false → (end : ℕ) (events : List Event) →
+        Derives (chart_setting chart.now) start end events → ⊥ }
+{
+    // A net has a main graph.
+    let _graphs = chart.basis.text.net.graphs();
+    !chart.ends(1, start).is_empty()
+}

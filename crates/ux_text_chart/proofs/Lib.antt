@@ -1,0 +1,5 @@
+pub mod SpansLemmas
+pub mod NetMasksLemmas
+pub mod MaskTableLemmas
+pub mod MaskedTextLemmas
+pub mod LikelyLemmas

@@ -1,0 +1,5 @@
+pub mod Spans
+pub mod MaskTables
+pub mod MaskedTexts
+pub mod Likely
+pub mod TextCharts
