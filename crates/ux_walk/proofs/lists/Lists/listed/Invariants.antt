@@ -1,6 +1,6 @@
 use Rattle.std.proofs.Common.{◌≡◌, ◌++◌, List}
 use Rattle.ux_walk.specs.Links.{Names}
-use Rattle.ux_walk.proofs.lists.Lists.spell.Given as goal
+use Rattle.ux_walk.proofs.lists.Lists.listed.Given as goal
 
 -- the list is what was read and what is left
 abbrev pub invariant-loop-link : goal.invariant-loop-link
