@@ -2,7 +2,6 @@ use Rattle.std.proofs.Common.{◌∙◌, List, [], ◌+◌, arith, sym, ap, subs
 use Rattle.std.proofs.lemmas.Bool.Decides.{Decides-eqb}
 use Rattle.std.proofs.lemmas.List.{nil_from_length}
 use Rattle.ux_tokens.specs.Tokens.{Token}
-use Rattle.ux_walk.proofs.ContextsLemmas.{none_told}
 use Rattle.ux_walk.specs.Ends.{AreEnds}
 use Rattle.ux_walk.specs.Settings.{Setting}
 use Rattle.ux_locate.specs.Finding.{IsFoundBefore, IsHitFrom, setting_in}
@@ -11,7 +10,7 @@ use Rattle.ux_locate.specs.Keeping.{AreKept, first_of, last_of}
 use Rattle.ux_locate.proofs.HitLemmas.{hit_begins, no_hits}
 use Rattle.ux_locate.proofs.KeepingLemmas.{told_reach}
 use Rattle.ux_locate.proofs.StartLemmas.{kept_all, kept_inside, kept_next, kept_skip, kept_start}
-use Rattle.ux_locate.proofs.by_walker.hits_from_starts.Goals as goal
+use Rattle.ux_locate.proofs.by_start.hits_from_starts.Goals as goal
 
 pub loop-start-init : goal.loop-start-init
 loop-start-init g c =
@@ -23,7 +22,7 @@ loop-start-init g c =
       hits = subst (AreKept search.policy first_of last_of (IsFoundBefore search.text.now From 0))
           (sym c.new-hits.ensures.items)
           (kept_start search.policy first_of last_of search.text.now From
-          (λ start. hit_begins search start c.requires.belongs c.requires.plain));
+          (λ start. hit_begins search start c.requires.belongs c.requires.uncut));
     }
 
 pub find_ends-requires : goal.find_ends-requires
@@ -31,9 +30,6 @@ find_ends-requires g c =
     let text = ap (λ (s : Setting). s.tokens) c.loop-start.invariant.same in
     subst (λ (tokens : List Token). IsStart tokens c.loop-start.start) (sym text)
     (c.may_find.ensures.starts c.if-not-may_find.false)
-
-pub best_hits-requires-clause-told : goal.best_hits-requires-clause-told
-best_hits-requires-clause-told g c = none_told (setting_in c.args.search.now) c.requires.plain
 
 pub loop-start-preserved-then-is_reached : goal.loop-start-preserved-then-is_reached
 loop-start-preserved-then-is_reached g c =
@@ -46,7 +42,7 @@ loop-start-preserved-then-is_reached g c =
       same = c.loop-start.invariant.same;
       kept = c.loop-start.invariant.kept;
       hits = kept_inside search.policy first_of last_of search.text.now (IsHitFrom search)
-          (λ start. hit_begins search start c.requires.belongs c.requires.plain)
+          (λ start. hit_begins search start c.requires.belongs c.requires.uncut)
           c.loop-start.start hits c.loop-start.invariant.hits (told.0 c.if-is_reached.true);
     }
 
@@ -58,7 +54,7 @@ loop-start-preserved-then-not-may_find g c =
       same = c.loop-start.invariant.same;
       kept = c.loop-start.invariant.kept;
       hits = kept_skip search.policy first_of last_of search.text.now (IsHitFrom search)
-          (λ start. hit_begins search start c.requires.belongs c.requires.plain)
+          (λ start. hit_begins search start c.requires.belongs c.requires.uncut)
           start c.loop-start.hits.items c.loop-start.invariant.hits
           (λ starts. no_hits search start c.requires.belongs
           (subst (λ (s : Setting). AreEnds s start []) c.loop-start.invariant.same
@@ -78,7 +74,7 @@ loop-start-preserved-then-is_empty g c =
       same = c.find_ends.ensures.same ∙ c.loop-start.invariant.same;
       kept = c.loop-start.invariant.kept;
       hits = kept_skip search.policy first_of last_of search.text.now (IsHitFrom search)
-          (λ start. hit_begins search start c.requires.belongs c.requires.plain)
+          (λ start. hit_begins search start c.requires.belongs c.requires.uncut)
           start c.loop-start.hits.items c.loop-start.invariant.hits
           (λ starts. no_hits search start c.requires.belongs
           (subst (AreEnds (setting_in search) start) none are) starts);
@@ -99,7 +95,7 @@ loop-start-preserved g c =
           (IsFoundBefore search.text.now (IsHitFrom search) (start + 1)))
           (sym c.in_ok-append.ensures.items)
           (kept_next search.policy first_of last_of search.text.now (IsHitFrom search)
-          (λ start. hit_begins search start c.requires.belongs c.requires.plain)
+          (λ start. hit_begins search start c.requires.belongs c.requires.uncut)
           start hits c.loop-start.invariant.hits (told.1 c.if-is_reached.false)
           (c.may_find.ensures.starts c.if-not-may_find.false)
           c.in_ok-best.best.items c.in_ok-best.ensures.best);
@@ -109,7 +105,7 @@ pub returns : goal.returns
 returns g c =
     let search = c.args.search.now in
     kept_all search.policy first_of last_of search.text.now (IsHitFrom search)
-    (λ start. hit_begins search start c.requires.belongs c.requires.plain)
+    (λ start. hit_begins search start c.requires.belongs c.requires.uncut)
     c.loop-start.start c.loop-start.hits.items
     (omega (arith, c.loop-start-test.false, c.len-start-end.ensures.len))
     c.loop-start.invariant.hits

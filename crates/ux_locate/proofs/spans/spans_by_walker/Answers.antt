@@ -3,7 +3,7 @@ use Rattle.std.specs.Prelude.{IfOk}
 use Rattle.ux_walk.specs.Settings.{Setting}
 use Rattle.ux_locate.specs.Finding.{IsFound, IsSpanFrom}
 use Rattle.ux_locate.specs.Keeping.{AreKept, first_in, last_in}
-use Rattle.ux_locate.proofs.spans.kept_spans.Goals as goal
+use Rattle.ux_locate.proofs.spans.spans_by_walker.Goals as goal
 
 pub returns : goal.returns
 returns g c =

@@ -1,5 +1,5 @@
 use Rattle.ux_tokens.specs.Numbers.{different_texts}
-use Rattle.ux_locate.proofs.by_walker.hits_by_walker.Goals as goal
+use Rattle.ux_locate.proofs.by_start.hits_by_ends.Goals as goal
 
 pub hits_from_starts-requires-clause-kept : goal.hits_from_starts-requires-clause-kept
 hits_from_starts-requires-clause-kept g c =
