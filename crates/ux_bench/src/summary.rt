@@ -59,7 +59,7 @@ fn text_of(alloc: Global, n: u32, alphabet: &Alphabet) -> Mem<Text>
 }
 
 /// How many hits there are, and the greatest number of tokens of one, with no step taken before. Where
-/// the grammar has neither contexts nor cuts, no text of a hit is copied.
+/// the grammar has no cuts, no text of a hit is copied.
 fn counts<L: Ledger>(
     alloc: Global,
     net: &Net,
@@ -78,7 +78,7 @@ fn counts<L: Ledger>(
         counts.0 counts.1) }
 {
     let mut steps = Steps::<L>::new(blank);
-    if net.is_plain() {
+    if net.cuts_nothing() {
         let spans = locate_spans(alloc, net, text, alphabet, applied, Policy::All, &mut steps)?;
         return Ok((spans.len(), longest_span(text, spans.as_slice())));
     }

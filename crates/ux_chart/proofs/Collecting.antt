@@ -1,5 +1,5 @@
 -- A list of items that takes in what each element of another list leads to.
-use Rattle.std.proofs.Common.{arith, ◌≡◌, ℕ, ◌+◌, ◌<◌, List, subst, ◌⊎◌, inl, inr, ◌↔◌, ◌≤◌, ◌∙◌, take, length, get_or}
+use Rattle.std.proofs.Common.{arith, ◌≡◌, ℕ, ◌+◌, ◌<◌, List, subst, ◌⊎◌, inl, inr, ◌↔◌, ◌≤◌, ◌∙◌, refl, take, length, get_or}
 use Rattle.std.specs.Prelude.{Contains}
 use Rattle.std.specs.List.{All}
 use Rattle.std.proofs.lemmas.List.{take_all}
@@ -68,3 +68,13 @@ module _ {S : Type 0} {E : Type 0} (Wanted : E → Type 0) (Leads : S → E → 
       IsCollected Wanted Leads old now same
   collected_whole old now all same i past is c =
       subst (λ (xs : List S). IsCollected Wanted Leads old now xs) (take_all i all past ∙ is) c
+
+  -- it is, and nothing is wanted but what the elements lead to
+  pub collected_each : (old now : List E) (all : List S) (i : ℕ) → length all ≤ i →
+      ((e : E) → Wanted e → (s : S) × Contains all s × Leads s e) →
+      IsCollected Wanted Leads old now (take i all) →
+      (e : E) → Contains now e ↔ (Contains old e ⊎ Wanted e)
+  collected_each old now all i past cases c =
+      collected_all old now now all (λ e. ⊥) (collected_whole old now all all i past refl c)
+      (λ e w. inr (cases e w)) (λ e h. absurd h)
+      (λ e. (λ h. inl h, λ h. elim h [ inl x ↦ x | inr x ↦ absurd x ]))

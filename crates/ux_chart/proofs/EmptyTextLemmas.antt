@@ -36,17 +36,17 @@ counts_more old new n is c =
     })
 
 -- all parts are listed
-pub all_likely : (input : Input) (last : ℕ) (net : List NetGraph) (parts : Parts) (count : ℕ)
+pub all_likely : (input : Input) (net : List NetGraph) (parts : Parts) (count : ℕ)
     (shown numbers : List ℕ) → shown ≡ numbers → CountsTo count numbers →
-    length parts.list ≤ count → AreLikely input net parts last (λ i. shown)
-all_likely input last net parts count shown numbers is c all =
+    length parts.list ≤ count → (i : ℕ) → AreLikely input net parts i shown
+all_likely input net parts count shown numbers is c all i =
     let len = c.len in
-    subst (λ (l : List ℕ). AreLikely input net parts last (λ i. l)) (sym is) (record {
-      ascends = λ i to k inside.
+    subst (λ (l : List ℕ). AreLikely input net parts i l) (sym is) (record {
+      ascends = λ k inside.
           let low = c.each k 0 (omega (arith, len, inside)) in
           let high = c.each (k + 1) 0 (omega (arith, len, inside)) in
           omega (arith, low, high);
-      whole = λ i number part to found some.
+      whole = λ number part found some.
           let w = slice_get_within parts.list number part found in (
             number,
             omega (arith, len, w, all),

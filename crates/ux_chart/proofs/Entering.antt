@@ -1,6 +1,6 @@
 -- What is entered from a configuration is done, and what the rows tell of it is right.
-use Rattle.std.proofs.Common.{arith, ◌≡◌, ℕ, zero, suc, ◌+◌, ◌-◌, ◌<◌, ◌≤◌, List, [], ◌∷◌, ◌↔◌, inl, inr, refl, sym, subst, ◌∙◌, length, get_or}
-use Rattle.std.specs.Prelude.{Contains, Option, Some, None, slice_get}
+use Rattle.std.proofs.Common.{arith, ◌≡◌, ℕ, zero, suc, ◌+◌, ◌-◌, ◌<◌, ◌≤◌, List, [], ◌∷◌, ◌↔◌, inl, inr, refl, sym, ap, subst, ◌∙◌, length, get_or}
+use Rattle.std.specs.Prelude.{Contains, Option, Some, None, slice_get, slice_range}
 use Rattle.std.proofs.lemmas.Option.{slice_get_within, slice_get-get_or, none-some}
 use Rattle.ux_net.specs.declared.label.Label.{Label}
 use Rattle.ux_net.specs.declared.state.Edge.{Edge}
@@ -17,11 +17,13 @@ use Rattle.ux_parts.specs.Ordered.{AreSingle, NeverRises}
 use Rattle.ux_chart.specs.declared.chart.Begun.{Begun}
 use Rattle.ux_chart.specs.declared.chart.Chart.{Chart}
 use Rattle.ux_chart.specs.declared.config.Config.{Config}
+use Rattle.ux_chart.specs.declared.table.Answer.{Answer}
 use Rattle.ux_chart.specs.declared.table.Stretch.{Stretch}
 use Rattle.ux_chart.specs.declared.table.Table.{Table}
 use Rattle.ux_chart.specs.Rows.{IsAnswer, IsWholeRow, IsFilled, IsRowAt, IsLaidOut, AreTold, AreRows}
 use Rattle.ux_chart.specs.Search.{IsReady}
-use Rattle.ux_chart.specs.Tables.{IsTable}
+use Rattle.ux_chart.specs.Tables.{IsTable, cut}
+use Rattle.ux_chart.proofs.Cuts.{cut_none}
 
 pub single : (net : List NetGraph) → AreSingle (net_grammar net)
 single net = record { single = λ g s step. (step.edge.label, step.label) }
@@ -74,6 +76,25 @@ laid_out input net parts chart table done = record {
   table_is = table;
   sorted = λ place row found. (done place row found).2.sorted;
 }
+
+-- a row without answers tells nothing
+pub told_empty : (parts : Parts) (table : Table) (row : Stretch) (g state : ℕ) →
+    row.from ≡ row.to → AreTold parts table row g state [] []
+told_empty parts table row g state same = record {
+  part = λ number is. record {
+    told_ends = λ answer h. absurd (none answer h.inside);
+    told_closers = λ answer h. absurd (none answer h.inside);
+    no_ends = λ never. refl;
+    no_closers = λ never. refl;
+  };
+  no_ends = λ is. refl;
+  no_closers = λ is. refl;
+}
+  where
+    none : (answer : Answer) → Contains (cut table.answers.items row) answer → ⊥
+    none answer h = nothing_in (subst (λ (l : List Answer). Contains l answer)
+        (ap (λ n. slice_range table.answers.items n row.to) same
+        ∙ cut_none table.answers.items row.to) h)
 
 -- no part begins at the state
 pub told_none : (parts : Parts) (table : Table) (row : Stretch) (g state : ℕ) →

@@ -14,7 +14,7 @@ use Rattle.ux_chart.specs.declared.chart.Chart.{Chart}
 use Rattle.ux_chart.specs.declared.table.Stretch.{Stretch}
 use Rattle.ux_chart.specs.declared.table.Answer.{Answer}
 use Rattle.ux_chart.specs.declared.table.Table.{Table}
-use Rattle.ux_chart.specs.Tables.{IsTable, HasAnswer, IsPut}
+use Rattle.ux_chart.specs.Tables.{IsTable, HasAnswer, IsPut, stretch_of}
 use Rattle.ux_chart.specs.Rows.{IsAnswer, IsRow, IsWholeRow, AreRows, AreBegun, IsFilled, IsChart, begun_at}
 use Rattle.ux_chart.specs.Likely.{ReachesSome, AreLikely}
 use Rattle.ux_chart.proofs.Cuts.{cut_none}
@@ -191,12 +191,11 @@ module _ (input : Input) (net : List NetGraph) (parts : Parts) where
     after = λ m h i. omega arith;
   }
 
-  module _ (last : ℕ) (likely_at : ℕ → List ℕ) (are : AreLikely input net parts last likely_at)
-      (at : ℕ) (inside : at ≤ last) where
+  module _ (at : ℕ) (likely : List ℕ) (are : AreLikely input net parts at likely) where
     -- up to the next listed part all are done
-    pub next_turn : (chart : Chart) (from n : ℕ) → n < length (likely_at at) →
-        IsBegun chart at from n (likely_at at) →
-        IsFilled input net parts chart (begun_at at (get_or (likely_at at) n 0) from
+    pub next_turn : (chart : Chart) (from n : ℕ) → n < length likely →
+        IsBegun chart at from n likely →
+        IsFilled input net parts chart (begun_at at (get_or likely n 0) from
         (length chart.table.answers.items))
     next_turn chart from n lt b =
         let f = b.filled in
@@ -206,32 +205,32 @@ module _ (input : Input) (net : List NetGraph) (parts : Parts) where
           done = f.done;
           begun_is = row_skips chart.table
               (record { from = from; to = length chart.table.answers.items }) at b.bound
-              (get_or (likely_at at) n 0) (b.after n (omega arith) lt)
+              (get_or likely n 0) (b.after n (omega arith) lt)
               (λ number part low high found. nothing_answers part at (λ some.
-              none_between (likely_at at) (are.ascends at inside) n b.bound number b.before low
-              (λ h. high) (are.whole at number part inside found some)))
+              none_between likely are.ascends n b.bound number b.before low
+              (λ h. high) (are.whole number part found some)))
               f.begun_is;
         }
 
-    -- the same, for the number and the end of the row that the search is given
-    pub turn : (chart : Chart) (from n number to : ℕ) (likely : List ℕ) → likely ≡ likely_at at →
-        n < length likely → number ≡ get_or likely n 0 → to ≡ length chart.table.answers.items →
-        IsBegun chart at from n (likely_at at) →
-        IsFilled input net parts chart (begun_at at number from to)
-    turn chart from n number to likely is lt number_is to_is b =
-        let len = ap length is in
-        let filled = next_turn chart from n (omega (arith, lt, len)) b in
-        subst (λ k. IsFilled input net parts chart (begun_at at k from to))
-        (sym (number_is ∙ ap (λ l. get_or l n 0) is))
-        (subst (λ t. IsFilled input net parts chart
-        (begun_at at (get_or (likely_at at) n 0) from t)) (sym to_is) filled)
+    -- the same, for the number and the row that the search is given
+    pub turn : (chart : Chart) (from n number : ℕ) (row : Stretch) →
+        n < length likely → number ≡ get_or likely n 0 →
+        row ≡ stretch_of from (length chart.table.answers.items) →
+        IsBegun chart at from n likely →
+        IsFilled input net parts chart (record { at = at; number = number; row = row })
+    turn chart from n number row lt number_is row_is b =
+        let filled = next_turn chart from n lt b in
+        subst (λ (r : Stretch). IsFilled input net parts chart
+        (record { at = at; number = number; row = r })) (sym row_is)
+        (subst (λ k. IsFilled input net parts chart
+        (begun_at at k from (length chart.table.answers.items))) (sym number_is) filled)
 
     -- the listed part is done
-    pub turn_over : (old new : Chart) (from n number : ℕ) → n < length (likely_at at) →
-        number ≡ get_or (likely_at at) n 0 → IsBegun old at from n (likely_at at) →
+    pub turn_over : (old new : Chart) (from n number : ℕ) → n < length likely →
+        number ≡ get_or likely n 0 → IsBegun old at from n likely →
         IsFilled input net parts new
         (begun_at at (number + 1) from (length new.table.answers.items)) →
-        IsBegun new at from (n + 1) (likely_at at)
+        IsBegun new at from (n + 1) likely
     turn_over old new from n number lt is b f = record {
       bound = number + 1;
       filled = f;
@@ -242,17 +241,17 @@ module _ (input : Input) (net : List NetGraph) (parts : Parts) where
             omega (arith, x, y, is)
         | inr k ↦
             let e : m ≡ n = omega arith in
-            let same = ap (λ j. get_or (likely_at at) j 0) e in
+            let same = ap (λ j. get_or likely j 0) e in
             omega (arith, same, is)
       ];
       after = λ m h i.
-          let r = rises (likely_at at) (are.ascends at inside) n m (omega arith) i in
+          let r = rises likely are.ascends n m (omega arith) i in
           omega (arith, r, is);
     }
 
     -- the list is over
-    pub row_over : (chart : Chart) (from n : ℕ) → length (likely_at at) ≤ n →
-        IsBegun chart at from n (likely_at at) →
+    pub row_over : (chart : Chart) (from n : ℕ) → length likely ≤ n →
+        IsBegun chart at from n likely →
         IsWholeRow input net parts chart.table
         (record { from = from; to = length chart.table.answers.items }) at
     row_over chart from n past b = (
@@ -261,8 +260,8 @@ module _ (input : Input) (net : List NetGraph) (parts : Parts) where
       row_skips chart.table (record { from = from; to = length chart.table.answers.items }) at
           b.bound (b.bound + length parts.list) (omega arith)
           (λ number part low high found. nothing_answers part at (λ some.
-          none_between (likely_at at) (are.ascends at inside) n b.bound number b.before low
-          (λ h. absurd (omega arith)) (are.whole at number part inside found some)))
+          none_between likely are.ascends n b.bound number b.before low
+          (λ h. absurd (omega arith)) (are.whole number part found some)))
           b.filled.begun_is,
     )
 

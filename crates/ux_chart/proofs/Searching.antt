@@ -1,10 +1,10 @@
 -- A list that grows at its end by what is new.
-use Rattle.std.proofs.Common.{◌≡◌, ℕ, zero, suc, ◌+◌, ◌<◌, ◌≤◌, List, [], ◌∷◌, ◌++◌, ◌↔◌, inl, inr, refl, sym, ap, subst, ◌∙◌, length, take, get_or, Bool, true, false, cond}
-use Rattle.std.specs.Prelude.{Contains, Some, slice_get}
+use Rattle.std.proofs.Common.{◌≡◌, ℕ, zero, suc, ◌+◌, ◌<◌, ◌≤◌, List, [], ◌∷◌, ◌++◌, ◌↔◌, ◌⊎◌, inl, inr, refl, sym, ap, subst, ◌∙◌, length, take, get_or, Bool, true, false, cond}
+use Rattle.std.specs.Prelude.{Contains, IfSome, None, Option, Some, slice_get}
 use Rattle.std.specs.Cmp.{IsEquivalence}
 use Rattle.std.specs.List.{list_any, IsDistinct}
 use Rattle.std.proofs.lemmas.Map.Made.{length-le_from_is_member, is_member-Decides}
-use Rattle.std.proofs.lemmas.Option.{same_Some, slice_get-get_or}
+use Rattle.std.proofs.lemmas.Option.{none-some, same_Some, slice_get-get_or}
 use Rattle.std.proofs.lemmas.List.{take_more}
 use Rattle.std.proofs.lemmas.List.Elements.{Contains-append_left, Contains-append_right, Contains-push, Contains-push_cases}
 use Rattle.indexmap.specs.IndexSet.{insert_key}
@@ -18,31 +18,80 @@ use Rattle.ux_meaning.specs.Inputs.{Input}
 use Rattle.ux_parts.specs.Runs.{NextBy}
 use Rattle.ux_chart.specs.declared.config.Config.{Config}
 use Rattle.ux_chart.specs.Search.{GoesTo, Adds}
-use Rattle.ux_chart.proofs.Collecting.{IsCollected, collected_whole, collected_all}
+use Rattle.ux_chart.specs.Places.{AreEnough, Follows, Refuses, SomeFollows, SomeFollowsAt}
+use Rattle.ux_net.specs.declared.label.Label.{Label}
+use Rattle.ux_net.specs.declared.label.Label.TheVariants as label
 use Rattle.ux_parts.proofs.Mapped.{contains_at}
 
--- all edges of the state were followed
-pub expanded : (input : Input) (net : List NetGraph) (levels g : ℕ) (v : Config) (state : State) →
-    Some state ≡ slice_get (states_of net g) v.state → (old found : List Config) → old ≡ [] →
-    (edges : List Edge) → edges ≡ state.edges → (i : ℕ) → length edges ≤ i →
-    IsCollected (λ (w : Config). GoesTo input net levels g v w)
-    (λ (edge : Edge) (w : Config). NextBy input (net_grammar net) levels g edge.label edge.target
-    v.at w.state w.at) old found (take i edges) →
-    (w : Config) → Contains found w ↔ GoesTo input net levels g v w
-expanded input net levels g v state here old found none edges is i past c w =
-    let all = collected_all _ _ old found found state.edges (λ (e : Config). ⊥)
-    (collected_whole _ _ old found edges state.edges i past is c)
-    (λ e t.
-    let same : t.state ≡ state = same_Some t.state state (sym t.found ∙ sym here) in
-    inr (t.edge, subst (λ (s : State). Contains s.edges t.edge) same t.inside, t.leads))
-    (λ e h. absurd h)
-    (λ e. (λ h. inl h, λ h. elim h [ inl x ↦ x | inr x ↦ absurd x ])) w in (
-      λ h. elim (all.0 h) [
-        | inl n ↦ absurd (nothing_in (subst (λ (l : List Config). Contains l w) none n))
-        | inr t ↦ t
-      ],
-      λ t. all.1 (inr t),
-    )
+-- what is so of a value that is there
+pub at_some : {A : Type 0} (o : Option A) (x : A) (P : A → Type 0) → o ≡ Some x → IfSome o P → P x
+at_some None x P is h = absurd (none-some x is)
+at_some (Some y) x P is h = subst P (same_Some y x is) h
+
+module _ (input : Input) (net : List NetGraph) (levels g : ℕ) (v : Config) (state : State)
+    (here : Some state ≡ slice_get (states_of net g) v.state) (edges : List Edge)
+    (is : edges ≡ state.edges) where
+  goes : (edge : Edge) → Contains edges edge → (w : Config) →
+      Follows input net levels g v edge w → GoesTo input net levels g v w
+  goes edge inside w follows = record {
+    state = state;
+    found = sym here;
+    edge = edge;
+    inside = subst (λ (l : List Edge). Contains l edge) is inside;
+    leads = follows;
+  }
+
+  goes_over : (w : Config) → (t : GoesTo input net levels g v w) → Contains edges t.edge
+  goes_over w t =
+      let same : t.state ≡ state = same_Some t.state state (sym t.found ∙ sym here) in
+      subst (λ (l : List Edge). Contains l t.edge) (sym is)
+      (subst (λ (s : State). Contains s.edges t.edge) same t.inside)
+
+  -- what is behind some edge is where the configuration goes to
+  pub expanded : (old found : List Config) → old ≡ [] →
+      ((w : Config) → Contains found w
+      ↔ (Contains old w ⊎ SomeFollows input net levels g v edges w)) →
+      (w : Config) → Contains found w ↔ GoesTo input net levels g v w
+  expanded old found none all w = (
+    λ h. elim ((all w).0 h) [
+      | inl n ↦ absurd (nothing_in (subst (λ (l : List Config). Contains l w) none n))
+      | inr (edge, inside, follows) ↦ goes edge inside w follows
+    ],
+    λ t. (all w).1 (inr (t.edge, goes_over w t, t.leads)),
+  )
+
+  -- a label that refuses leads nowhere
+  refuses_all : (x : Label) (i to b k : ℕ) → Refuses input x i →
+      NextBy input (net_grammar net) levels g x to i b k → ⊥
+  refuses_all (label.Fold text) i to b k refuses (same, inl t) = refuses k t
+  refuses_all (label.Fold text) i to b k refuses (same, inr s) = absurd s.2
+  refuses_all (label.Exact text) i to b k refuses (same, inl t) = refuses k t
+  refuses_all (label.Exact text) i to b k refuses (same, inr s) = absurd s.2
+  refuses_all x i to b k refuses next = absurd refuses
+
+  -- so it is where the places are enough
+  pub expanded_at : (places : List ℕ) → AreEnough input edges places v.at →
+      (old found : List Config) → old ≡ [] →
+      ((w : Config) → Contains found w
+      ↔ (Contains old w ⊎ SomeFollowsAt input net levels g v edges places w)) →
+      (w : Config) → Contains found w ↔ GoesTo input net levels g v w
+  expanded_at places enough old found none all w = (
+    λ h. elim ((all w).0 h) [
+      | inl n ↦ absurd (nothing_in (subst (λ (l : List Config). Contains l w) none n))
+      | inr (place, listed, over) ↦
+          goes over.0 (contains_at edges place over.0 over.1) w over.2
+    ],
+    λ t.
+        let inside = goes_over w t in
+        let place = inside.0 in
+        let there : slice_get edges place ≡ Some t.edge =
+        slice_get-get_or edges place t.edge inside.1 ∙ ap Some inside.2 in
+        elim (enough place t.edge there) [
+          | inl listed ↦ (all w).1 (inr (place, listed, (t.edge, there, t.leads)))
+          | inr refuses ↦ absurd (refuses_all t.edge.label v.at t.edge.target w.state w.at refuses
+              t.leads)
+        ],
+  )
 
 slice_get-append : {A : Type 0} (xs ys : List A) (i : ℕ) (x : A) → slice_get xs i ≡ Some x →
     slice_get (xs ++ ys) i ≡ Some x

@@ -1,5 +1,6 @@
 pub mod Tables
 pub mod Rows
 pub mod Likely
+pub mod Places
 pub mod Search
 pub mod EmptyTexts

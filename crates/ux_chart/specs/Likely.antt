@@ -1,6 +1,6 @@
 -- Which parts are worth a search at a position, and which labels an input is asked of. Public: the
 -- contract of the chart speaks of it.
-use Rattle.std.specs.Prelude.{◌≡◌, ℕ, ◌≤◌, ◌⊎◌, List, Some, slice_get, Contains}
+use Rattle.std.specs.Prelude.{◌≡◌, ℕ, ◌⊎◌, List, Some, slice_get, Contains}
 use Rattle.std.specs.List.Sorted.{IsStrictlyIncreasing}
 use Rattle.ux_net.specs.declared.net_graph.NetGraph.{NetGraph}
 use Rattle.ux_net.specs.declared.label.Label.{Label}
@@ -19,12 +19,12 @@ module _ (input : Input) (net : List NetGraph) (parts : Parts) where
       ((j : ℕ) × Ends input (net_grammar net) parts.levels part.graph part.first i j)
       ⊎ ((c : ℕ) × Closes input (net_grammar net) parts.levels part.graph part.first i c)
 
-  -- At each position up to the last, a list of numbers of parts, ascending. Each part that reaches
-  -- something from there is among them.
-  pub record AreLikely (last : ℕ) (likely : ℕ → List ℕ) : Type 0 where
-    pub ascends : (i : ℕ) → i ≤ last → IsStrictlyIncreasing (likely i)
-    pub whole : (i number : ℕ) (part : Part) → i ≤ last →
-        slice_get parts.list number ≡ Some part → ReachesSome part i → Contains (likely i) number
+  -- The numbers of parts, ascending. Each part that reaches something from position i is among
+  -- them.
+  pub record AreLikely (i : ℕ) (row : List ℕ) : Type 0 where
+    pub ascends : IsStrictlyIncreasing row
+    pub whole : (number : ℕ) (part : Part) → slice_get parts.list number ≡ Some part →
+        ReachesSome part i → Contains row number
 
 -- the input knows each label of the net
 abbrev pub AreKnown : (Label → Type 0) → List NetGraph → Type 0

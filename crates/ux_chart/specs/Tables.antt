@@ -5,6 +5,10 @@ use Rattle.ux_chart.specs.declared.table.Stretch.{Stretch}
 use Rattle.ux_chart.specs.declared.table.Answer.{Answer}
 use Rattle.ux_chart.specs.declared.table.Table.{Table}
 
+-- a stretch, by its ends
+abbrev pub stretch_of : (from to : ℕ) → Stretch
+stretch_of from to = record { from = from; to = to }
+
 -- what stands in the stretch
 abbrev pub cut : {A : Type 0} → List A → Stretch → List A
 cut items stretch = slice_range items stretch.from stretch.to

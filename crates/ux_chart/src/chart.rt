@@ -124,8 +124,15 @@ impl Chart {
             × IsRowAt self.now begun at row
             × AreTold parts.now self.now.table row graph state result.ends.now result.closers.now }
     {
+        let row = self.row_at(begun, at);
+        if row.from == row.to {
+            return Reached {
+                ends: &[],
+                closers: &[],
+            };
+        }
         match parts.number(graph, state) {
-            Some(number) => self.table.told(self.row_at(begun, at), number),
+            Some(number) => self.table.told(row, number),
             None => Reached {
                 ends: &[],
                 closers: &[],

@@ -13,7 +13,7 @@ use crate::basis::Basis;
 use crate::chart::Chart;
 use std::alloc::Global;
 use ux_base::{Lst, Mem};
-use ux_net::{Label, Net};
+use ux_net::{Edge, Label, Net};
 use ux_parts::Parts;
 
 /// The empty text: one position, from which no label takes anything. All parts are likely there.
@@ -27,8 +27,8 @@ impl EmptyText {
     /// The empty text, for a search of these parts.
     pub fn of(alloc: Global, parts: &Parts) -> Mem<EmptyText>
         requires { length parts.now.list < 2 ^ 32 }
-        ensures { IfOk result (λ text. (net : List NetGraph) →
-            AreLikely empty_input net parts.now 0 (λ i. text.numbers)) }
+        ensures { IfOk result (λ text. (net : List NetGraph) (i : ℕ) →
+            AreLikely empty_input net parts.now i text.numbers) }
     {
         let list = parts.list.as_slice();
         let count = list.len() as u32;
@@ -51,13 +51,15 @@ impl EmptyText {
 }
 
 impl Basis for EmptyText {
+    ghost use Rattle.std.specs.Prelude.{ℕ};
     ghost use Rattle.ux_chart.specs.EmptyTexts.{empty_input};
+    ghost use Rattle.ux_chart.specs.Likely.{AreLikely};
 
     ghost input = { λ text. empty_input };
 
     ghost last = { λ text. 0 };
 
-    ghost likely_at = { λ text i. text.numbers };
+    ghost serves = { λ text net parts. (i : ℕ) → AreLikely empty_input net parts i text.numbers };
 
     ghost knows = { λ text label. Unit {0} };
 
@@ -73,8 +75,21 @@ impl Basis for EmptyText {
         Ok(())
     }
 
-    fn likely(&self, at: usize) -> &[u32] {
-        self.numbers.as_slice()
+    fn likely(&self, net: &Net, parts: &Parts, at: usize, row: &mut Vec<u32>) -> Mem<()> {
+        row.clear();
+        row.extend_from_slice(self.numbers.as_slice())?;
+        Ok(())
+    }
+
+    fn places(
+        &self,
+        alloc: Global,
+        graph: u32,
+        state: u32,
+        edges: &[Edge],
+        at: usize,
+    ) -> Mem<Option<Vec<u32>>> {
+        Ok(None)
     }
 }
 

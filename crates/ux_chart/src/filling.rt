@@ -13,7 +13,7 @@ use crate::chart::{Begun, Chart};
 use crate::config::Config;
 use crate::gathering::{closers_in, ends_in, listed, listed_states};
 use crate::reaching::reach;
-use crate::table::{Stretch, Table};
+use crate::table::{Stretch, Table, between};
 use indexmap::IndexSet;
 use std::alloc::Global;
 use std::collections::BTreeSet;
@@ -31,13 +31,12 @@ struct Lists {
 impl Chart {
     /// The chart of a net over an input.
     ///
-    /// It holds what is found, and a stretch of two numbers a position. Each part that is likely at a
-    /// position is searched there once.
+    /// It holds what is found, and a stretch of two numbers of 32 bits a position. Each part that
+    /// is likely at a position is searched there once.
     pub fn fill<B: Basis>(alloc: Global, basis: &B, net: &Net, parts: &Parts) -> Mem<Chart>
         requires parts { ArePartsOf net.now parts.now }
         requires ahead { GoesAhead (B.input basis.now) (B.last basis.now) }
-        requires likely { AreLikely (B.input basis.now) net.now parts.now (B.last basis.now)
-            (B.likely_at basis.now) }
+        requires serves { B.serves basis.now net.now parts.now }
         requires known { AreKnown (B.knows basis.now) net.now }
         ensures { IfOk result (λ chart.
             IsChart (B.input basis.now) net.now parts.now (B.last basis.now) chart) }
@@ -71,8 +70,7 @@ fn fill_rows<B: Basis>(
 ) -> Mem<()>
     requires parts { ArePartsOf net.now parts.now }
     requires ahead { GoesAhead (B.input basis.now) (B.last basis.now) }
-    requires likely { AreLikely (B.input basis.now) net.now parts.now (B.last basis.now)
-        (B.likely_at basis.now) }
+    requires serves { B.serves basis.now net.now parts.now }
     requires known { AreKnown (B.knows basis.now) net.now }
     requires last { chart.old.last ≡ B.last basis.now }
     requires rows { chart.old.rows.items ≡ [] }
@@ -83,6 +81,7 @@ fn fill_rows<B: Basis>(
     let mut seen = IndexSet::new(alloc);
     let mut found = Vec::new(alloc);
     let mut positions = Vec::new(alloc);
+    let mut likely = Vec::new(alloc);
     'rows: while chart.rows.len() <= chart.last {
         let done = chart.rows.len();
         let at = chart.last - done;
@@ -93,6 +92,7 @@ fn fill_rows<B: Basis>(
             parts,
             chart,
             at,
+            &mut likely,
             &mut seen,
             &mut found,
             &mut positions,
@@ -110,14 +110,47 @@ fn fill_row<B: Basis>(
     parts: &Parts,
     chart: &mut Chart,
     at: usize,
+    likely: &mut Vec<u32>,
     seen: &mut IndexSet<Config>,
     found: &mut Vec<Config>,
     positions: &mut Vec<usize>,
 ) -> Mem<Stretch>
     requires parts { ArePartsOf net.now parts.now }
     requires ahead { GoesAhead (B.input basis.now) (B.last basis.now) }
-    requires likely { AreLikely (B.input basis.now) net.now parts.now (B.last basis.now)
-        (B.likely_at basis.now) }
+    requires serves { B.serves basis.now net.now parts.now }
+    requires known { AreKnown (B.knows basis.now) net.now }
+    requires last { chart.old.last ≡ B.last basis.now }
+    requires begun { AreBegun (B.input basis.now) net.now parts.now chart.old }
+    requires count { length chart.old.rows.items + at ≡ chart.old.last }
+    ensures same { chart.new.last ≡ chart.old.last }
+    ensures rows { chart.new.rows.items ≡ chart.old.rows.items }
+    ensures begun { OnOk result (AreBegun (B.input basis.now) net.now parts.now chart.new) }
+    ensures row { IfOk result (λ row.
+        IsWholeRow (B.input basis.now) net.now parts.now chart.new.table row at) }
+{
+    basis.likely(net, parts, at, likely)?;
+    fill_listed(
+        alloc, basis, net, parts, chart, at, likely, seen, found, positions,
+    )
+}
+
+/// Adds the answers of the listed parts at a position to the table. Returns its row.
+fn fill_listed<B: Basis>(
+    alloc: Global,
+    basis: &B,
+    net: &Net,
+    parts: &Parts,
+    chart: &mut Chart,
+    at: usize,
+    listed: &[u32],
+    seen: &mut IndexSet<Config>,
+    found: &mut Vec<Config>,
+    positions: &mut Vec<usize>,
+) -> Mem<Stretch>
+    requires parts { ArePartsOf net.now parts.now }
+    requires ahead { GoesAhead (B.input basis.now) (B.last basis.now) }
+    requires likely { AreLikely (B.input basis.now) net.now parts.now at listed.now }
+    requires serves { B.serves basis.now net.now parts.now }
     requires known { AreKnown (B.knows basis.now) net.now }
     requires last { chart.old.last ≡ B.last basis.now }
     requires begun { AreBegun (B.input basis.now) net.now parts.now chart.old }
@@ -129,19 +162,19 @@ fn fill_row<B: Basis>(
         IsWholeRow (B.input basis.now) net.now parts.now chart.new.table row at) }
 {
     let from = chart.table.answers.len();
-    for number in basis.likely(at) {
-        let end = chart.table.answers.len();
+    for number in listed {
+        let row = between(from, chart.table.answers.len())?;
         let begun = Begun {
             at,
             number: *number,
-            row: Stretch { from, to: end },
+            row,
         };
         fill_part(
             alloc, basis, net, parts, chart, begun, seen, found, positions,
         )?;
     }
-    let to = chart.table.answers.len();
-    Ok(Stretch { from, to })
+    let row = between(from, chart.table.answers.len())?;
+    Ok(row)
 }
 
 /// Adds the answer of the part whose turn it is, if there is such a part and it reaches something.
@@ -158,6 +191,7 @@ fn fill_part<B: Basis>(
 ) -> Mem<()>
     requires parts { ArePartsOf net.now parts.now }
     requires ahead { GoesAhead (B.input basis.now) chart.old.last }
+    requires serves { B.serves basis.now net.now parts.now }
     requires known { AreKnown (B.knows basis.now) net.now }
     requires last { B.last basis.now ≡ chart.old.last }
     requires filled { IsFilled (B.input basis.now) net.now parts.now chart.old begun }
@@ -207,6 +241,7 @@ fn search<B: Basis>(
 ) -> Mem<Lists>
     requires parts { ArePartsOf net.now parts.now }
     requires ahead { GoesAhead (B.input basis.now) chart.now.last }
+    requires serves { B.serves basis.now net.now parts.now }
     requires known { AreKnown (B.knows basis.now) net.now }
     requires last { B.last basis.now ≡ chart.now.last }
     requires filled { IsFilled (B.input basis.now) net.now parts.now chart.now begun }

@@ -36,6 +36,7 @@ pub fn reach<B: Basis>(
 ) -> Mem<()>
     requires parts { ArePartsOf net.now parts.now }
     requires ahead { GoesAhead (B.input basis.now) chart.now.last }
+    requires serves { B.serves basis.now net.now parts.now }
     requires known { AreKnown (B.knows basis.now) net.now }
     requires last { B.last basis.now ≡ chart.now.last }
     requires filled { IsFilled (B.input basis.now) net.now parts.now chart.now begun }
@@ -55,7 +56,7 @@ pub fn reach<B: Basis>(
         is_bounded(seen);
         let from = seen.as_slice()[next];
         expand(
-            basis, net, parts, chart, begun, part.graph, from, found, positions,
+            alloc, basis, net, parts, chart, begun, part.graph, from, found, positions,
         )?;
         add_all(seen, found.as_slice())?;
         next += 1;

@@ -1,19 +1,30 @@
 //! Answers in flat lists.
 
-ghost use Rattle.std.specs.Prelude.{◌≡◌, ℕ, ◌<◌, ◌≤◌, [], length, Contains, slice_index_or, OnOk, IfSome, IfNone};
-ghost use Rattle.ux_chart.specs.Tables.{cut, AscendByPart, IsStretchOf, IsTable, IsSorted, IsPushed, Tells};
+ghost use Rattle.std.specs.Prelude.{◌≡◌, ℕ, ◌<◌, ◌≤◌, [], length, Contains, slice_index_or, IfNone, IfOk, IfSome, OnOk};
+ghost use Rattle.ux_chart.specs.Tables.{cut, stretch_of, AscendByPart, IsStretchOf, IsTable, IsSorted, IsPushed, Tells};
 ghost use Rattle.ux_chart.specs.declared.table.Answer.{Answer};
 
 use std::alloc::Global;
-use ux_base::Mem;
+use ux_base::{Mem, NoMemory};
 
 /// A stretch of a list: from one place up to another.
 #[derive(Clone, Copy)]
 pub struct Stretch {
     /// The place of the first item.
-    pub from: usize,
+    pub from: u32,
     /// The place after the last item.
-    pub to: usize,
+    pub to: u32,
+}
+
+/// The stretch between two places. Where a list is too long for 32 bits to tell its places, it is
+/// out of memory.
+pub fn between(from: usize, to: usize) -> Mem<Stretch>
+    ensures { IfOk result (λ stretch. stretch ≡ stretch_of from to) }
+{
+    match (u32::try_from(from), u32::try_from(to)) {
+        (Ok(from), Ok(to)) => Ok(Stretch { from, to }),
+        _ => Err(NoMemory),
+    }
 }
 
 /// What a part reaches, as stretches of the lists of a table.
@@ -71,14 +82,8 @@ impl Table {
         self.closers.extend_from_slice(closers)?;
         self.answers.push(Answer {
             part,
-            ends: Stretch {
-                from: first_end,
-                to: self.ends.len(),
-            },
-            closers: Stretch {
-                from: first_closer,
-                to: self.closers.len(),
-            },
+            ends: between(first_end, self.ends.len())?,
+            closers: between(first_closer, self.closers.len())?,
         })?;
         Ok(())
     }
@@ -89,7 +94,7 @@ impl Table {
         requires row { IsSorted self.now row }
         ensures { Tells self.now row part result.ends.now result.closers.now }
     {
-        match find(&self.answers[row.from..row.to], part) {
+        match find(&self.answers[row.from as usize..row.to as usize], part) {
             Some(answer) => Reached {
                 ends: positions_in(&self.ends, answer.ends),
                 closers: states_in(&self.closers, answer.closers),
@@ -107,7 +112,7 @@ fn positions_in(positions: &[usize], stretch: Stretch) -> &[usize]
     requires { IsStretchOf (length positions.now) stretch }
     ensures { result.now ≡ cut positions.now stretch }
 {
-    &positions[stretch.from..stretch.to]
+    &positions[stretch.from as usize..stretch.to as usize]
 }
 
 /// The states in a stretch.
@@ -115,7 +120,7 @@ fn states_in(states: &[u32], stretch: Stretch) -> &[u32]
     requires { IsStretchOf (length states.now) stretch }
     ensures { result.now ≡ cut states.now stretch }
 {
-    &states[stretch.from..stretch.to]
+    &states[stretch.from as usize..stretch.to as usize]
 }
 
 /// The answer of the part, if there is one.

@@ -43,7 +43,7 @@ pub(crate) fn hits_of<L: Ledger>(
 {
     let mut steps = Steps::<L>::new(blank);
     match mode {
-        Mode::Ignore if net.is_plain() => {
+        Mode::Ignore if net.cuts_nothing() => {
             let spans = locate_spans(alloc, net, text, alphabet, applied, policy, &mut steps)?;
             hits_at(alloc, text, spans.as_slice())
         }

@@ -39,4 +39,4 @@ pub use content::is_content;
 pub use image::image_of;
 pub use laws::{code_decides_entry, code_makes_entry, content_decides_image, image_tells_content};
 pub use listing::{Listing, list_codes};
-pub use rebuilding::rebuild;
+pub use rebuilding::{lemma_of, rebuild};

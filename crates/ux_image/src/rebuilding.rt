@@ -32,8 +32,8 @@ pub fn rebuild(alloc: Global, form: &str, code: &Code) -> Mem<Option<Entry>>
     }))
 }
 
-/// The lemma that the pairs make of the form.
-fn lemma_of(alloc: Global, form: &str, pairs: &[Pair]) -> Mem<Txt>
+/// The lemma that the pairs make of the form. Takes a step a byte.
+pub fn lemma_of(alloc: Global, form: &str, pairs: &[Pair]) -> Mem<Txt>
     ensures { IfOk result (λ lemma. lemma ≡ rebuilt_lemma pairs.now form.now) }
 {
     let mut text = String::new(alloc);

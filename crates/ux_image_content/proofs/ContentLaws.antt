@@ -71,7 +71,7 @@ module _ (bytes : List ℕ) (x y : Image) (here : IsLayoutOf bytes x) (there : I
         in_lemma form code (subst (λ l. Contains l (form, code)) same_told told) more
 
 -- codes make one list of entries of their forms
-one_made : (told : List (List ℕ × Code)) (xs ys : List Entry) → AreRebuilt told xs →
+pub one_made : (told : List (List ℕ × Code)) (xs ys : List Entry) → AreRebuilt told xs →
     AreRebuilt told ys → xs ≡ ys
 one_made [] [] [] h k = refl
 one_made [] (x ∷ xs) ys h k = absurd h
@@ -95,7 +95,7 @@ earlier_strict listed x y mx my up down =
     omega (arith, low, high)
 
 -- and each once is one list
-one_different : (made x y : List Entry) → AreDifferent made x → AreDifferent made y → x ≡ y
+pub one_different : (made x y : List Entry) → AreDifferent made x → AreDifferent made y → x ≡ y
 one_different made x y h k =
     same_members (IsEarlier made) (Contains made) (earlier_strict made) x y
     (λ e. (

@@ -162,7 +162,7 @@ module _ (states : List State) (fit : AreStates states) where
       (sym next.2.1)
       (lower_before e.letter (next.0).letter (old.0).letters next.2.0 (up.0 next.0 next.1))))
 
-  forms_order : (n i : ℕ) → i < length states → AreInOrder (forms_from n states (there_at i))
+  pub forms_order : (n i : ℕ) → i < length states → AreInOrder (forms_from n states (there_at i))
   forms_order zero i inside = ending_order (there_at i).code
   forms_order (suc n) i inside =
       let is = fit i (there_at i) (slice_get-get_or states i bare inside) in

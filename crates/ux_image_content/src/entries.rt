@@ -55,7 +55,7 @@ fn codes_at(lists: &IndexSet<CodeList>, number: u32) -> &[Code]
 }
 
 /// The text of the letters.
-fn text_of(alloc: Global, letters: &[char]) -> Result<String, AllocError>
+pub fn text_of(alloc: Global, letters: &[char]) -> Result<String, AllocError>
     ensures { IfOk result (λ text. string_bytes text ≡ encode_utf8_all letters.now) }
 {
     let mut text = String::new(alloc);

@@ -13,9 +13,10 @@
 #![tactic(auto)]
 
 pub mod content;
-mod entries;
+pub mod entries;
 pub mod image;
 mod walk;
 
 pub use content::{entries_of, read_content};
+pub use entries::text_of;
 pub use image::read_image;

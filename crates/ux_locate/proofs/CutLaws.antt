@@ -5,7 +5,7 @@ use Rattle.ux_grf.specs.declared.item.Piece.TheVariants as pieces
 use Rattle.ux_net.specs.declared.label.Label.{Label}
 use Rattle.ux_net.specs.declared.label.Label.TheVariants as label
 use Rattle.ux_net.specs.declared.net_graph.NetGraph.{NetGraph}
-use Rattle.ux_net.specs.Nets.{ArePlain, IsPlain, net_graph, net_grammar, states_of}
+use Rattle.ux_net.specs.Nets.{CutNothing, CutsNothing, net_graph, net_grammar, states_of}
 use Rattle.ux_net.specs.Words.{Letter, Run, across, along, context, letters, piece, plain, put_by, stop}
 use Rattle.ux_outputs.specs.declared.event.Event.{Event}
 use Rattle.ux_outputs.specs.declared.event.Event.TheVariants.{Take, Put, Value, Begin, End, Cut}
@@ -35,7 +35,7 @@ pieces_uncut [] = tt
 pieces_uncut (part ∷ output) = (tt, pieces_uncut output)
 
 -- nor does a label that nets have
-label_uncut : (x : Label) → IsPlain x → HasNoCut (letters (x ∷ []))
+label_uncut : (x : Label) → CutsNothing x → HasNoCut (letters (x ∷ []))
 label_uncut label.Empty is = tt
 label_uncut label.Cut is = absurd is
 label_uncut other is = (tt, tt)
@@ -60,7 +60,7 @@ stays_uncut input (piece (pieces.Chars text)) p here t is = subst AreUncut (sym 
 stays_uncut input (piece (pieces.Value name)) p here t is = subst AreUncut (sym t) tt
 stays_uncut input other p here t is = absurd t
 
-module _ (net : List NetGraph) (are : ArePlain net) where
+module _ (net : List NetGraph) (are : CutNothing net) where
   -- the words of a net have no cut
   run_uncut : {g a b : ℕ} {word : List Letter} → Run g (net_graph (states_of net g)) a b word →
       HasNoCut word
@@ -89,7 +89,7 @@ module _ (net : List NetGraph) (are : ArePlain net) where
     word_uncut (refused r s) uncut = word_uncut s uncut.1
 
 -- no derivation cuts anything off
-pub derivation_uncut : (setting : Setting) → ArePlain setting.net → (start end : ℕ)
+pub derivation_uncut : (setting : Setting) → CutNothing setting.net → (start end : ℕ)
     (events : List Event) → Derives setting start end events → AreUncut events
 derivation_uncut setting are start end events derives =
     let input = applied_text setting.alphabet setting.tokens setting.tables in

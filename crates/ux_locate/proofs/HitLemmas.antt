@@ -4,7 +4,7 @@ use Rattle.std.specs.Prelude.{◌↔◌, Contains, None}
 use Rattle.std.proofs.lemmas.Option.{same_Some, none-some}
 use Rattle.std.proofs.lemmas.List.Elements.{Contains-append_left, Contains-push, Contains-push_cases}
 use Rattle.ux_base.specs.declared.settings.Policy.{Policy}
-use Rattle.ux_net.specs.Nets.{ArePlain, net_grammar}
+use Rattle.ux_net.specs.Nets.{CutNothing, net_grammar}
 use Rattle.ux_outputs.specs.declared.event.Event.{Event}
 use Rattle.ux_outputs.specs.declared.hit.Hit.{Hit}
 use Rattle.ux_outputs.specs.Rendering.{render}
@@ -63,12 +63,12 @@ module _ (search : Search) (start : ℕ) where
       )) best are
 
   -- a hit from a start begins there
-  pub hit_begins : BelongIn search → ArePlain search.net.now → IsStart search.text.now start →
+  pub hit_begins : BelongIn search → CutNothing search.net.now → IsStart search.text.now start →
       (hit : Hit) → IsHitFrom search start hit → first_of hit ≡ start
-  hit_begins belongs plain starts hit (end, events, derives, rendered) =
+  hit_begins belongs uncut starts hit (end, events, derives, rendered) =
       let follow = followed (setting_in search) belongs start end events starts derives in
       renders_from_start search.text.now search.novar start starts search.mode end events hit
-      follow.0 (derivation_uncut (setting_in search) plain start end events derives) rendered
+      follow.0 (derivation_uncut (setting_in search) uncut start end events derives) rendered
 
   -- where no derivation ends after the start, no hit comes from it
   pub no_hits : BelongIn search → AreEnds (setting_in search) start [] →

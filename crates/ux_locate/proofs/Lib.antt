@@ -1,3 +1,4 @@
+pub mod AfterLemmas
 pub mod BeginLemmas
 pub mod BestLemmas
 pub mod ByChartLemmas

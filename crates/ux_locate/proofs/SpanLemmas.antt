@@ -10,7 +10,7 @@ use Rattle.ux_base.specs.declared.settings.Policy.{Policy}
 use Rattle.ux_base.specs.declared.settings.Policy.TheVariants.{Shortest, Longest}
 use Rattle.ux_base.specs.declared.settings.Policy.TheVariants as policies
 use Rattle.ux_apply.specs.Belonging.{Belongs}
-use Rattle.ux_net.specs.Nets.{ArePlain, net_grammar}
+use Rattle.ux_net.specs.Nets.{CutNothing, net_grammar}
 use Rattle.ux_outputs.specs.declared.hit.Hit.{Hit}
 use Rattle.ux_outputs.specs.declared.span.Span.{Span}
 use Rattle.ux_outputs.specs.Rendering.{text_between}
@@ -107,7 +107,7 @@ pub span_begins : (setting : Setting) (start : ℕ) → IsStart setting.tokens s
 span_begins setting start starts span f = ap (λ (s : Span). s.first) f.2
 
 module _ (setting : Setting) (belongs : Belongs setting.alphabet setting.tokens setting.tables)
-    (plain : ArePlain setting.net) where
+    (uncut : CutNothing setting.net) where
   -- a span comes from some start
   abbrev IsSpan : Span → Type 0
   IsSpan span = IsFound setting.tokens (IsSpanFrom setting) span
@@ -140,7 +140,7 @@ module _ (setting : Setting) (belongs : Belongs setting.alphabet setting.tokens 
         rendered =
             let follow = followed setting belongs start end events starts derives in
             renders_uncut setting.tokens novar start end events starts follow.0 lt
-            (derivation_uncut setting plain start end events derives)
+            (derivation_uncut setting uncut start end events derives)
             ∙ ap Some (between_is start end novar lt);
       })
 
@@ -152,7 +152,7 @@ module _ (setting : Setting) (belongs : Belongs setting.alphabet setting.tokens 
       let lt = ends_after setting belongs h.start h.end h.events h.starts h.derived Ignore novar hit
       h.rendered in
       let is = renders_uncut setting.tokens novar h.start h.end h.events h.starts follow.0 lt
-      (derivation_uncut setting plain h.start h.end h.events h.derived) in
+      (derivation_uncut setting uncut h.start h.end h.events h.derived) in
       let same : hit ≡ hit_between setting.tokens novar h.start h.end =
       same_Some hit (hit_between setting.tokens novar h.start h.end) (sym h.rendered ∙ is) in (
         span_to h.start h.end,

@@ -7,11 +7,13 @@
 //! A policy keeps all hits, or of those with the same first token the longest or the shortest, one after
 //! the other through the text (`specs/Policies.antt`). `keep` does that with any hits.
 //!
-//! `locate` renders the derivations from each start at which one ends (`from_start`). A net with neither
-//! contexts nor cuts it searches by walks from start to start (`by_walker`), any other by a chart of the
-//! text (`by_chart`). Where outputs are ignored `locate_spans` lists the hits of such a plain net by
-//! their first and last token (`spans`), and `span_index` takes their texts from the corpus as it writes:
-//! a text of millions of hits needs no copy of each. `walks` alone speaks of the walker.
+//! `locate` renders the derivations from each start at which one ends (`from_start`). A net without cuts
+//! it searches from start to start (`by_start`); behind a cut a hit begins after its start, so all hits
+//! of a net with cuts are listed before some are kept (`by_chart`). Where outputs are ignored
+//! `locate_spans` lists the hits of a net without cuts by their first and last token (`spans`), and
+//! `span_index` takes their texts from the corpus as it writes: a text of millions of hits needs no copy
+//! of each. Where derivations end is told by walks, or by a chart of the text where the net has contexts
+//! or its calls stand for too many states for walks (`ends`, `expanding`).
 //!
 //! ```text
 //! let (mode, novar, policy) = (Mode::Merge, NoVar::Nothing, Policy::Longest);
@@ -22,7 +24,9 @@
 
 mod best;
 mod by_chart;
-mod by_walker;
+mod by_start;
+mod ends;
+mod expanding;
 mod from_start;
 mod index;
 mod keeping;

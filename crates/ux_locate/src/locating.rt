@@ -1,6 +1,6 @@
 //! The hits of a grammar in a text that a policy keeps, with their texts.
 //!
-//! A grammar without contexts and cuts is searched start by start (`by_walker`), any other by a chart
+//! A grammar without cuts is searched start by start (`by_start`); of any other all hits are listed first
 //! (`by_chart`). The hits are put in order at the end, each once: several derivations may render the
 //! same one.
 
@@ -13,7 +13,7 @@ ghost use Rattle.ux_locate.specs.Index.{IsKeptListing};
 ghost use Rattle.ux_locate.specs.Searchable.{IsSearchable};
 
 use crate::by_chart::all_hits;
-use crate::by_walker::kept_hits;
+use crate::by_start::kept_hits;
 use crate::keeping::keep;
 use crate::search::Search;
 use crate::sorting::sort_hits;
@@ -28,11 +28,12 @@ use ux_tokens::Text;
 
 /// The hits that the policy keeps, each once, by first token, last token and the bytes of the text.
 ///
-/// Of a grammar without contexts and cuts, a start inside a kept hit costs nothing but with
-/// `Policy::All`, which keeps all hits. From a start at which no derivation ends after it, it takes no
-/// more than a walk that lists no events. Where outputs are ignored `locate_spans` gives the same hits
-/// without their texts, and goes by such walks alone. Any other grammar costs a chart of the text, and
-/// all hits are listed before some are kept.
+/// Of a grammar without cuts, a start inside a kept hit costs nothing but with `Policy::All`, which keeps
+/// all hits. From a start at which no derivation ends after it, it takes no more than a walk that lists no
+/// events; or a look into a chart of the text, which is filled first where the grammar has contexts or its
+/// calls multiply. Where outputs are ignored `locate_spans` gives the same hits without their texts, and
+/// goes by these alone. A grammar with cuts costs a chart of the
+/// text, and all hits are listed before some are kept.
 pub fn locate<L: Ledger>(
     alloc: Global,
     net: &Net,
@@ -69,7 +70,7 @@ fn listed_hits<L: Ledger>(alloc: Global, search: &Search, steps: &mut Steps<L>) 
     ensures { IfOk result (λ hits. IsKeptListing search.now.policy
         (IsFound search.now.text.now (IsHitFrom search.now)) hits.items) }
 {
-    if search.net.is_plain() {
+    if search.net.cuts_nothing() {
         let mut hits = kept_hits(alloc, search, steps)?;
         sort_hits(&mut hits);
         return Ok(hits);

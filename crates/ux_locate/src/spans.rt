@@ -1,22 +1,26 @@
 //! The hits by their first and last token, as long as outputs are ignored.
 //!
-//! The net has neither contexts nor cuts, so every derivation renders exactly the tokens up to its
-//! end, and each end is a hit. A walk's ends come in order, so the policy keeps the last or the first of
-//! them, and starts inside a kept hit aren't walked from. No text is copied, and none is kept.
+//! The net has no cuts, so every derivation renders exactly the tokens up to its end, and each end is a
+//! hit. Ends come in order, so the policy keeps the last or the first of them, and starts inside a kept
+//! hit are passed over. No text is copied, and none is kept.
 
 ghost use Rattle.std.specs.Prelude.{◌≡◌, ◌<◌, ◌++◌, ℕ, All, Contains, IfOk, OnOk, map};
 ghost use Rattle.ux_base.specs.declared.settings.Mode.TheVariants.{Ignore};
 ghost use Rattle.ux_base.specs.declared.settings.NoVar.{NoVar};
 ghost use Rattle.ux_apply.specs.Belonging.{Belongs};
-ghost use Rattle.ux_net.specs.Nets.{ArePlain, net_grammar};
+ghost use Rattle.ux_net.specs.Nets.{ArePlain, CutNothing, net_grammar};
+ghost use Rattle.ux_text_chart.specs.TextCharts.{IsTextChart, chart_setting};
 ghost use Rattle.ux_walk.specs.Settings.{setting_of};
 ghost use Rattle.ux_locate.specs.Finding.{IsFound, IsSpanFrom, span_to};
 ghost use Rattle.ux_locate.specs.Hits.{IsHit};
 ghost use Rattle.ux_locate.specs.Index.{IsKeptListing};
 ghost use Rattle.ux_locate.specs.Keeping.{AreKept, first_in, last_in};
+ghost use Rattle.ux_locate.specs.Searchable.{IsSearchable};
 ghost use Rattle.ux_locate.specs.Spans.{LiesIn, hit_at};
 
 use crate::best::best_ends;
+use crate::ends::{ChartEnds, Ends};
+use crate::expanding::suits_walks;
 use crate::keeping::{is_reached, spans_reach};
 use crate::sorting::sort_spans;
 use crate::walks::{find_ends, may_find};
@@ -27,12 +31,14 @@ use ux_apply::Applied;
 use ux_base::{Mem, Policy, Steps};
 use ux_net::Net;
 use ux_outputs::Span;
+use ux_parts::Parts;
+use ux_text_chart::TextChart;
 use ux_tokens::Text;
 use ux_walker::Walker;
 
-/// The spans of the hits of a net without contexts and cuts that the policy keeps where outputs are
-/// ignored, each once and in order. The text of such a hit is that of its tokens. Takes no memory for texts, and no walk from a start inside a
-/// kept hit, but with `Policy::All`, which keeps all hits.
+/// The spans of the hits of a net without cuts that the policy keeps where outputs are ignored, each once
+/// and in order. The text of such a hit is that of its tokens. Takes no memory for texts, and nothing for
+/// a start inside a kept hit, but with `Policy::All`, which keeps all hits.
 pub fn locate_spans<L: Ledger>(
     alloc: Global,
     net: &Net,
@@ -43,7 +49,8 @@ pub fn locate_spans<L: Ledger>(
     steps: &mut Steps<L>,
 ) -> Mem<Vec<Span>>
     requires belongs { Belongs alphabet.now text.now applied.now }
-    requires plain { ArePlain net.now }
+    requires uncut { CutNothing net.now }
+    requires searchable { IsSearchable net.now }
     ensures listing { IfOk result (λ spans. (novar : NoVar) → IsKeptListing policy
         (IsHit alphabet.now text.now applied.now (net_grammar net.now) Ignore novar)
         (map (hit_at text.now) spans.items)) }
@@ -54,8 +61,30 @@ pub fn locate_spans<L: Ledger>(
     Ok(spans)
 }
 
-/// The spans that are kept, in the order in which they are found.
+/// The spans that are kept, in the order in which they are found. Walks tell the ends,
+/// where they suit the net, otherwise a chart does.
 fn kept_spans<L: Ledger>(
+    alloc: Global,
+    net: &Net,
+    text: &Text,
+    alphabet: &Alphabet,
+    applied: &Applied,
+    policy: Policy,
+    steps: &mut Steps<L>,
+) -> Mem<Vec<Span>>
+    requires belongs { Belongs alphabet.now text.now applied.now }
+    requires searchable { IsSearchable net.now }
+    ensures { IfOk result (λ spans. AreKept policy first_in last_in (IsFound text.now
+        (IsSpanFrom (setting_of net.now text.now alphabet.now applied.now))) spans.items) }
+{
+    if suits_walks(alloc, net)? {
+        return spans_by_walker(alloc, net, text, alphabet, applied, policy, steps);
+    }
+    spans_by_chart(alloc, net, text, alphabet, applied, policy, steps)
+}
+
+/// The same, by a walker.
+fn spans_by_walker<L: Ledger>(
     alloc: Global,
     net: &Net,
     text: &Text,
@@ -74,17 +103,54 @@ fn kept_spans<L: Ledger>(
     spans_from_starts(alloc, policy, text, &mut walker, steps)
 }
 
-/// The same, by this walker.
-fn spans_from_starts<L: Ledger>(
+/// The same, by a chart.
+fn spans_by_chart<L: Ledger>(
+    alloc: Global,
+    net: &Net,
+    text: &Text,
+    alphabet: &Alphabet,
+    applied: &Applied,
+    policy: Policy,
+    steps: &mut Steps<L>,
+) -> Mem<Vec<Span>>
+    requires belongs { Belongs alphabet.now text.now applied.now }
+    requires searchable { IsSearchable net.now }
+    ensures { IfOk result (λ spans. AreKept policy first_in last_in (IsFound text.now
+        (IsSpanFrom (setting_of net.now text.now alphabet.now applied.now))) spans.items) }
+{
+    // So is the chart.
+    let parts = Parts::of(alloc, net)?;
+    let chart = TextChart::fill(alloc, net, parts, text, alphabet, applied, steps)?;
+    spans_in_chart(alloc, policy, text, &chart, steps)
+}
+
+/// The same, by this chart.
+fn spans_in_chart<L: Ledger>(
     alloc: Global,
     policy: Policy,
     text: &Text,
-    walker: &mut Walker,
+    chart: &TextChart,
     steps: &mut Steps<L>,
 ) -> Mem<Vec<Span>>
-    requires { walker.now.tokens ≡ text.now }
+    requires chart { IsTextChart chart.now }
+    requires made { (chart_setting chart.now).tokens ≡ text.now }
     ensures { IfOk result (λ spans. AreKept policy first_in last_in
-        (IsFound text.now (IsSpanFrom walker.old)) spans.items) }
+        (IsFound text.now (IsSpanFrom (chart_setting chart.now))) spans.items) }
+{
+    spans_from_starts(alloc, policy, text, &mut ChartEnds::of(chart), steps)
+}
+
+/// The same, by what tells the ends.
+fn spans_from_starts<E: Ends, L: Ledger>(
+    alloc: Global,
+    policy: Policy,
+    text: &Text,
+    finder: &mut E,
+    steps: &mut Steps<L>,
+) -> Mem<Vec<Span>>
+    requires { (E.setting finder.now).tokens ≡ text.now }
+    ensures { IfOk result (λ spans. AreKept policy first_in last_in
+        (IsFound text.now (IsSpanFrom (E.setting finder.old))) spans.items) }
 {
     let mut ends = Vec::new(alloc);
     let mut spans = Vec::new(alloc);
@@ -92,10 +158,10 @@ fn spans_from_starts<L: Ledger>(
         if is_reached(policy, spans_reach(spans.as_slice()), start) {
             continue;
         }
-        if !may_find(walker, text, start) {
+        if !may_find(finder, text, start) {
             continue;
         }
-        find_ends(alloc, walker, start, &mut ends, steps)?;
+        find_ends(alloc, finder, start, &mut ends, steps)?;
         push_spans(start, best_ends(policy, ends.as_slice()), &mut spans)?;
     }
     Ok(spans)

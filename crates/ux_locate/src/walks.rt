@@ -1,27 +1,27 @@
-//! Walks from the starts of a search, as far as they tell where derivations end.
+//! From which starts there may be hits, and where derivations from them end.
 
 ghost use Rattle.std.specs.Prelude.{◌≡◌, ◌<◌, ◌↔◌, [], true, false, IsTrue, OnOk, length};
 ghost use Rattle.ux_walk.specs.Ends.{AreEnds};
 ghost use Rattle.ux_locate.specs.Hits.{IsStart};
 
+use crate::ends::Ends;
 use std::alloc::Global;
 use std::sync::ledger::Ledger;
 use ux_base::{Mem, Steps};
 use ux_tokens::{Kind, Text};
-use ux_walker::Walker;
 
-/// Whether a search begins at the position, and a walk from there may come to an end.
-pub fn may_find(walker: &Walker, text: &Text, position: usize) -> bool
-    requires made { walker.now.tokens ≡ text.now }
+/// Whether a search begins at the position, and a derivation from there may end.
+pub fn may_find<E: Ends>(finder: &E, text: &Text, position: usize) -> bool
+    requires made { (E.setting finder.now).tokens ≡ text.now }
     requires within { position < length text.now }
     ensures starts { result ≡ true → IsStart text.now position }
     ensures nothing { result ≡ false → IsStart text.now position →
-        AreEnds walker.now position [] }
+        AreEnds (E.setting finder.now) position [] }
 {
     if !is_start(text, position) {
         return false;
     }
-    walker.may_begin(position)
+    finder.may_end(position)
 }
 
 /// Whether a search begins at the position: no space stands there.
@@ -33,16 +33,16 @@ pub fn is_start(text: &Text, position: usize) -> bool
 }
 
 /// Lets `ends` be the positions after the start at which a derivation from it ends, in order.
-pub fn find_ends<L: Ledger>(
+pub fn find_ends<E: Ends, L: Ledger>(
     alloc: Global,
-    walker: &mut Walker,
+    finder: &mut E,
     start: usize,
     ends: &mut Vec<usize>,
     steps: &mut Steps<L>,
 ) -> Mem<()>
-    requires { IsStart walker.now.tokens start }
-    ensures same { walker.new ≡ walker.old }
-    ensures ends { OnOk result (AreEnds walker.old start ends.new.items) }
+    requires { IsStart (E.setting finder.now).tokens start }
+    ensures same { E.setting finder.new ≡ E.setting finder.old }
+    ensures ends { OnOk result (AreEnds (E.setting finder.old) start ends.new.items) }
 {
-    walker.ends_from(alloc, start, ends, steps)
+    finder.list(alloc, start, ends, steps)
 }

@@ -9,12 +9,12 @@ use Rattle.ux_net.specs.declared.place.Place.{Place}
 use Rattle.ux_net.specs.Words.{stop}
 use Rattle.ux_net.specs.Places.{places_of, place_grammar}
 use Rattle.ux_net.specs.Fit.{IsFit}
-use Rattle.ux_net.specs.Admissible.{none, LeadsFreely, MovesFreely, IsUnit, Enters, EntersInTurns, once, IsOnEmptyLoop, IsLeftRecursive}
+use Rattle.ux_net.specs.Admissible.{none, LeadsFreely, MovesFreely, IsOnMove, in_front, IsUnit, Enters, EntersInTurns, once, IsOnEmptyLoop, IsLeftRecursive}
 use Rattle.ux_net.specs.Numbers.{number_of}
 use Rattle.ux_net.specs.Ways.{IsFreeEdge, IsEntryEdge}
 use Rattle.ux_net.specs.Cycles.{AreFreeEdges, AreAllEdges, IsLoopStep, IsEntryStep, AreOpened}
 use Rattle.ux_net.proofs.NumbersLemmas.{same_place, place_so, number_below, graph_so}
-use Rattle.ux_net.proofs.FreeLemmas.{leads_joined, move_leads, Moves, rest, move, leads_moves}
+use Rattle.ux_net.proofs.FreeLemmas.{leads_joined, move_of, move_leads, Moves, rest, move, leads_moves}
 use Rattle.ux_net.proofs.StepsLemmas.{step_inside}
 use Rattle.ux_net.proofs.UnitsLemmas.{move_inside, entered_inside, entered_unit, loop_unit}
 
@@ -66,21 +66,23 @@ edge_leads graphs u v f = move_leads (place_grammar graphs) f.graph f.moves
 
 module _ (graphs : List (List Place)) (fit : All (IsFit (length graphs)) graphs) where
   -- a move with a run back that may take nothing is a loop
-  pub loop_at : AreOpened graphs → (g : ℕ) {a b : ℕ} →
-      MovesFreely (place_grammar graphs) g a b → LeadsFreely (place_grammar graphs) g b a →
-      IsOnEmptyLoop (place_grammar graphs) g a
-  loop_at opened g {a = a} {b = b} m back =
+  pub loop_at : AreOpened graphs → (g : ℕ) {node a b : ℕ} →
+      IsOnMove (place_grammar graphs) g node a b → LeadsFreely (place_grammar graphs) g b a →
+      IsOnEmptyLoop (place_grammar graphs) g node
+  loop_at opened g {a = a} {b = b} on back =
+      let m = move_of (place_grammar graphs) g on in
       let inside = (move_inside graphs g m).0 in
       let fit_here = graph_so (IsFit (length graphs)) graphs fit g a inside in
       let unit = loop_unit graphs opened g (length graphs) fit_here m back in
       record {
+        from = a;
+        next = b;
+        moves = on;
+        back = back;
         first = unit.first;
         unit = unit.unit;
         word = unit.word;
         reached = unit.run;
-        next = b;
-        moves = m;
-        back = back;
       }
 
   module _ (edges : List (List ℕ)) (free_edges : AreFreeEdges graphs edges) where
@@ -111,7 +113,7 @@ module _ (graphs : List (List Place)) (fit : All (IsFit (length graphs)) graphs)
           omega (arith, f.to, free_edges.len);
     }
 
-    -- a node is on an empty loop exactly where a move from it stays in its component
+    -- a node is on an empty loop exactly where it is on a move that stays in its component
     pub loop_exactly : AreOpened graphs → (numbers : List ℕ) → AreComponents edges numbers →
         (g node : ℕ) →
         IsOnEmptyLoop (place_grammar graphs) g node ↔ IsLoopStep graphs numbers g node
@@ -119,29 +121,31 @@ module _ (graphs : List (List Place)) (fit : All (IsFit (length graphs)) graphs)
       where
         forth : IsOnEmptyLoop (place_grammar graphs) g node → IsLoopStep graphs numbers g node
         forth o =
-            let u = number_of graphs g node in
+            let m = move_of (place_grammar graphs) g o.moves in
+            let u = number_of graphs g o.from in
             let v = number_of graphs g o.next in
             record {
+              source = o.from;
               target = o.next;
               moves = o.moves;
               same = circular edges numbers components u v
-                  ((free_edges.edge u v).1 (free_edge graphs g o.moves))
-                  (leads_reaches graphs edges (λ u v f. (free_edges.edge u v).1 f) g o.next node
+                  ((free_edges.edge u v).1 (free_edge graphs g m))
+                  (leads_reaches graphs edges (λ u v f. (free_edges.edge u v).1 f) g o.next o.from
                   o.back);
             }
 
         back : IsLoopStep graphs numbers g node → IsOnEmptyLoop (place_grammar graphs) g node
         back l =
-            let inside = move_inside graphs g l.moves in
-            let from = number_below graphs g node inside.0 in
+            let inside = move_inside graphs g (move_of (place_grammar graphs) g l.moves) in
+            let from = number_below graphs g l.source inside.0 in
             let to = number_below graphs g l.target inside.1 in
             let len = free_edges.len in
-            let u = number_of graphs g node in
+            let u = number_of graphs g l.source in
             let v = number_of graphs g l.target in
             let there =
             leads_back edges numbers components u v (omega arith) (omega arith) l.same in
             loop_at opened g l.moves
-            (reaches_leads there g g l.target node inside.1 inside.0 refl refl).1
+            (reaches_leads there g g l.target l.source inside.1 inside.0 refl refl).1
 
   module _ (edges : List (List ℕ)) (all_edges : AreAllEdges graphs edges) where
     pub all_inside : IsInside edges
@@ -377,7 +381,8 @@ module _ (graphs : List (List Place)) (fit : All (IsFit (length graphs)) graphs)
         free_apart u v f r =
             let inside = move_inside graphs f.graph f.moves in
             elim (cut r f.graph f.graph f.target f.source inside.1 inside.0 f.to f.from) [
-              | inl back ↦ no_loop f.graph f.source (loop_at opened f.graph f.moves back.1)
+              | inl back ↦
+                  no_loop f.graph f.source (loop_at opened f.graph (in_front f.moves) back.1)
               | inr c ↦ entry_apart c.0 c.1 c.2
                   (reaches_joined edges c.4 (step ((all_edges.edge u v).1 (inl f)) c.3))
             ]

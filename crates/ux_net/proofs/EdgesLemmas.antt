@@ -11,12 +11,12 @@ use Rattle.ux_net.specs.declared.spot.Spot.{Spot}
 use Rattle.ux_net.specs.Words.{Step, letters}
 use Rattle.ux_net.specs.Places.{places_of, place_grammar, IsPlaceStep}
 use Rattle.ux_net.specs.Fit.{IsFit}
-use Rattle.ux_net.specs.Admissible.{IsFree, none, MovesFreely, along_step, over_context, EntersAt, by_call, by_opening}
+use Rattle.ux_net.specs.Admissible.{IsFree, none, MovesFreely, along_step, over_context, IsOnMove, in_front, at_opening, EntersAt, by_call, by_opening}
 use Rattle.ux_net.specs.Numbers.{number_of, all_places}
-use Rattle.ux_net.specs.Ways.{Passes, IsWay, AreWays, AreFreeMarks, LeadsOn, IsOpen, entered_by, IsFreeEdge, IsEntryEdge, way_at}
+use Rattle.ux_net.specs.Ways.{Passes, IsWay, AreWays, AreFreeMarks, LeadsOn, IsOpen, entered_by, opened_by, IsFreeEdge, IsEntryEdge, way_at}
 use Rattle.ux_net.specs.Cycles.{IsLoopStep, IsEntryStep, AreFreeEdges, AreAllEdges}
 use Rattle.ux_net.specs.Gains.{Gains, SoOfOne}
-use Rattle.ux_net.specs.Spots.{IsFreePair, IsEntryPair, IsLoopSpot, IsEntrySpot}
+use Rattle.ux_net.specs.Spots.{IsFreePair, IsEntryPair, IsSpotOn, IsLoopSpot, IsEntrySpot}
 use Rattle.ux_net.proofs.FreeLemmas.{free_silent, call_nullable}
 use Rattle.ux_net.proofs.StepsLemmas.{step_inside, step_line, step_cases, start_inside, call_alone}
 use Rattle.ux_net.proofs.NumbersLemmas.{number_below}
@@ -29,7 +29,7 @@ open_on : (marks : List Bool) (passage : Passage) → IsOpen marks passage → L
 open_on marks Silent o = tt
 open_on marks (Calls start) o = tt
 open_on marks Opens o = o
-open_on marks Jumps o = tt
+open_on marks (Jumps opening) o = tt
 
 module _ (graphs : List (List Place)) (fit : All (IsFit (length graphs)) graphs)
     (ways : List Way) (are : AreWays graphs ways) where
@@ -68,7 +68,7 @@ module _ (graphs : List (List Place)) (fit : All (IsFit (length graphs)) graphs)
       )
     ]
     moves_open g (over_context {closing = c} sign s i m closes) =
-        (Jumps, is_way graphs fit g s i c Jumps ((sign, m), closes), tt)
+        (Jumps s.to, is_way graphs fit g s i c (Jumps s.to) (refl, (sign, m), closes), tt)
 
     pub free_pairs : (u v : ℕ) → SoOfOne ways (IsFreePair marks) (u, v) ↔ IsFreeEdge graphs u v
     free_pairs u v = (
@@ -97,6 +97,54 @@ module _ (graphs : List (List Place)) (fit : All (IsFit (length graphs)) graphs)
           ),
     )
 
+    -- what a way opens is the target of its step, which opens a context
+    opens_at : (g : ℕ) (s : Step) → IsPlaceStep (places_of graphs g) s → (c node : ℕ)
+        (passage : Passage) → Passes graphs g s.to s.labels c passage →
+        opened_by passage ≡ Some node → IsOnMove (place_grammar graphs) g node s.from c
+    opens_at g s i c node Silent p e = absurd (cc)
+    opens_at g s i c node (Calls start) p e = absurd (cc)
+    opens_at g s i c node Opens p e = absurd (cc)
+    opens_at g s i c node (Jumps opening) p e =
+        let same : opening ≡ node = cc in
+        subst (λ n. IsOnMove (place_grammar graphs) g n s.from c) (sym p.0 ∙ same)
+        (at_opening p.1.0 s i p.1.1 p.2)
+
+    -- a spot on an open way is a node on its move
+    spot_on : (way : Way) → IsWay graphs way → IsOpen marks way.passage → (spot : Spot) →
+        IsSpotOn way spot →
+        (spot.graph ≡ way.graph)
+        × IsOnMove (place_grammar graphs) way.graph spot.node way.source way.target
+    spot_on way w opened spot (inl e) = (
+      ap (λ (z : Spot). z.graph) (sym e),
+      subst (λ (z : Spot).
+          IsOnMove (place_grammar graphs) way.graph z.node way.source way.target) e
+          (in_front (open_moves way w opened)),
+    )
+    spot_on way w opened spot (inr o) = (
+      ap (λ (z : Spot). z.graph) (sym o.2),
+      subst (λ (z : Spot).
+          IsOnMove (place_grammar graphs) way.graph z.node way.source way.target) o.2
+          (subst (λ n. IsOnMove (place_grammar graphs) way.graph o.0 n way.target)
+          (sym w.along.source)
+          (opens_at way.graph w.step w.of_graph way.target o.0 way.passage w.along.passes o.1)),
+    )
+
+    -- a node on a move is a spot on an open way
+    abbrev SpotWay : (spot : Spot) (a c : ℕ) → Type 0
+    SpotWay spot a c = (passage : Passage)
+        × IsWay graphs (way_at graphs spot.graph a c passage) × IsOpen marks passage
+        × IsSpotOn (way_at graphs spot.graph a c passage) spot
+
+    on_spot : (g : ℕ) {node a c : ℕ} → IsOnMove (place_grammar graphs) g node a c →
+        SpotWay (record { graph = g; node = node }) a c
+    on_spot g (in_front m) = let o = moves_open g m in (o.0, o.1, o.2, inl refl)
+    on_spot g (at_opening {closing = c} sign s i m closes) = (
+      Jumps s.to,
+      is_way graphs fit g s i c (Jumps s.to) (refl, (sign, m), closes),
+      tt,
+      inr (s.to, refl, refl),
+    )
+
     pub loop_spots : (numbers : List ℕ) (spot : Spot) →
         SoOfOne ways (IsLoopSpot marks numbers) spot ↔
         IsLoopStep graphs numbers spot.graph spot.node
@@ -104,17 +152,19 @@ module _ (graphs : List (List Place)) (fit : All (IsFit (length graphs)) graphs)
       λ s.
           let way = s.0 in
           let w = (are.exact way).0 s.1 in
-          subst (λ (z : Spot). IsLoopStep graphs numbers z.graph z.node) s.2.2 (record {
+          let on = spot_on way w s.2.0 spot s.2.2 in
+          subst (λ g. IsLoopStep graphs numbers g spot.node) (sym on.0) (record {
+            source = way.source;
             target = way.target;
-            moves = open_moves way w s.2.0;
+            moves = on.1;
             same = ap (λ n. get_or numbers n 0) (sym (w.along.from
                 ∙ ap (λ n. number_of graphs way.graph n) (sym w.along.source)))
                 ∙ (s.2.1 ∙ ap (λ n. get_or numbers n 0) w.along.to);
           }),
       λ l.
-          let o = moves_open spot.graph l.moves in
-          let way = way_at graphs spot.graph spot.node l.target o.0 in
-          (way, (are.exact way).1 o.1, (o.2, l.same, refl)),
+          let o = on_spot spot.graph l.moves in
+          let way = way_at graphs spot.graph l.source l.target o.0 in
+          (way, (are.exact way).1 o.1, (o.2, l.same, o.3)),
     )
 
   -- a way that enters a unit is a step that does
@@ -137,7 +187,7 @@ module _ (graphs : List (List Place)) (fit : All (IsFit (length graphs)) graphs)
         sym same ∙ (at ∙ ap (λ n. number_of graphs g n) p.0),
         p.0,
       )
-  passes_enter g s c to start Jumps p at e = absurd (cc)
+  passes_enter g s c to start (Jumps opening) p at e = absurd (cc)
 
   -- a step that enters a unit is a way that does
   abbrev EnteringWay : (g : ℕ) (s : Step) (h v : ℕ) → Type 0

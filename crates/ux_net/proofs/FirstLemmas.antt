@@ -20,7 +20,7 @@ use Rattle.ux_net.proofs.CyclesLemmas.{loop_exactly, recursion_exactly}
 use Rattle.ux_net.proofs.EdgesLemmas.{loop_spots, entry_spots}
 use Rattle.ux_net.proofs.NumbersLemmas.{graph_inside, graph_so}
 use Rattle.ux_net.proofs.StepsLemmas.{step_inside}
-use Rattle.ux_net.proofs.UnitsLemmas.{move_inside}
+use Rattle.ux_net.proofs.UnitsLemmas.{on_inside}
 use Rattle.ux_net.proofs.SpotsLemmas.{least_first}
 
 module _ (graphs : List (List Place)) (fit : All (IsFit (length graphs)) graphs)
@@ -56,20 +56,23 @@ module _ (graphs : List (List Place)) (fit : All (IsFit (length graphs)) graphs)
 -- The node of a refusal is a place, of a graph that is there, and has 32 bits.
 module _ (graphs : List (List Place))
     (few : All (λ (places : List Place). length places ≤ 65535) graphs) where
-  abbrev pub IsThere : (g node : ℕ) → Type 0
-  IsThere g node = (g ≤ length graphs) × (node < 4294967296)
+  pub record IsThere (g node : ℕ) : Type 0 where
+    pub from : 1 ≤ g
+    pub to : g ≤ length graphs
+    pub narrow : node < 4294967296
 
   place_there : (g node : ℕ) → node < length (places_of graphs g) → IsThere g node
   place_there g node inside =
       let most = graph_so (λ (places : List Place). length places ≤ 65535) graphs few g node
       inside in
-      ((graph_inside graphs g node inside).1, omega (arith, inside, most))
+      let there = graph_inside graphs g node inside in
+      record { from = there.0; to = there.1; narrow = omega (arith, inside, most) }
 
   pub loop_there : (error : AdmissionError) (g node : ℕ) → error ≡ EmptyLoop g node →
       IsRefusal graphs error → IsThere g node
   loop_there error g node is cause =
       let first = subst (IsRefusal graphs) is cause in
-      place_there g node (move_inside graphs g first.here.moves).0
+      place_there g node (on_inside graphs g first.here.moves)
 
   pub recursion_there : (error : AdmissionError) (g node : ℕ) → error ≡ LeftRecursion g node →
       IsRefusal graphs error → IsThere g node

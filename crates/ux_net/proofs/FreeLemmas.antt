@@ -7,7 +7,7 @@ use Rattle.ux_net.specs.declared.label.Label.{Label}
 use Rattle.ux_net.specs.declared.label.Label.TheVariants.{Empty, Fold, Exact, Mask, Brace, Space, Glue, Begin, End, Positive, Negative, ContextEnd, Cut, Call}
 use Rattle.ux_net.specs.Words.{Sign, Step, StepGraph, Grammar, Letter, plain, piece, context, ordinary, opens, mark_of, Run, stop, along, across, letters, put_by, IsBody}
 use Rattle.ux_net.specs.Construct.{is_call}
-use Rattle.ux_net.specs.Admissible.{IsSilent, IsFree, none, silent, call, IsNullable, LeadsFreely, MovesFreely, along_step, over_context}
+use Rattle.ux_net.specs.Admissible.{IsSilent, IsFree, none, silent, call, IsNullable, LeadsFreely, MovesFreely, along_step, over_context, IsOnMove, in_front, at_opening}
 use Rattle.ux_net.specs.Silent.{is_silent, are_silent}
 
 module _ (grammar : Grammar) where
@@ -185,6 +185,11 @@ module _ (grammar : Grammar) where
       LeadsFreely grammar g a c
   leads_joined g p q =
       (p.0 ++ q.0, run_joined g (grammar.graph g) p.1 q.1, free_append grammar p.2 q.2)
+
+  -- the move that a node is on
+  pub move_of : (g : ℕ) {node a b : ℕ} → IsOnMove grammar g node a b → MovesFreely grammar g a b
+  move_of g (in_front m) = m
+  move_of g (at_opening sign s i m closes) = over_context sign s i m closes
 
   -- a move is a run that may take nothing
   pub move_leads : (g : ℕ) {a b : ℕ} → MovesFreely grammar g a b → LeadsFreely grammar g a b

@@ -35,6 +35,9 @@ pub mod RefineLemmas
 pub mod StatesLemmas
 pub mod ConstructLaw
 pub mod RanksLemmas
+pub mod RankFalls
+pub mod StateRanks
+pub mod EdgeFalls
 pub mod MeasuredLaw
 pub mod ClosingsLemmas
 pub mod ClosingsLaw
@@ -55,4 +58,4 @@ pub mod LinkPaths
 pub mod CircularLemmas
 pub mod NegativeRecursionExamples
 pub mod AdmissibleExamples
-pub mod PlainLaw
+pub mod LabelLaws

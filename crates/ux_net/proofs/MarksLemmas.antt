@@ -62,7 +62,7 @@ module _ (graphs : List (List Place)) (fit : All (IsFit (length graphs)) graphs)
       (nullable_call (place_grammar graphs) p.1.0
       (ends_nullable p.1.0 (ends p.1.0 p.1.1 (ap (λ n. Calls n) p.1.2))))))
   passes_move g s i c Opens p on ends = absurd on
-  passes_move g s i c Jumps p on ends = over_context p.0.0 s i p.0.1 p.1
+  passes_move g s i c (Jumps opening) p on ends = over_context p.1.0 s i p.1.1 p.2
 
   -- a way leads to a place
   pub way_inside : (g : ℕ) (s : Step) → IsPlaceStep (places_of graphs g) s → (c : ℕ)
@@ -74,7 +74,7 @@ module _ (graphs : List (List Place)) (fit : All (IsFit (length graphs)) graphs)
       (step_inside (places_of graphs g) s i).1
   way_inside g s i c Opens p = subst (λ n. n < length (places_of graphs g)) (sym p.0)
       (step_inside (places_of graphs g) s i).1
-  way_inside g s i c Jumps p = closer_inside graphs g s.to c p.1
+  way_inside g s i c (Jumps opening) p = closer_inside graphs g s.to c p.2
 
   -- what leads freely to an end does so behind a move
   pub moved_ends : (g : ℕ) {a b : ℕ} → MovesFreely (place_grammar graphs) g a b →
@@ -172,7 +172,8 @@ module _ (graphs : List (List Place)) (fit : All (IsFit (length graphs)) graphs)
     run_derived g (across {body = body} {word = word} sign s t i m r j n later) p ends =
         let rest = pass_parts (put_by s) (context sign g s.to t.to ∷ word) p in
         let derived = run_derived g later rest.1.1 ends in
-        by_way g s i t.to Jumps (
+        by_way g s i t.to (Jumps s.to) (
+          refl,
           (sign, m),
           (body, record { step = t; inside = j; closed = n; after = refl; run = r }),
         ) tt derived derived
@@ -250,7 +251,7 @@ module _ (graphs : List (List Place)) (fit : All (IsFit (length graphs)) graphs)
             let b = number_below graphs p.1.0 0 (start_inside graphs fit g p.1.0 s i p.1.1) in
             omega (arith, p.1.2)
         second_below g s i c to Opens p l = l
-        second_below g s i c to Jumps p l = l
+        second_below g s i c to (Jumps opening) p l = l
 
 -- the rules that are made of the ways are those of the ways
 pub rules_by_ways : (graphs : List (List Place)) (ways : List Way) → AreWays graphs ways →

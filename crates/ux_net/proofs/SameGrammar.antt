@@ -3,7 +3,7 @@
 use Rattle.std.proofs.Common.{◌≡◌, ℕ, List, subst, sym, ◌∙◌, inl, inr}
 use Rattle.ux_net.specs.Words.{Step, StepGraph, Grammar, Letter, Run, stop, along, across, IsWord, IsBody, IsRenumbered, same_plain, same_piece, same_context, AreRenumbered, SayTheSame}
 use Rattle.ux_net.specs.Closers.{ClosesInto}
-use Rattle.ux_net.specs.Admissible.{IsFree, none, silent, call, LeadsFreely, MovesFreely, along_step, over_context, IsUnit, EntersAt, by_call, by_opening, Enters, EntersInTurns, once, more, IsOnEmptyLoop, IsLeftRecursive, IsAdmissible, IsFirst}
+use Rattle.ux_net.specs.Admissible.{IsFree, none, silent, call, LeadsFreely, MovesFreely, along_step, over_context, IsOnMove, in_front, at_opening, IsUnit, EntersAt, by_call, by_opening, Enters, EntersInTurns, once, more, IsOnEmptyLoop, IsLeftRecursive, IsAdmissible, IsFirst}
 
 -- the second graph starts where the first does, and has its places, ends and steps
 pub record IsWithin (old new : StepGraph) : Type 0 where
@@ -70,6 +70,11 @@ module _ (old new : Grammar) (within : (g : ℕ) → IsWithin (old.graph g) (new
   move_within g (over_context {closing = c} sign s i m b) =
       over_context sign s ((within g).steps s i) m (closes_within g s.to c b)
 
+  on_within : (g : ℕ) {node a b : ℕ} → IsOnMove old g node a b → IsOnMove new g node a b
+  on_within g (in_front m) = in_front (move_within g m)
+  on_within g (at_opening {closing = c} sign s i m b) =
+      at_opening sign s ((within g).steps s i) m (closes_within g s.to c b)
+
   entry_within : (g : ℕ) (s : Step) {h v : ℕ} → EntersAt old g s h v → EntersAt new g s h v
   entry_within g s (by_call {h = h} front back e f) =
       subst (λ v. EntersAt new g s h v) (sym (within h).start)
@@ -93,13 +98,14 @@ module _ (old new : Grammar) (within : (g : ℕ) → IsWithin (old.graph g) (new
 
   pub loop_within : (g node : ℕ) → IsOnEmptyLoop old g node → IsOnEmptyLoop new g node
   loop_within g node o = record {
+    from = o.from;
+    next = o.next;
+    moves = on_within g o.moves;
+    back = leads_within g o.next o.from o.back;
     first = o.first;
     unit = unit_within g o.first o.unit;
     word = o.word;
     reached = run_within g (old.graph g) (new.graph g) (within g) o.reached;
-    next = o.next;
-    moves = move_within g o.moves;
-    back = leads_within g o.next node o.back;
   }
 
   pub recursion_within : (g node : ℕ) → IsLeftRecursive old g node → IsLeftRecursive new g node

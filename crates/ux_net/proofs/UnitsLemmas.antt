@@ -10,7 +10,7 @@ use Rattle.ux_net.specs.declared.label.Label.{Label}
 use Rattle.ux_net.specs.declared.place.Place.{Place}
 use Rattle.ux_net.specs.Words.{Sign, Step, Letter, Mark, ordinary, opens, closes, mark_of, Run, stop, along, across}
 use Rattle.ux_net.specs.Places.{places_of, place_graph, place_grammar, place_output, place_targets, label_lines, is_reached, IsPlaceStep}
-use Rattle.ux_net.specs.Admissible.{IsUnit, MovesFreely, along_step, over_context, LeadsFreely, EntersAt, by_call, by_opening}
+use Rattle.ux_net.specs.Admissible.{IsUnit, MovesFreely, along_step, over_context, IsOnMove, in_front, at_opening, LeadsFreely, EntersAt, by_call, by_opening}
 use Rattle.ux_net.specs.Cycles.{AreOpened}
 use Rattle.ux_net.specs.Fit.{IsFit, place_ways}
 use Rattle.ux_net.proofs.FreeLemmas.{run_joined, one_step}
@@ -49,6 +49,12 @@ pub move_inside : (graphs : List (List Place)) (g : ℕ) {a b : ℕ} →
 move_inside graphs g (along_step s i f) = step_inside (places_of graphs g) s i
 move_inside graphs g (over_context {closing = c} sign s i m body) =
     ((step_inside (places_of graphs g) s i).0, closer_inside graphs g s.to c body)
+
+-- a node on a move is a place
+pub on_inside : (graphs : List (List Place)) (g : ℕ) {node a b : ℕ} →
+    IsOnMove (place_grammar graphs) g node a b → node < length (places_of graphs g)
+on_inside graphs g (in_front m) = (move_inside graphs g m).0
+on_inside graphs g (at_opening sign s i m body) = (step_inside (places_of graphs g) s i).1
 
 -- the first place of a unit that a step enters is a place
 pub entered_inside : (graphs : List (List Place)) → All (IsFit (length graphs)) graphs → (g : ℕ)

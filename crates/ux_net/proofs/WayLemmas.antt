@@ -111,7 +111,7 @@ module _ (before after : List Way) (step : Way) (line : List Label) (graphs : Li
           same_as (Calls (get_or offsets (h - 1) 0)) way along q.0
           (ap (λ n. Calls n) (offset ∙ (ap (λ k. number_of graphs k 0) same ∙ sym q.1.2)) ∙ p)
       by way along Opens p q = absurd (call_opens_not line h e q.1)
-      by way along Jumps p q = absurd (call_opens_not line h e q.0)
+      by way along (Jumps opening) p q = absurd (call_opens_not line h e q.1)
 
   -- a line that opens a context has a way into it, and one over it to each place where it is closed
   pub gains_context : (closers : List ℕ) → IsOpening line →
@@ -135,7 +135,7 @@ module _ (before after : List Way) (step : Way) (line : List Label) (graphs : Li
             source = refl;
             from = from;
             to = based j.0;
-            passes = (o, (exact j.0).0 j.1);
+            passes = (refl, o, (exact j.0).0 j.1);
           })
         ],
         λ along. by way along way.passage refl along.passes,
@@ -149,9 +149,10 @@ module _ (before after : List Way) (step : Way) (line : List Label) (graphs : Li
       by way along Silent p q = absurd (silent_opens_not graphs line q.1 o)
       by way along (Calls start) p q = absurd (call_opens_not line q.1.0 q.1.1 o)
       by way along Opens p q = inl (same_as Opens way along q.0 p)
-      by way along Jumps p q = inr (
+      by way along (Jumps opening) p q = inr (
         way.target,
-        (exact way.target).1 q.1,
-        way_same (jump_to step (step.to - step.target) way.target) way Jumps (sym along.graph)
-            (sym along.source) refl (from ∙ sym along.from) (based way.target ∙ sym along.to) p,
+        (exact way.target).1 q.2,
+        way_same (jump_to step (step.to - step.target) way.target) way (Jumps step.target)
+            (sym along.graph) (sym along.source) refl (from ∙ sym along.from)
+            (based way.target ∙ sym along.to) (ap (λ n. Jumps n) (sym q.0) ∙ p),
       )

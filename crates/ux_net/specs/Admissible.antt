@@ -39,6 +39,14 @@ module _ (grammar : Grammar) where
         mark_of s.labels ≡ opens sign → ClosesInto grammar g s.to closing →
         MovesFreely g s.from closing
 
+  -- A node on such a move: the place from which it leads, and of a context also the place into
+  -- which it opens. The other places of the context's body aren't on it.
+  pub data IsOnMove (g : ℕ) : (node from to : ℕ) → Type 0 where
+    in_front : {from to : ℕ} → MovesFreely g from to → IsOnMove g from from to
+    at_opening : {closing : ℕ} (sign : Sign) (s : Step) → (grammar.graph g).IsStep s →
+        mark_of s.labels ≡ opens sign → ClosesInto grammar g s.to closing →
+        IsOnMove g s.to s.from closing
+
   -- A unit is a graph, told by its number and its start, or the body of a context, told by its graph
   -- and the place after its opening step.
   abbrev pub IsUnit : (g first : ℕ) → Type 0
@@ -65,16 +73,18 @@ module _ (grammar : Grammar) where
     more : {g u h v k w node : ℕ} → Enters g u h v node → EntersInTurns h v k w →
         EntersInTurns g u k w
 
-  -- A run that may take nothing, and has a step, leads from the place back. A run from the first place
-  -- of some unit of the graph reaches it.
+  -- A loop that takes nothing has the node on it: the node is on a move, and a run that may take
+  -- nothing leads from the move's end to its beginning. A run from the first place of some unit of
+  -- the graph reaches that beginning.
   pub record IsOnEmptyLoop (g node : ℕ) : Type 0 where
+    pub from : ℕ
+    pub next : ℕ
+    pub moves : IsOnMove g node from next
+    pub back : LeadsFreely g next from
     pub first : ℕ
     pub unit : IsUnit g first
     pub word : List Letter
-    pub reached : Run g (grammar.graph g) first node word
-    pub next : ℕ
-    pub moves : MovesFreely g node next
-    pub back : LeadsFreely g next node
+    pub reached : Run g (grammar.graph g) first from word
 
   -- at a step to this node some unit of the graph enters one that is, or enters, the unit itself
   pub record IsLeftRecursive (g node : ℕ) : Type 0 where

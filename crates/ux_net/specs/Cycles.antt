@@ -6,7 +6,7 @@ use Rattle.ux_net.specs.declared.place.Place.{Place}
 use Rattle.ux_net.specs.Words.{Step}
 use Rattle.ux_net.specs.Places.{places_of, place_grammar, IsPlaceStep}
 use Rattle.ux_net.specs.Closers.{ClosesInto}
-use Rattle.ux_net.specs.Admissible.{MovesFreely, EntersAt}
+use Rattle.ux_net.specs.Admissible.{IsOnMove, EntersAt}
 use Rattle.ux_net.specs.Numbers.{number_of, all_places}
 use Rattle.ux_net.specs.Ways.{IsFreeEdge, IsEntryEdge}
 
@@ -21,11 +21,12 @@ pub record AreAllEdges (graphs : List (List Place)) (edges : List (List ℕ)) : 
   pub edge : (u v : ℕ) →
       Contains (row_of edges u) v ↔ (IsFreeEdge graphs u v ⊎ IsEntryEdge graphs u v)
 
--- a step from the node that may take nothing, or a context, has one number at both ends
+-- the node is on a step that may take nothing, or a context, which has one number at both ends
 pub record IsLoopStep (graphs : List (List Place)) (numbers : List ℕ) (g node : ℕ) : Type 0 where
+  pub source : ℕ
   pub target : ℕ
-  pub moves : MovesFreely (place_grammar graphs) g node target
-  pub same : get_or numbers (number_of graphs g node) 0 ≡
+  pub moves : IsOnMove (place_grammar graphs) g node source target
+  pub same : get_or numbers (number_of graphs g source) 0 ≡
       get_or numbers (number_of graphs g target) 0
 
 -- at a step to the node a unit is entered whose first place has the number of the step's beginning

@@ -26,6 +26,7 @@ pub mod Admission
 pub mod Cycles
 pub mod Gains
 pub mod Spots
+pub mod Labels
 pub mod Leading
 pub mod Finding
 pub mod NegativeRecursion

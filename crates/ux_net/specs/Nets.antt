@@ -84,17 +84,34 @@ is_plain ContextEnd = false
 is_plain Cut = false
 is_plain other = true
 
--- each edge of the state, of the graph, has such a label
-abbrev pub is_plain_state : State → Bool
-is_plain_state state = list_all (λ (edge : Edge). is_plain edge.label) state.edges
+-- a label that doesn't cut off what stands on its left
+abbrev pub CutsNothing : Label → Type 0
+CutsNothing Cut = ⊥
+CutsNothing other = Unit {0}
 
-abbrev pub is_plain_graph : NetGraph → Bool
-is_plain_graph graph = list_all is_plain_state graph.states
+-- the same as a test
+abbrev pub is_uncut : Label → Bool
+is_uncut Cut = false
+is_uncut other = true
+
+-- the label of each edge of the state, of the graph, passes a test
+abbrev pub each_in_state : (Label → Bool) → State → Bool
+each_in_state test state = list_all (λ (edge : Edge). test edge.label) state.edges
+
+abbrev pub each_in_graph : (Label → Bool) → NetGraph → Bool
+each_in_graph test graph = list_all (each_in_state test) graph.states
 
 -- each edge has such a label
+abbrev pub EachLabel : (Label → Type 0) → List NetGraph → Type 0
+EachLabel Is graphs = (g n : ℕ) (state : State) (edge : Edge) →
+    slice_get (states_of graphs g) n ≡ Some state → Contains state.edges edge → Is edge.label
+
+-- no label bounds a context or cuts; none cuts
 abbrev pub ArePlain : List NetGraph → Type 0
-ArePlain graphs = (g n : ℕ) (state : State) (edge : Edge) →
-    slice_get (states_of graphs g) n ≡ Some state → Contains state.edges edge → IsPlain edge.label
+ArePlain graphs = EachLabel IsPlain graphs
+
+abbrev pub CutNothing : List NetGraph → Type 0
+CutNothing graphs = EachLabel CutsNothing graphs
 
 -- an edge leads to a state that is there, and calls a graph that is there
 pub record IsEdgeInside (count states : ℕ) (edge : Edge) : Type 0 where

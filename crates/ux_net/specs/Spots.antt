@@ -4,7 +4,7 @@ use Rattle.std.specs.Prelude.{◌≡◌, ℕ, ◌<◌, ◌≤◌, ◌⊎◌, Lis
 use Rattle.ux_net.specs.declared.spot.Spot.{Spot}
 use Rattle.ux_net.specs.declared.way.Way.{Way}
 use Rattle.ux_net.specs.Admissible.{IsFirst}
-use Rattle.ux_net.specs.Ways.{IsOpen, entered_by}
+use Rattle.ux_net.specs.Ways.{IsOpen, entered_by, opened_by}
 
 -- no spot after the other, by graph and then by node
 abbrev pub IsNotAfter : Spot → Spot → Type 0
@@ -32,16 +32,29 @@ abbrev pub IsEntryPair : Way → ℕ × ℕ → Type 0
 IsEntryPair way pair =
     (start : ℕ) × (entered_by way.passage way.to ≡ Some start) × (◌≡◌ {A = ℕ × ℕ} (way.from, start) pair)
 
--- the source of a way that may take nothing, and whose ends have one number
+-- a node of the way's graph
+abbrev pub spot_of : Way → (node : ℕ) → Spot
+spot_of way node = record { graph = way.graph; node = node }
+
+-- the place into which the context opens that the way leads over
+abbrev pub IsOpeningSpot : Way → Spot → Type 0
+IsOpeningSpot way spot =
+    (node : ℕ) × (opened_by way.passage ≡ Some node) × (spot_of way node ≡ spot)
+
+-- a node on the way: its source, or the place into which the context opens that it leads over
+abbrev pub IsSpotOn : Way → Spot → Type 0
+IsSpotOn way spot = (spot_of way way.source ≡ spot) ⊎ IsOpeningSpot way spot
+
+-- a node on a way that may take nothing, and whose ends have one number
 abbrev pub IsLoopSpot : List Bool → List ℕ → Way → Spot → Type 0
 IsLoopSpot marks numbers way spot =
     IsOpen marks way.passage
     × (get_or numbers way.from 0 ≡ get_or numbers way.to 0)
-    × (record { graph = way.graph; node = way.source } ≡ spot)
+    × IsSpotOn way spot
 
 -- the target of a way that enters a unit whose first place has the number of its source
 abbrev pub IsEntrySpot : List ℕ → Way → Spot → Type 0
 IsEntrySpot numbers way spot =
     (start : ℕ) × (entered_by way.passage way.to ≡ Some start)
     × (get_or numbers way.from 0 ≡ get_or numbers start 0)
-    × (record { graph = way.graph; node = way.target } ≡ spot)
+    × (spot_of way way.target ≡ spot)

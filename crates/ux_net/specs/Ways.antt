@@ -20,13 +20,15 @@ abbrev pub IsOpening : List Label → Type 0
 IsOpening line = (sign : Sign) × (mark_of line ≡ opens sign)
 
 -- How a step to place b of graph g leads on to place c, by its line: a silent line and a call lead to
--- b, a call into its graph too. A line that opens a context leads into it at b, and over it.
+-- b, a call into its graph too. A line that opens a context leads into it, to b, and over it, to a
+-- place into which it is closed.
 abbrev pub Passes : List (List Place) → (g b : ℕ) → List Label → (c : ℕ) → Passage → Type 0
 Passes graphs g b line c Silent = (c ≡ b) × (are_silent line ≡ true)
 Passes graphs g b line c (Calls start) =
     (c ≡ b) × ((h : ℕ) × (line ≡ Call h ∷ []) × (start ≡ number_of graphs h 0))
 Passes graphs g b line c Opens = (c ≡ b) × IsOpening line
-Passes graphs g b line c Jumps = IsOpening line × ClosesInto (place_grammar graphs) g b c
+Passes graphs g b line c (Jumps opening) =
+    (opening ≡ b) × IsOpening line × ClosesInto (place_grammar graphs) g b c
 
 -- the way from a place of the graph to another
 abbrev pub way_at : List (List Place) → (g a c : ℕ) → Passage → Way
@@ -54,7 +56,8 @@ IsOpeningWay step way = record step { passage = Opens } ≡ way
 
 -- the way of the step's graph from its source to another place
 abbrev pub jump_to : Way → (base closer : ℕ) → Way
-jump_to step base closer = record step { target = closer; to = base + closer; passage = Jumps }
+jump_to step base closer =
+    record step { target = closer; to = base + closer; passage = Jumps step.target }
 
 -- the way of a step that opens a context, over it to this place
 abbrev pub IsJump : Way → (closer : ℕ) → Way → Type 0
@@ -157,6 +160,11 @@ abbrev pub entered_by : Passage → (to : ℕ) → Option ℕ
 entered_by (Calls start) to = Some start
 entered_by Opens to = Some to
 entered_by other to = None
+
+-- the place into which the context opens that the way leads over
+abbrev pub opened_by : Passage → Option ℕ
+opened_by (Jumps opening) = Some opening
+opened_by other = None
 
 -- what stands for a way where a list has none
 abbrev pub no_way : Way

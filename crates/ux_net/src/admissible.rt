@@ -8,6 +8,10 @@
 //! unit begins with itself at an edge of the second kind inside a component of all. In a grammar that
 //! is neither, the numbers of the components fall along each edge: they are the ranks by which every
 //! walk ends.
+//!
+//! Where a loop leads over a context, the place into which that opens is on the loop too. The edge
+//! over the context tells it, and doesn't pass it: a body that leads back to its opening step begins
+//! with itself, and is no loop.
 
 ghost use Rattle.std.specs.Prelude.{◌≡◌, ℕ, length, All, IfOk, IfErr, OnOk};
 ghost use Rattle.ux_net.specs.Fit.{IsFit};

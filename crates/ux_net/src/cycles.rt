@@ -8,9 +8,9 @@ ghost use Rattle.ux_net.specs.Numbers.{AreOffsets};
 ghost use Rattle.ux_net.specs.Ways.{AreWays, AreFreeMarks};
 ghost use Rattle.ux_net.specs.Gains.{Gains, SoOfOne};
 ghost use Rattle.ux_net.specs.Cycles.{AreNumbered, AreOpened};
-ghost use Rattle.ux_net.specs.Spots.{IsLoopSpot, IsEntrySpot, FindsFirst};
+ghost use Rattle.ux_net.specs.Spots.{IsLoopSpot, IsOpeningSpot, IsSpotOn, IsEntrySpot, FindsFirst};
 
-use crate::edges::{all_rows, entered, free_rows, is_open};
+use crate::edges::{all_rows, entered, free_rows, is_open, opened};
 use crate::place::Place;
 use crate::spot::{Spot, least};
 use crate::way::Way;
@@ -77,7 +77,7 @@ pub fn first_recursion(
     Ok(least(&spots))
 }
 
-/// Adds the sources of the ways that may take nothing, and whose ends have one number.
+/// Adds the nodes on the ways that may take nothing, and whose ends have one number.
 fn push_loop_spots(
     spots: &mut Vec<Spot>,
     ways: &[Way],
@@ -93,7 +93,7 @@ fn push_loop_spots(
     Ok(())
 }
 
-/// Adds the source of the way, if it may take nothing and its ends have one number.
+/// Adds the nodes on the way, if it may take nothing and its ends have one number.
 fn push_loop_spot(
     spots: &mut Vec<Spot>,
     way: Way,
@@ -109,10 +109,32 @@ fn push_loop_spot(
     if number_at(numbers, way.from) != number_at(numbers, way.to) {
         return Ok(());
     }
+    push_nodes(spots, way)?;
+    Ok(())
+}
+
+/// Adds the source of the way, and the place into which the context opens that it leads over.
+fn push_nodes(spots: &mut Vec<Spot>, way: Way) -> Result<(), AllocError>
+    ensures { OnOk result (Gains spots.old.items spots.new.items (IsSpotOn way)) }
+{
     spots.push(Spot {
         graph: way.graph,
         node: way.source,
     })?;
+    push_opening(spots, way)?;
+    Ok(())
+}
+
+/// Adds the place into which the context opens that the way leads over.
+fn push_opening(spots: &mut Vec<Spot>, way: Way) -> Result<(), AllocError>
+    ensures { OnOk result (Gains spots.old.items spots.new.items (IsOpeningSpot way)) }
+{
+    if let Some(node) = opened(way.passage) {
+        spots.push(Spot {
+            graph: way.graph,
+            node,
+        })?;
+    }
     Ok(())
 }
 

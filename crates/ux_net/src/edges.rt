@@ -4,7 +4,7 @@ ghost use Rattle.std.specs.Prelude.{◌≡◌, ℕ, ◌<◌, ◌↔◌, List, []
 ghost use Rattle.ux_digraph.specs.Paths.{row_of};
 ghost use Rattle.ux_net.specs.Fit.{IsFit};
 ghost use Rattle.ux_net.specs.Numbers.{AreOffsets};
-ghost use Rattle.ux_net.specs.Ways.{AreWays, AreFreeMarks, IsOpen, entered_by};
+ghost use Rattle.ux_net.specs.Ways.{AreWays, AreFreeMarks, IsOpen, entered_by, opened_by};
 ghost use Rattle.ux_net.specs.Gains.{Gains, SoOfOne};
 ghost use Rattle.ux_net.specs.Spots.{IsFreePair, IsEntryPair};
 ghost use Rattle.ux_net.specs.Cycles.{AreFreeEdges, AreAllEdges};
@@ -62,7 +62,7 @@ pub fn is_open(marks: &[bool], passage: Passage) -> bool
     ensures { IsTrue result ↔ IsOpen marks.now passage }
 {
     match passage {
-        Passage::Silent | Passage::Jumps => true,
+        Passage::Silent | Passage::Jumps(_) => true,
         Passage::Calls(start) => is_marked(marks, start),
         Passage::Opens => false,
     }
@@ -83,9 +83,19 @@ pub fn entered(way: Way) -> Option<usize>
     ensures { result ≡ entered_by way.passage way.to }
 {
     match way.passage {
-        Passage::Silent | Passage::Jumps => None,
+        Passage::Silent | Passage::Jumps(_) => None,
         Passage::Calls(start) => Some(start),
         Passage::Opens => Some(way.to),
+    }
+}
+
+/// The place into which the context opens that a way leads over.
+pub fn opened(passage: Passage) -> Option<usize>
+    ensures { result ≡ opened_by passage }
+{
+    match passage {
+        Passage::Silent | Passage::Calls(_) | Passage::Opens => None,
+        Passage::Jumps(opening) => Some(opening),
     }
 }
 

@@ -26,7 +26,8 @@ pub enum NetError {
     /// that context.
     #[error("negative recursion in graph {graph:?}")]
     NegativeRecursion { graph: Txt },
-    /// The box lies on a loop that takes no token.
+    /// The box lies on a loop that takes no token. Where the loop leads over a context, the box that
+    /// opens it and the one that closes it lie on the loop, and those inside don't.
     #[error("empty loop at box {node} of graph {graph:?}")]
     EmptyLoop { graph: Txt, node: u32 },
     /// At the box the graph calls itself, or one that does in turn, before it took a token.

@@ -134,7 +134,7 @@ fn leads_on(passage: Passage) -> bool
     ensures { IsTrue result ↔ LeadsOn passage }
 {
     match passage {
-        Passage::Silent | Passage::Calls(_) | Passage::Jumps => true,
+        Passage::Silent | Passage::Calls(_) | Passage::Jumps(_) => true,
         Passage::Opens => false,
     }
 }
@@ -145,7 +145,7 @@ fn rule(way: Way) -> Rule
 {
     let second = match way.passage {
         Passage::Calls(start) => start,
-        Passage::Silent | Passage::Opens | Passage::Jumps => way.to,
+        Passage::Silent | Passage::Opens | Passage::Jumps(_) => way.to,
     };
     Rule {
         place: way.from,

@@ -4,12 +4,12 @@ ghost use Rattle.std.specs.Prelude.{◌≡◌, ◌↔◌, ℕ, ◌≤◌, ◌<�
 ghost use Rattle.ux_net.specs.Closings.{closings_at, closing_of, Ascend};
 ghost use Rattle.ux_net.specs.Masks.{IsMaskCount};
 ghost use Rattle.ux_net.specs.Measured.{IsMeasured};
-ghost use Rattle.ux_net.specs.Nets.{graph_at, states_of, ArePlain};
+ghost use Rattle.ux_net.specs.Nets.{graph_at, states_of, ArePlain, CutNothing};
 ghost use Rattle.ux_net.specs.Sound.{IsSound};
 
 use crate::closings::told;
+use crate::labels::{Kept, are_all};
 use crate::net_graph::{Closing, NetGraph, Rank};
-use crate::plain::are_plain;
 use crate::state::{Edge, State};
 use std::marker::Model;
 
@@ -70,7 +70,14 @@ impl Net {
     pub fn is_plain(&self) -> bool
         ensures { IsTrue result ↔ ArePlain self.now }
     {
-        are_plain(&self.graphs)
+        are_all(&self.graphs, Kept::Plain)
+    }
+
+    /// Whether no label cuts off what stands on its left. Looks at each edge, and takes no memory.
+    pub fn cuts_nothing(&self) -> bool
+        ensures { IsTrue result ↔ CutNothing self.now }
+    {
+        are_all(&self.graphs, Kept::Uncut)
     }
 
     /// The name of a graph.

@@ -27,6 +27,7 @@ pub enum Passage {
     Calls(usize),
     /// Into a context, along the step that opens it.
     Opens,
-    /// Over a whole context, to a place into which it is closed.
-    Jumps,
+    /// Over a whole context, which opens into this place of the graph, to a place into which it is
+    /// closed.
+    Jumps(usize),
 }

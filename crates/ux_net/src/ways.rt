@@ -238,7 +238,8 @@ fn push_context(ways: &mut Vec<Way>, step: Way, closers: &[usize]) -> Result<(),
     Ok(())
 }
 
-/// Adds the ways from where the step leads off to each of these places of its graph.
+/// Adds the ways from where the step leads off, over the context into which it leads, to each of
+/// these places of its graph.
 fn push_jumps(ways: &mut Vec<Way>, step: Way, closers: &[usize]) -> Result<(), AllocError>
     requires target { step.target ≤ step.to }
     requires room { All (λ closer. step.to - step.target + closer < 18446744073709551616) closers.now }
@@ -252,7 +253,8 @@ fn push_jumps(ways: &mut Vec<Way>, step: Way, closers: &[usize]) -> Result<(), A
     Ok(())
 }
 
-/// The way of the step's graph from its source to this place, numbered from the base.
+/// The way of the step's graph from its source, over the context into which the step leads, to this
+/// place, numbered from the base.
 fn jump(step: Way, base: usize, closer: usize) -> Way
     requires room { base + closer < 18446744073709551616 }
     ensures { result ≡ jump_to step base closer }
@@ -260,7 +262,7 @@ fn jump(step: Way, base: usize, closer: usize) -> Way
     Way {
         target: closer,
         to: base + closer,
-        passage: Passage::Jumps,
+        passage: Passage::Jumps(step.target),
         ..step
     }
 }

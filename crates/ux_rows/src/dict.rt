@@ -9,7 +9,7 @@ use ux_dela::{DelaError, Entry, print_delaf, read_delaf};
 use ux_dict::{AnyLexicon, Lexicon, ListLexicon, different};
 
 /// The pairs of letters in all rows: `X` has none.
-const PAIRS: &str = "Tt\nHh\nEe\nCc\nAa\nÉé\n";
+pub(crate) const PAIRS: &str = "Tt\nHh\nEe\nCc\nAa\nÉé\n";
 
 /// A name, a dictionary's lines, a text, and the entries whose forms fit it, each between brackets.
 type Fitting = (&'static str, &'static str, &'static str, &'static str);
@@ -33,7 +33,7 @@ fn lexicon(alloc: Global, lines: &str) -> Result<AnyLexicon, Fail> {
 }
 
 /// The entries as lines, each between brackets.
-fn printed(alloc: Global, entries: &[Entry]) -> Result<String, Fail> {
+pub(crate) fn printed(alloc: Global, entries: &[Entry]) -> Result<String, Fail> {
     let mut out = String::new(alloc);
     for entry in entries {
         let line = print_delaf(alloc, entry)?;

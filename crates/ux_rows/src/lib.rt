@@ -27,6 +27,8 @@ mod grf;
 #[cfg(test)]
 mod image;
 #[cfg(test)]
+mod image_lexicon;
+#[cfg(test)]
 mod image_reader;
 #[cfg(test)]
 mod tokens;

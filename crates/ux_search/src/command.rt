@@ -74,8 +74,8 @@ fn index_of(alloc: Global, files: Files, mode: Mode, policy: Policy, novar: NoVa
     Ok(index.into_bytes())
 }
 
-/// The index of the hits, with no step taken before. Where outputs are ignored, and the grammar has
-/// neither contexts nor cuts, no text of a hit is copied before it is written.
+/// The index of the hits, with no step taken before. Where outputs are ignored, and the grammar has no
+/// cuts, no text of a hit is copied before it is written.
 fn hits_index<L: Ledger>(
     alloc: Global,
     net: &Net,
@@ -98,7 +98,7 @@ fn hits_index<L: Ledger>(
 {
     let mut steps = Steps::<L>::new(blank);
     match mode {
-        Mode::Ignore if net.is_plain() => {
+        Mode::Ignore if net.cuts_nothing() => {
             let spans = locate_spans(alloc, net, text, alphabet, applied, policy, &mut steps)?;
             span_index(alloc, text, spans.as_slice())
         }

@@ -1,7 +1,7 @@
--- A part that reaches something begins: its first state is final, or an edge of that leads on. And rows
--- of the parts that begin.
-use Rattle.std.proofs.Common.{arith, ◌≡◌, ℕ, ◌+◌, ◌<◌, ◌≤◌, ◌↔◌, Bool, false, List, [], ◌∷◌, ◌++◌, ◌⊎◌, Some, inl, inr, refl, sym, ap, subst, ◌∙◌, length, get_or, append_assoc, length-append}
-use Rattle.std.specs.Prelude.{Contains, IsTrue, MatchResult, Option, Result, Ok, Err, slice_get, slice_range}
+-- A part that reaches something begins: its first state is final, or an edge of that leads on. Where it
+-- begins it is tried. And rows of the parts that begin.
+use Rattle.std.proofs.Common.{arith, ◌≡◌, ℕ, zero, suc, ◌+◌, ◌-◌, ◌<◌, ◌≤◌, ◌↔◌, Bool, false, List, [], ◌∷◌, ◌++◌, ◌⊎◌, Some, inl, inr, refl, sym, ap, subst, ◌∙◌, length, get_or, length-append}
+use Rattle.std.specs.Prelude.{Contains, IsTrue, MatchResult, None, Option, Result, Ok, Err, slice_get}
 use Rattle.std.specs.Ordering.{nat_cmp}
 use Rattle.std.specs.List.Sorted.{IsBinarySearchResult}
 use Rattle.std.proofs.lemmas.List.Sorted.{searched}
@@ -10,9 +10,8 @@ use Rattle.std.specs.List.Sorted.{IsStrictlyIncreasing}
 use Rattle.std.proofs.lemmas.List.Elements.{Contains-append_left, Contains-push, Contains-push_cases}
 use Rattle.std.proofs.lemmas.List.{get_or_append_left, get_or_default, get_or_push}
 use Rattle.std.proofs.lemmas.List.Elements.{Contains-get_or}
-use Rattle.std.proofs.lemmas.Option.{same_Some, slice_get_cases, slice_get_within, slice_get-get_or}
+use Rattle.std.proofs.lemmas.Option.{same_Some, none-some, slice_get_within, slice_get-get_or}
 use Rattle.std.proofs.lemmas.Bool.{false≢true}
-use Rattle.ux_tokens.proofs.CutLemmas.{slice_get-push_cases}
 use Rattle.ux_net.specs.declared.label.Label.{Label}
 use Rattle.ux_net.specs.declared.label.Label.TheVariants as label
 use Rattle.ux_net.specs.declared.net_graph.NetGraph.{NetGraph}
@@ -28,14 +27,18 @@ use Rattle.ux_parts.specs.Ordered.{GoesAhead, NeverRises}
 use Rattle.ux_parts.specs.Parts.{ArePartsOf}
 use Rattle.ux_parts.specs.Runs.{Ends, NextBy}
 use Rattle.ux_parts.proofs.Running.{whole}
-use Rattle.ux_chart.specs.declared.table.Stretch.{Stretch}
+use Rattle.ux_alphabet.specs.Letters.{Letters}
+use Rattle.ux_tokens.specs.Numbers.{different_texts}
+use Rattle.ux_tokens.specs.Tokens.{Token}
+use Rattle.ux_apply.specs.Tables.{Tables}
+use Rattle.ux_walk.specs.Literals.{IsFitted, IsLiteral}
+use Rattle.ux_walk.specs.Settings.{applied_text}
 use Rattle.ux_chart.specs.Likely.{AreLikely, ReachesSome}
-use Rattle.ux_chart.specs.Tables.{cut}
-use Rattle.ux_chart.proofs.Cuts.{cut_more, cut_none, cut_old}
 use Rattle.ux_chart.proofs.Entering.{single}
-use Rattle.ux_text_chart.specs.declared.likely.Likely.{Likely}
 use Rattle.ux_text_chart.specs.MaskedTexts.{MayLead}
-use Rattle.ux_text_chart.specs.Likely.{MayBegin, MayLeadTo, SomeLeads, IsLikelyRow, AreLikelyRows, listed_at, listed_in, stretch_of}
+use Rattle.ux_text_chart.specs.Likely.{IsLikelyRow, IsTokenAt, MayBegin, MayLeadTo, SomeLeads}
+use Rattle.ux_text_chart.specs.PartIndexes.{IsNoLater, IsPartIndex, IsTried, begins_at}
+use Rattle.ux_text_chart.specs.declared.part_index.PartIndex.{PartIndex}
 
 -- nothing more is asked of a label that closes a context
 closing_leads : (input : Input) (parts : Parts) (row : List ℕ) (x : Label) (i : ℕ) →
@@ -213,22 +216,6 @@ pub leads_alone : (input : Input) (parts : Parts) (row : List ℕ) (x : Label) (
 leads_alone input parts row (label.Call h) i never = absurd (never h refl)
 leads_alone input parts row x i never = (λ m. m, λ m. m)
 
--- a row as it is lent
-pub row_lent : (shown list : List ℕ) (a from b to : ℕ) → shown ≡ list → a ≡ from → b ≡ to →
-    slice_range shown a b ≡ cut list (stretch_of from to)
-row_lent shown list a from b to same begin end =
-    ap (λ (l : List ℕ). slice_range l a b) same
-    ∙ (ap (λ n. slice_range list n b) begin ∙ ap (λ n. slice_range list from n) end)
-
--- a list that has grown grows by a number more
-pub grown_more : (old list new : List ℕ) (number : ℕ) →
-    ((more : List ℕ) × (list ≡ old ++ more)) → new ≡ list ++ number ∷ [] →
-    (more : List ℕ) × (new ≡ old ++ more)
-grown_more old list new number (more, is) put = (
-  more ++ number ∷ [],
-  put ∙ (ap (λ (l : List ℕ). l ++ number ∷ []) is ∙ append_assoc old more (number ∷ [])),
-)
-
 -- a larger number goes last
 rises_more : (xs : List ℕ) (y : ℕ) → IsStrictlyIncreasing xs →
     ((x : ℕ) → Contains xs x → x < y) → IsStrictlyIncreasing (xs ++ y ∷ [])
@@ -249,57 +236,38 @@ rises_more xs y up below = λ k inside.
 
 module _ (input : Input) (net : List NetGraph) (parts : Parts) where
   -- no part is asked about yet
-  pub likely_none : (list : List ℕ) (i : ℕ) →
-      IsLikelyRow input net parts list (stretch_of (length list) (length list)) i 0
-  likely_none list i =
-      let none = cut_none list (length list) in
-      record {
-        within = record { from = omega arith; to = omega arith };
-        ascends = subst IsStrictlyIncreasing (sym none) (λ k inside. absurd (omega (arith, inside)));
-        below = λ number h. absurd (nothing number (subst (λ (l : List ℕ). Contains l number) none h));
+  pub likely_none : (row : List ℕ) (i : ℕ) → row ≡ [] → IsLikelyRow input net parts row i 0
+  likely_none row i none = subst (λ (l : List ℕ). IsLikelyRow input net parts l i 0) (sym none)
+      (record {
+        ascends = λ k inside. absurd (omega (arith, inside));
+        below = λ number h. absurd (let inside = h.1 in omega (arith, inside));
         whole = λ number part low. absurd (omega (arith, low));
-      }
-    where
-      nothing : (number : ℕ) → Contains [] number → ⊥
-      nothing number h = let inside = h.1 in omega (arith, inside)
+      })
 
   -- a part that begins goes last
-  pub likely_more : (list new : List ℕ) (from i number : ℕ) → new ≡ list ++ number ∷ [] →
-      IsLikelyRow input net parts list (stretch_of from (length list)) i number →
-      IsLikelyRow input net parts new (stretch_of from (length new)) i (number + 1)
-  likely_more list new from i number is r =
-      let low = r.within.from in
-      let more = cut_more list number new from is low in
-      let len = ap length is in
-      let long = length-append list (number ∷ []) in
-      let old = cut list (stretch_of from (length list)) in
-      record {
-        within = record { from = omega (arith, low, len, long); to = omega arith };
-        ascends = subst IsStrictlyIncreasing (sym more)
-            (rises_more old number r.ascends r.below);
-        below = λ other h. elim (Contains-push_cases old number other
-            (subst (λ (l : List ℕ). Contains l other) more h)) [
-              | inl o ↦ let b = r.below other o in omega (arith, b)
-              | inr e ↦ omega (arith, e)
-            ];
-        whole = λ other part below found some. subst (λ (l : List ℕ). Contains l other) (sym more)
-            (elim (less_or other number) [
-              | inl l ↦
-                  Contains-append_left old (number ∷ []) other (r.whole other part l found some)
-              | inr m ↦
-                  let e : number ≡ other = omega (arith, m, below) in
-                  subst (λ n. Contains (old ++ number ∷ []) n) e (Contains-push old number)
-            ]);
-      }
+  pub likely_more : (row new : List ℕ) (i number : ℕ) → new ≡ row ++ number ∷ [] →
+      IsLikelyRow input net parts row i number → IsLikelyRow input net parts new i (number + 1)
+  likely_more row new i number is r =
+      subst (λ (l : List ℕ). IsLikelyRow input net parts l i (number + 1)) (sym is) (record {
+        ascends = rises_more row number r.ascends r.below;
+        below = λ other h. elim (Contains-push_cases row number other h) [
+          | inl o ↦ let b = r.below other o in omega (arith, b)
+          | inr e ↦ omega (arith, e)
+        ];
+        whole = λ other part below found some. elim (less_or other number) [
+          | inl l ↦ Contains-append_left row (number ∷ []) other (r.whole other part l found some)
+          | inr m ↦
+              let e : number ≡ other = omega (arith, m, below) in
+              subst (λ n. Contains (row ++ number ∷ []) n) e (Contains-push row number)
+        ];
+      })
 
   -- a part that doesn't is passed over
-  pub likely_same : (list : List ℕ) (row : Stretch) (i number : ℕ) →
+  pub likely_same : (row : List ℕ) (i number : ℕ) →
       ((part : Part) × (slice_get parts.list number ≡ Some part)
       × ReachesSome input net parts part i → ⊥) →
-      IsLikelyRow input net parts list row i number →
-      IsLikelyRow input net parts list row i (number + 1)
-  likely_same list row i number never r = record {
-    within = r.within;
+      IsLikelyRow input net parts row i number → IsLikelyRow input net parts row i (number + 1)
+  likely_same row i number never r = record {
     ascends = r.ascends;
     below = λ other h. let b = r.below other h in omega (arith, b);
     whole = λ other part below found some. elim (less_or other number) [
@@ -310,55 +278,87 @@ module _ (input : Input) (net : List NetGraph) (parts : Parts) where
     ];
   }
 
-  -- a row that is over
-  row_stays : (list more new : List ℕ) (row : Stretch) (i bound : ℕ) → new ≡ list ++ more →
-      IsLikelyRow input net parts list row i bound → IsLikelyRow input net parts new row i bound
-  row_stays list more new row i bound is r =
-      let to = r.within.to in
-      let same = cut_old list more new row is r.within in
-      let len = ap length is in
-      let long = length-append list more in
-      record {
-        within = record { from = r.within.from; to = omega (arith, to, len, long) };
-        ascends = subst IsStrictlyIncreasing (sym same) r.ascends;
-        below = λ number h. r.below number (subst (λ (l : List ℕ). Contains l number) same h);
-        whole = λ number part low found may.
-            subst (λ (l : List ℕ). Contains l number) (sym same) (r.whole number part low found may);
-      }
+  module _ (last : ℕ) (ahead : GoesAhead input last) (are : ArePartsOf net parts) (i : ℕ)
+      (row : List ℕ) where
+    -- parts that don't begin are passed over
+    pub likely_upto : (from count : ℕ) → ((number : ℕ) (part : Part) → from ≤ number →
+        number < from + count → slice_get parts.list number ≡ Some part →
+        MayBegin input net parts row part i → ⊥) →
+        IsLikelyRow input net parts row i from →
+        IsLikelyRow input net parts row i (from + count)
+    likely_upto from zero never r = subst (λ n. IsLikelyRow input net parts row i n)
+        (omega arith) r
+    likely_upto from (suc count) never r =
+        let before = likely_upto from count
+        (λ number part low high. never number part low (omega (arith, high))) r in
+        subst (λ n. IsLikelyRow input net parts row i n) (omega arith)
+        (likely_same row i (from + count)
+        (λ (part, found, some). never (from + count) part (omega arith) (omega arith) found
+        (may_begin input last ahead net parts are (from + count) part found i row before.whole
+        some)) before)
 
-  pub rows_more : (list more new : List ℕ) (rows all : List Stretch) (row : Stretch) (bound : ℕ) →
-      new ≡ list ++ more → all ≡ rows ++ row ∷ [] →
-      AreLikelyRows input net parts bound list rows →
-      IsLikelyRow input net parts new row (length rows) bound →
-      AreLikelyRows input net parts bound new all
-  rows_more list more new rows all row bound grown is old here i found at =
-      elim (slice_get-push_cases rows row i found
-      (subst (λ (l : List Stretch). slice_get l i ≡ Some found) is at)) [
-        | inl o ↦ row_stays list more new found i bound grown (old i found o.1)
-        | inr e ↦
-            subst (λ (r : Stretch). IsLikelyRow input net parts new r i bound) e.1
-            (subst (λ n. IsLikelyRow input net parts new row n bound) (sym e.0) here)
-      ]
+    -- as far as the next one
+    pub likely_next : (from to : ℕ) → from ≤ to → ((number : ℕ) (part : Part) → from ≤ number →
+        number < to → slice_get parts.list number ≡ Some part →
+        MayBegin input net parts row part i → ⊥) →
+        IsLikelyRow input net parts row i from → IsLikelyRow input net parts row i to
+    likely_next from to le never r =
+        let e : from + (to - from) ≡ to = omega (arith, le) in
+        subst (λ n. IsLikelyRow input net parts row i n) e
+        (likely_upto from (to - from)
+        (λ number part low high. never number part low (omega (arith, high, e))) r)
 
-  -- the rows of all positions tell the likely parts
-  pub all_likely : (last : ℕ) (likely : Likely) →
-      length likely.rows.items ≡ last + 1 →
-      AreLikelyRows input net parts (length parts.list) likely.parts.items likely.rows.items →
-      AreLikely input net parts last (listed_at likely)
-  all_likely last likely len rows = record {
-    ascends = λ i to. at i (λ l. IsStrictlyIncreasing l) to (λ row r. r.ascends);
-    whole = λ i number part to found some.
-        at i (λ l. Contains l number) to
-        (λ row r. r.whole number part (slice_get_within parts.list number part found) found some);
-  }
-    where
-      at : (i : ℕ) (Is : List ℕ → Type 0) → i ≤ last →
-          ((row : Stretch) →
-          IsLikelyRow input net parts likely.parts.items row i (length parts.list) →
-          Is (cut likely.parts.items row)) → Is (listed_at likely i)
-      at i Is to each = elim (slice_get_cases likely.rows.items i).1 [
-        | inl s ↦
-            subst (λ (o : Option Stretch). Is (listed_in likely.parts.items o)) (sym s.2)
-            (each s.0 (rows i s.0 s.2))
-        | inr s ↦ let past = s.0 in absurd (omega (arith, past, len, to))
-      ]
+    -- or to the end
+    pub likely_whole : (from : ℕ) → ((number : ℕ) (part : Part) → from ≤ number →
+        slice_get parts.list number ≡ Some part → MayBegin input net parts row part i → ⊥) →
+        IsLikelyRow input net parts row i from → AreLikely input net parts i row
+    likely_whole from never r =
+        let all = likely_upto from (length parts.list)
+        (λ number part low high. never number part low) r in
+        record {
+          ascends = all.ascends;
+          whole = λ number part found some.
+              let inside = slice_get_within parts.list number part found in
+              all.whole number part (omega (arith, inside)) found some;
+        }
+
+-- a part that begins at a position is tried there
+module _ (alphabet : Letters) (tokens : List Token) (tables : Tables) (net : List NetGraph)
+    (parts : Parts) (index : PartIndex)
+    (is : IsPartIndex alphabet (different_texts tokens) net parts index) (p : ℕ)
+    (token : Option ℕ) (there : IsTokenAt tokens p token) where
+  literal_tried : (x : Label) (row : List ℕ) (number : ℕ) → IsLiteral x →
+      ((n : ℕ) → IsFitted alphabet (different_texts tokens) x n →
+      Contains index.beginnings.items (begins_at n number)) →
+      MayLeadTo (applied_text alphabet tokens tables) parts row x p → IsTried index token number
+  literal_tried (label.Fold text) row number literal listed (k, (t, at, (stands, fits), end)) =
+      let told = there t at in
+      inr (told.0, told.1, listed told.0 (t.text, told.2, fits))
+  literal_tried (label.Exact text) row number literal listed (k, (t, at, (stands, fits), end)) =
+      let told = there t at in
+      inr (told.0, told.1, listed told.0 (t.text, told.2, fits))
+  literal_tried x row number literal listed leads = absurd literal
+
+  pub tried : (row : List ℕ) (number : ℕ) (part : Part) →
+      slice_get parts.list number ≡ Some part →
+      MayBegin (applied_text alphabet tokens tables) net parts row part p →
+      IsTried index token number
+  tried row number part found may = elim (is.each number part may.state found may.found) [
+    | inl everywhere ↦ inl everywhere
+    | inr (literals, listed) ↦ elim may.so [
+      | inl final ↦ absurd (literals.not_final final)
+      | inr (edge, inside, leads) ↦ literal_tried edge.label row number
+          (literals.literals edge inside) (listed edge inside) leads
+    ]
+  ]
+
+-- no part before the next one is tried
+pub none_earlier : (next : Option ℕ) (number found : ℕ) → next ≡ Some found → number < found →
+    IsNoLater next number → ⊥
+none_earlier None number found is low h = h
+none_earlier (Some other) number found is low h =
+    let same = same_Some other found is in omega (arith, same, low, h)
+
+pub none_later : (next : Option ℕ) (number : ℕ) → next ≡ None → IsNoLater next number → ⊥
+none_later None number is h = h
+none_later (Some other) number is h = absurd (none-some other (sym is))

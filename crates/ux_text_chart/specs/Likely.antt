@@ -1,6 +1,6 @@
 -- Which parts may reach something from a position, told by the edges of their first states. Public:
 -- the contracts of the chart of a text speak of it.
-use Rattle.std.specs.Prelude.{◌≡◌, ℕ, ◌<◌, ◌⊎◌, List, [], Option, Some, None, slice_get, Contains, IsTrue, length}
+use Rattle.std.specs.Prelude.{◌≡◌, ℕ, ◌<◌, ◌⊎◌, List, Option, Some, slice_get, Contains, IsTrue}
 use Rattle.std.specs.List.Sorted.{IsStrictlyIncreasing}
 use Rattle.ux_net.specs.declared.label.Label.{Label}
 use Rattle.ux_net.specs.declared.label.Label.TheVariants.{Call}
@@ -13,9 +13,9 @@ use Rattle.ux_parts.specs.declared.part.Part.{Part}
 use Rattle.ux_parts.specs.declared.parts.Parts.{Parts}
 use Rattle.ux_parts.specs.Parts.{number_of}
 use Rattle.ux_chart.specs.Likely.{ReachesSome}
-use Rattle.ux_chart.specs.declared.table.Stretch.{Stretch}
-use Rattle.ux_chart.specs.Tables.{IsStretchOf, cut}
-use Rattle.ux_text_chart.specs.declared.likely.Likely.{Likely}
+use Rattle.ux_outputs.specs.Rendering.{skip}
+use Rattle.ux_tokens.specs.Numbers.{different_texts}
+use Rattle.ux_tokens.specs.Tokens.{Token}
 use Rattle.ux_text_chart.specs.MaskedTexts.{MayLead}
 
 -- the part of the graph, where there is one, stands in the row
@@ -42,27 +42,15 @@ module _ (input : Input) (net : List NetGraph) (parts : Parts) where
 
   -- the numbers in the row ascend, and those of the parts below a bound that reach something are among
   -- them
-  pub record IsLikelyRow (list : List ℕ) (row : Stretch) (i bound : ℕ) : Type 0 where
-    pub within : IsStretchOf (length list) row
-    pub ascends : IsStrictlyIncreasing (cut list row)
-    pub below : (number : ℕ) → Contains (cut list row) number → number < bound
+  pub record IsLikelyRow (row : List ℕ) (i bound : ℕ) : Type 0 where
+    pub ascends : IsStrictlyIncreasing row
+    pub below : (number : ℕ) → Contains row number → number < bound
     pub whole : (number : ℕ) (part : Part) → number < bound →
         slice_get parts.list number ≡ Some part → ReachesSome input net parts part i →
-        Contains (cut list row) number
+        Contains row number
 
-  -- rows of the first positions
-  abbrev pub AreLikelyRows : (bound : ℕ) → List ℕ → List Stretch → Type 0
-  AreLikelyRows bound list rows = (i : ℕ) (row : Stretch) → slice_get rows i ≡ Some row →
-      IsLikelyRow list row i bound
-
--- what stands in a row, where there is one
-abbrev pub listed_in : List ℕ → Option Stretch → List ℕ
-listed_in list None = []
-listed_in list (Some row) = cut list row
-
-abbrev pub listed_at : Likely → ℕ → List ℕ
-listed_at likely i = listed_in likely.parts.items (slice_get likely.rows.items i)
-
--- a stretch, by its ends
-abbrev pub stretch_of : (from to : ℕ) → Stretch
-stretch_of from to = record { from = from; to = to }
+-- the number of the token at position p, after an optional space
+abbrev pub IsTokenAt : List Token → (p : ℕ) → Option ℕ → Type 0
+IsTokenAt tokens p token = (there : Token) → slice_get tokens (skip tokens p) ≡ Some there →
+    (number : ℕ) × (token ≡ Some number)
+    × (slice_get (different_texts tokens) number ≡ Some there.text)

@@ -1,110 +1,115 @@
 //! Which parts are worth a search at a position of a text.
 //!
-//! A part reaches something only where its first state is final or an edge of that leads on. So the
-//! labels there are tried at each position, which takes less than a search. A call leads on only where
-//! the part that it calls is worth a search, and that part comes before.
+//! A part reaches something only where its first state is final or an edge of that leads on. What
+//! the index of parts lists with a token is searched there. Of what is tried everywhere the labels
+//! are tried first, which takes less than a search. A call leads on only where the part that it
+//! calls is worth a search, and that part comes before.
 
-ghost use Rattle.std.specs.Prelude.{◌≡◌, ℕ, ◌+◌, ◌≤◌, ◌↔◌, List, ◌++◌, Some, Contains, IfOk, IsTrue, OnOk, length, slice_get};
+ghost use Rattle.std.specs.Prelude.{◌≡◌, ◌+◌, ◌≤◌, ◌↔◌, Some, Contains, IsTrue, OnOk, length, slice_get};
 ghost use Rattle.std.specs.List.Sorted.{IsStrictlyIncreasing};
 ghost use Rattle.ux_net.specs.declared.state.Edge.{Edge};
 ghost use Rattle.ux_parts.specs.Ordered.{GoesAhead};
 ghost use Rattle.ux_parts.specs.Parts.{ArePartsOf};
 ghost use Rattle.ux_parts.specs.declared.part.Part.{Part};
-ghost use Rattle.ux_chart.specs.Likely.{AreKnown};
+ghost use Rattle.ux_chart.specs.Likely.{AreKnown, AreLikely};
+ghost use Rattle.ux_tokens.specs.Numbers.{different_texts};
 ghost use Rattle.ux_text_chart.specs.MaskedTexts.{IsKnown, input_of, masked_setting};
-ghost use Rattle.ux_text_chart.specs.Likely.{AreLikelyRows, IsLikelyRow, IsListed, MayBegin, MayLeadTo, SomeLeads, listed_at, stretch_of};
+ghost use Rattle.ux_text_chart.specs.PartIndexes.{IsPartIndex};
+ghost use Rattle.ux_text_chart.specs.Likely.{IsLikelyRow, IsListed, MayBegin, MayLeadTo, SomeLeads};
 
-use crate::likely::Likely;
 use crate::masked_text::MaskedText;
-use std::alloc::Global;
-use ux_base::{Mem, NoMemory};
-use ux_chart::table::Stretch;
+use crate::part_index::PartIndex;
+use crate::state_indexes::{has_index, token_at};
+use ux_base::Mem;
 use ux_net::{Edge, Label};
 use ux_parts::Parts;
 
-impl Likely {
-    /// The parts that may reach something from each position of the text.
-    pub fn of(alloc: Global, text: &MaskedText<'_>, parts: &Parts) -> Mem<Likely>
-        requires known { AreKnown (IsKnown text.now) text.now.net.now }
-        requires ahead { GoesAhead (input_of (masked_setting text.now)) (length text.now.text.now) }
-        requires parts { ArePartsOf text.now.net.now parts.now }
-        ensures len { IfOk result (λ likely.
-            length likely.rows.items ≡ length text.now.text.now + 1) }
-        ensures rows { IfOk result (λ likely. AreLikelyRows (input_of (masked_setting text.now))
-            text.now.net.now parts.now (length parts.now.list) likely.parts.items
-            likely.rows.items) }
-    {
-        let Ok(count) = u32::try_from(parts.list.as_slice().len()) else {
-            // More parts than there are numbers don't fit into memory.
-            return Err(NoMemory);
-        };
-        let mut list = Vec::new(alloc);
-        let mut rows = Vec::new(alloc);
-        fill_rows(text, parts, count, &mut list, &mut rows)?;
-        Ok(Likely { parts: list, rows })
-    }
-
-    /// The numbers of the parts that may reach something from a position, ascending.
-    pub fn at(&self, at: usize) -> &[u32]
-        ensures { result.now ≡ listed_at self.now at }
-    {
-        match self.rows.get(at) {
-            Some(row) => &self.parts[row.from..row.to],
-            None => &[],
-        }
-    }
-}
-
-/// Fills the rows of all positions.
-fn fill_rows(
+/// Puts the numbers of the parts that may reach something from a position into the list, in place
+/// of what it has, ascending. Takes a look-up for each part that may begin at the token or is
+/// tried everywhere.
+pub fn likely_parts(
     text: &MaskedText<'_>,
     parts: &Parts,
-    count: u32,
-    list: &mut Vec<u32>,
-    rows: &mut Vec<Stretch>,
+    index: &PartIndex,
+    at: usize,
+    row: &mut Vec<u32>,
 ) -> Mem<()>
     requires known { AreKnown (IsKnown text.now) text.now.net.now }
     requires ahead { GoesAhead (input_of (masked_setting text.now)) (length text.now.text.now) }
     requires parts { ArePartsOf text.now.net.now parts.now }
-    requires none { length rows.old.items ≡ 0 }
-    ensures len { OnOk result (length rows.new.items ≡ length text.now.text.now + 1) }
-    ensures rows { OnOk result (AreLikelyRows (input_of (masked_setting text.now))
-        text.now.net.now parts.now count list.new.items rows.new.items) }
+    requires index { IsPartIndex text.now.alphabet.now (different_texts text.now.text.now)
+        text.now.net.now parts.now index.now }
+    requires inside { at ≤ length text.now.text.now }
+    ensures { OnOk result (AreLikely (input_of (masked_setting text.now)) text.now.net.now
+        parts.now at row.new.items) }
 {
-    'rows: while rows.len() <= text.text.len() {
-        let from = list.len();
-        let at = rows.len();
-        add_parts(text, parts, count, at, list)?;
-        let to = list.len();
-        rows.push(Stretch { from, to })?;
+    row.clear();
+    let token = token_at(text.text, at);
+    let mut from = 0;
+    'parts: while let Some(number) = index.next(token, from) {
+        add_part(text, parts, index, number, at, row)?;
+        from = number as usize + 1;
     }
     Ok(())
 }
 
-/// Adds the numbers of the parts that may reach something from a position.
-fn add_parts(
+/// Adds the number of the part, if it may reach something from a position.
+fn add_part(
     text: &MaskedText<'_>,
     parts: &Parts,
-    count: u32,
+    index: &PartIndex,
+    number: u32,
     at: usize,
-    list: &mut Vec<u32>,
+    row: &mut Vec<u32>,
 ) -> Mem<()>
     requires known { AreKnown (IsKnown text.now) text.now.net.now }
     requires ahead { GoesAhead (input_of (masked_setting text.now)) (length text.now.text.now) }
     requires parts { ArePartsOf text.now.net.now parts.now }
     requires inside { at ≤ length text.now.text.now }
-    ensures kept { OnOk result ((more : List ℕ) × (list.new.items ≡ list.old.items ++ more)) }
-    ensures row { OnOk result (IsLikelyRow (input_of (masked_setting text.now)) text.now.net.now
-        parts.now list.new.items (stretch_of (length list.old.items) (length list.new.items))
-        at count) }
+    requires row { IsLikelyRow (input_of (masked_setting text.now)) text.now.net.now parts.now
+        row.old.items at number }
+    ensures { OnOk result (IsLikelyRow (input_of (masked_setting text.now)) text.now.net.now
+        parts.now row.new.items at (number + 1)) }
 {
-    let from = list.len();
-    for number in 0..count {
-        if may_begin(text, parts, number, at, &list[from..list.len()]) {
-            list.push(number)?;
-        }
+    if may_reach(text, parts, index, number, at, row) {
+        row.push(number)?;
+        return Ok(());
     }
     Ok(())
+}
+
+/// Whether a part that is tried at a position may reach something from there. One that the index
+/// lists with the token may, and one of many edges isn't tested, since a search looks them up.
+fn may_reach(
+    text: &MaskedText<'_>,
+    parts: &Parts,
+    index: &PartIndex,
+    number: u32,
+    at: usize,
+    row: &[u32],
+) -> bool
+    requires known { AreKnown (IsKnown text.now) text.now.net.now }
+    requires inside { at ≤ length text.now.text.now }
+    requires row { IsStrictlyIncreasing row.now }
+    ensures { (part : Part) → slice_get parts.now.list number ≡ Some part →
+        MayBegin (input_of (masked_setting text.now)) text.now.net.now parts.now row.now part at →
+        IsTrue result }
+{
+    if !index.is_everywhere(number) || has_many(text, parts, number) {
+        return true;
+    }
+    may_begin(text, parts, number, at, row)
+}
+
+/// Whether the first state of a part gets an index.
+fn has_many(text: &MaskedText<'_>, parts: &Parts, number: u32) -> bool {
+    let Some(part) = parts.part(number) else {
+        return false;
+    };
+    match text.net.state(part.graph, part.first) {
+        Some(state) => has_index(state.edges.as_slice()),
+        None => false,
+    }
 }
 
 /// Whether there is a part of this number, and it may reach something from a position. Those before it

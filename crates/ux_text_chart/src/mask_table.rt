@@ -20,7 +20,7 @@ use std::sync::ledger::Ledger;
 use ux_alphabet::Alphabet;
 use ux_apply::Applied;
 use ux_base::{Mem, Steps};
-use ux_chart::table::Stretch;
+use ux_chart::table::{Stretch, between};
 use ux_masks::Mask;
 use ux_net::Net;
 use ux_tokens::Text;
@@ -38,8 +38,8 @@ pub struct MaskTable<'n> {
 }
 
 impl<'n> MaskTable<'n> {
-    /// The table of a net over a text. Each different mask takes at most one step a place; what isn't
-    /// found takes no memory but a stretch of two numbers a position.
+    /// The table of a net over a text. Each different mask takes at most one step a place; what
+    /// isn't found takes no memory but a stretch of two numbers of 32 bits a position.
     pub fn fill<L: Ledger>(
         alloc: Global,
         net: &'n Net,
@@ -148,7 +148,8 @@ fn row_at<L: Ledger>(
     let position = rows.len();
     let place = skip(text, position);
     if text.len() <= place {
-        return Ok(empty_row(spans));
+        let row = empty_row(spans)?;
+        return Ok(row);
     }
     match rows.last() {
         Some(row) if skip(text, position - 1) == place => Ok(*row),
@@ -157,12 +158,13 @@ fn row_at<L: Ledger>(
 }
 
 /// A row without spans.
-fn empty_row(spans: &Spans) -> Stretch
-    ensures from { result.from ≡ length spans.now.numbers.items }
-    ensures to { result.to ≡ length spans.now.numbers.items }
+fn empty_row(spans: &Spans) -> Mem<Stretch>
+    ensures from { IfOk result (λ row. row.from ≡ length spans.now.numbers.items) }
+    ensures to { IfOk result (λ row. row.to ≡ length spans.now.numbers.items) }
 {
     let end = spans.numbers.len();
-    Stretch { from: end, to: end }
+    let row = between(end, end)?;
+    Ok(row)
 }
 
 /// The row of a place, at which each mask is tried.
@@ -193,6 +195,6 @@ fn try_masks<L: Ledger>(
         spans.push_all(number, &ends)?;
         number += 1;
     }
-    let to = spans.numbers.len();
-    Ok(Stretch { from, to })
+    let row = between(from, spans.numbers.len())?;
+    Ok(row)
 }

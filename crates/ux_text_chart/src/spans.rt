@@ -49,10 +49,11 @@ impl Spans {
         ensures exactly { (k : ℕ) → Contains result.now k ↔ HasEnd self.now row number k }
         ensures ascending { IsStrictlyIncreasing result.now }
     {
-        let numbers = &self.numbers[row.from..row.to];
+        let from = row.from as usize;
+        let numbers = &self.numbers[from..row.to as usize];
         let first = count_below(numbers, number);
         let last = count_up_to(numbers, number);
-        &self.ends[row.from + first..row.from + last]
+        &self.ends[from + first..from + last]
     }
 }
 

@@ -1,5 +1,5 @@
 -- The derivations that are spelled out are those that were found, each once.
-use Rattle.std.proofs.Common.{arith, ◌≡◌, ℕ, zero, suc, ◌+◌, ◌<◌, ◌≤◌, List, [], ◌∷◌, ◌++◌, refl, sym, ◌∙◌, ap, subst, ◌↔◌, length, take, get_or, reverse}
+use Rattle.std.proofs.Common.{arith, ◌≡◌, ℕ, zero, suc, ◌+◌, ◌<◌, ◌≤◌, List, [], ◌∷◌, ◌++◌, refl, sym, ◌∙◌, ap, subst, ◌↔◌, ◌⊎◌, inl, inr, length, take, get_or, reverse}
 use Rattle.std.specs.Prelude.{Some, slice_get, Contains}
 use Rattle.std.specs.List.{AllZip}
 use Rattle.std.proofs.lemmas.List.{take_more, take_all, reverse-append, reverse-reverse}
@@ -11,10 +11,15 @@ use Rattle.ux_walk.specs.declared.reached.Reached.{Reached}
 use Rattle.ux_base.specs.Distinct.{StandOnce}
 use Rattle.ux_walk.specs.Links.{AreOnce}
 use Rattle.ux_walk.specs.Noted.{StandsFor}
-use Rattle.ux_walk.specs.Configurations.{IsFoundAs, IsSound, NamesEventsIn, events_of, texts_of}
+use Rattle.ux_walk.specs.declared.config.Visit.{Visit}
+use Rattle.ux_walk.specs.Courses.{Course}
+use Rattle.ux_walk.specs.Groups.{IsIn}
+use Rattle.ux_walk.specs.Configurations.{IsFound, IsFoundAs, IsSound, IsVisit, NamesEventsIn, ended, events_of, texts_of}
+use Rattle.ux_walk.proofs.Collecting.{seen_before, seen_itself, seen_next}
+use Rattle.ux_walk.proofs.GroupsLemmas.{nothing_in}
 use Rattle.ux_walk.proofs.NotedLemmas.{one_teller}
 
-at_of : {A : Type 0} (xs : List A) (x : A) → Contains xs x → (k : ℕ) × (slice_get xs k ≡ Some x)
+pub at_of : {A : Type 0} (xs : List A) (x : A) → Contains xs x → (k : ℕ) × (slice_get xs k ≡ Some x)
 at_of xs x c = (c.0, slice_get-get_or xs c.0 x c.1 ∙ ap Some c.2)
 
 contains_at : {A : Type 0} (xs : List A) (k : ℕ) (x : A) → slice_get xs k ≡ Some x → Contains xs x
@@ -46,6 +51,29 @@ module _ {A B : Type 0} (R : A → B → Type 0) where
       (b, refl, subst (λ (z : A). R z b) (same_Some a x at) zip.0)
   zip_left (a ∷ xs) (b ∷ ys) (suc k) x zip at = zip_left xs ys k x zip.1 at
 
+-- so far a set has what a list has
+pub set_none : {A : Type 0} (keys all : List A) → keys ≡ [] → (x : A) →
+    Contains keys x ↔ Contains (take 0 all) x
+set_none {A} keys all none x = (
+  λ h. absurd (nothing_in x (subst (λ (l : List A). Contains l x) none h)),
+  λ h. absurd (nothing_in x h),
+)
+
+pub set_more : {A : Type 0} (all old new : List A) (i : ℕ) (y : A) → i < length all →
+    y ≡ get_or all i y → ((x : A) → Contains old x ↔ Contains (take i all) x) →
+    ((x : A) → Contains new x ↔ (Contains old x ⊎ (x ≡ y))) → (x : A) →
+    Contains new x ↔ Contains (take (i + 1) all) x
+set_more {A} all old new i y lt is same put x = (
+  λ h. elim ((put x).0 h) [
+    | inl o ↦ seen_before all i y x lt is ((same x).0 o)
+    | inr e ↦ subst (λ (z : A). Contains (take (i + 1) all) z) (sym e) (seen_itself all i y lt is)
+  ],
+  λ h. elim (seen_next all i y x lt is h) [
+    | inl o ↦ (put x).1 (inl ((same x).1 o))
+    | inr e ↦ (put x).1 (inr (sym e))
+  ],
+)
+
 module _ (r : Reached) where
   -- the derivation has the end, and the events of the list in order
   pub record IsSpelled (f : Found) (d : ℕ × List Event) : Type 0 where
@@ -70,52 +98,75 @@ module _ (r : Reached) where
   spelled_all all i ds past zip =
       subst (λ (l : List Found). AllZip IsSpelled l ds) (take_all i all past) zip
 
-  module _ (sound : IsSound r) (ds : List (ℕ × List Event))
-      (zip : AllZip IsSpelled r.found.keys ds) where
-    pub derived_exactly : (end : ℕ) (events : List Event) →
-        Contains ds (end, events) ↔ IsFoundAs r end events
-    derived_exactly end events = (
+  module _ (sound : IsSound r) (number : ℕ) (all : List Found)
+      (are : (f : Found) → Contains all f ↔ IsIn r.found number f) (ds : List (ℕ × List Event))
+      (zip : AllZip IsSpelled all ds) where
+    -- what was found names some events
+    named_in : (k : ℕ) (f : Found) → slice_get all k ≡ Some f →
+        (before : List Event) × NamesEventsIn r f.events before
+    named_in k f at =
+        let s = sound.found number f ((are f).0 (contains_at all k f at)) in
+        (s.2.before, s.2.events)
+
+    pub derived_exactly : (v : Visit) → IsVisit r number v → AreOnce r.visits.keys → (end : ℕ)
+        (events : List Event) →
+        Contains ds (end, events) ↔ IsFoundAs r v end events
+    derived_exactly v visit once end events = (
       λ c.
           let at = at_of ds (end, events) c in
-          let f = zip_right IsSpelled r.found.keys ds at.0 (end, events) zip at.1 in
-          let inside = contains_at r.found.keys at.0 f.0 f.1 in
-          let w = sound.found f.0 inside in
+          let f = zip_right IsSpelled all ds at.0 (end, events) zip at.1 in
+          let n = named_in at.0 f.0 f.1 in
           record {
-            found = f.0;
-            inside = inside;
-            before = w.1.before;
-            names = w.1.events;
-            at = sym f.2.end;
-            is = f.2.events w.1.before w.1.events;
+            before = n.0;
+            has = (
+              number,
+              f.0,
+              (are f.0).0 (contains_at all at.0 f.0 f.1),
+              record {
+                before = n.0;
+                visit = visit;
+                events = n.1;
+                is = ap (λ k. ended k n.0) f.2.end;
+              },
+            );
+            is = f.2.events n.0 n.1;
           },
-      λ f.
-          let at = at_of r.found.keys f.found f.inside in
-          let d = zip_left IsSpelled r.found.keys ds at.0 f.found zip at.1 in
-          let end_is : d.0.0 ≡ end = d.2.end ∙ f.at in
-          let events_is : d.0.1 ≡ events = d.2.events f.before f.names ∙ sym f.is in
-          let same : d.0 ≡ (end, events) = ap (λ (n : ℕ). (n, d.0.1)) end_is
-          ∙ ap (λ (l : List Event). (end, l)) events_is in
-          subst (λ (x : ℕ × List Event). Contains ds x) same (contains_at ds at.0 d.0 d.1),
+      λ d. by d.before d.is d.has.0 d.has.1 d.has.2 d.has.3,
     )
+      where
+        by : (before : List Event) → events ≡ reverse before → (n : ℕ) (f : Found) →
+            IsIn r.found n f → IsFound r n f v (ended end before) → Contains ds (end, events)
+        by before is n f inside found =
+            let same : n ≡ number = once n number v found.visit visit in
+            let here : Contains all f = (are f).1 (subst (λ k. IsIn r.found k f) same inside) in
+            let at = at_of all f here in
+            let d = zip_left IsSpelled all ds at.0 f zip at.1 in
+            let end_is : d.0.0 ≡ end = d.2.end
+            ∙ ap (λ (x : Course). x.at) (sym found.is) in
+            let before_is : found.before ≡ before = ap (λ (x : Course). x.before) (sym found.is) in
+            let events_is : d.0.1 ≡ events = d.2.events found.before found.events
+            ∙ (ap (λ (l : List Event). reverse l) before_is ∙ sym is) in
+            let whole : d.0 ≡ (end, events) = ap (λ (k : ℕ). (k, d.0.1)) end_is
+            ∙ ap (λ (l : List Event). (end, l)) events_is in
+            subst (λ (x : ℕ × List Event). Contains ds x) whole (contains_at ds at.0 d.0 d.1)
 
-    pub derived_once : AreOnce r.found.keys → AreOnce (events_of r) → StandOnce (texts_of r) →
-        AreOnce ds
+    pub derived_once : AreOnce all → AreOnce (events_of r) → StandOnce (texts_of r) → AreOnce ds
     derived_once found links texts i j d at there =
-        let f = zip_right IsSpelled r.found.keys ds i d zip at in
-        let g = zip_right IsSpelled r.found.keys ds j d zip there in
-        let v = sound.found f.0 (contains_at r.found.keys i f.0 f.1) in
-        let w = sound.found g.0 (contains_at r.found.keys j g.0 g.1) in
-        let reversed : reverse v.1.before ≡ reverse w.1.before =
-        sym (f.2.events v.1.before v.1.events) ∙ g.2.events w.1.before w.1.events in
-        let lists : v.1.before ≡ w.1.before = sym (reverse-reverse v.1.before)
-        ∙ (ap (λ (l : List Event). reverse l) reversed ∙ reverse-reverse w.1.before) in
+        let f = zip_right IsSpelled all ds i d zip at in
+        let g = zip_right IsSpelled all ds j d zip there in
+        let v = named_in i f.0 f.1 in
+        let w = named_in j g.0 g.1 in
+        let reversed : reverse v.0 ≡ reverse w.0 =
+        sym (f.2.events v.0 v.1) ∙ g.2.events w.0 w.1 in
+        let lists : v.0 ≡ w.0 = sym (reverse-reverse v.0)
+        ∙ (ap (λ (l : List Event). reverse l) reversed ∙ reverse-reverse w.0) in
         let numbers : f.0.events ≡ g.0.events = one_teller (texts_of r) texts (events_of r) links
-        f.0.events g.0.events w.1.before
-        (subst (λ (l : List Event). NamesEventsIn r f.0.events l) lists v.1.events) w.1.events in
+        f.0.events g.0.events w.0
+        (subst (λ (l : List Event). NamesEventsIn r f.0.events l) lists v.1) w.1 in
         let ends : f.0.end ≡ g.0.end = sym f.2.end ∙ g.2.end in
         let same : f.0 ≡ g.0 = ap (λ n. record { end = n; events = f.0.events }) ends
         ∙ ap (λ n. record { end = g.0.end; events = n }) numbers in
-        found i j g.0 (subst (λ (x : Found). slice_get r.found.keys i ≡ Some x) same f.1) g.1
+        found i j g.0 (subst (λ (x : Found). slice_get all i ≡ Some x) same f.1) g.1
 
 -- so far each noted event is spelled as an event that it stands for is
 module _ (texts : List (List ℕ)) where

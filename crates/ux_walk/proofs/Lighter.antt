@@ -14,7 +14,7 @@ use Rattle.ux_walk.specs.declared.config.Frame.{Frame}
 use Rattle.ux_walk.proofs.Weights.{weight_of}
 
 -- powers
-one_power : (c : ℕ) → 1 ≤ 3 ^ c
+pub one_power : (c : ℕ) → 1 ≤ 3 ^ c
 one_power c = pow-le-pow_right {n = 3} (omega arith) {i = 0} {j = c} (omega arith)
 
 power_grows : (a c : ℕ) → a ≤ c → 3 ^ a ≤ 3 ^ c

@@ -28,7 +28,7 @@ use Rattle.ux_walk.specs.Courses.{Course, IsBehind, IsOverSome, IsOverSomeAt, pu
 use Rattle.ux_walk.specs.Configurations.{AddsFrom}
 use Rattle.ux_walk.specs.EdgeIndexes.{IsIndexOf}
 use Rattle.ux_walk.specs.LookUps.{Refuses, AreEnough, AreSound, IsKept}
-use Rattle.ux_walk.proofs.Adding.{adds_alike}
+use Rattle.ux_walk.proofs.Adding.{adds_of}
 
 module _ {K V : Type 0} (eq : K → K → Bool) (key : K) where
   -- what is found at a key is an entry of it
@@ -163,23 +163,23 @@ module _ (alphabet : Letters) (edges : List Edge) (places : List ℕ) where
   pub adds_listed : (tokens : List Token) (tables : Tables) (applies : Applying) (position : ℕ)
       (old new : Reached) (c : Config) →
       position ≡ skip tokens c.at → AreEnoughFor (slice_get tokens position) →
-      AddsFrom old new c (λ back before.
-      IsOverSomeAt alphabet tokens tables applies c.here back c.at before edges places) →
-      AddsFrom old new c (λ back before.
-      IsOverSome alphabet tokens tables applies c.here back c.at before edges)
+      AddsFrom old new c (λ before.
+      IsOverSomeAt alphabet tokens tables applies c.here [] c.at before edges places) →
+      AddsFrom old new c (λ before.
+      IsOverSome alphabet tokens tables applies c.here [] c.at before edges)
   adds_listed tokens tables applies position old new c is enough adds =
       go (slice_get tokens position) refl enough
     where
       go : (o : Option Token) → slice_get tokens position ≡ o → AreEnoughFor o →
-          AddsFrom old new c (λ back before.
-          IsOverSome alphabet tokens tables applies c.here back c.at before edges)
+          AddsFrom old new c (λ before.
+          IsOverSome alphabet tokens tables applies c.here [] c.at before edges)
       go None there enough = absurd enough
-      go (Some token) there enough = λ back before sound spells.
-          adds_alike (IsOverSomeAt alphabet tokens tables applies c.here back c.at before edges
+      go (Some token) there enough = λ v before sound spells.
+          adds_of v (IsOverSomeAt alphabet tokens tables applies c.here [] c.at before edges
           places)
-          (IsOverSome alphabet tokens tables applies c.here back c.at before edges) old new
-          (adds back before sound spells)
-          (same_courses alphabet tokens tables applies back c.at before c.here edges places token
+          (IsOverSome alphabet tokens tables applies c.here [] c.at before edges) old new
+          (adds v before sound spells)
+          (same_courses alphabet tokens tables applies [] c.at before c.here edges places token
           (ap (slice_get tokens) (sym is) ∙ there) enough)
 
   -- places by an index that is kept are enough for the token

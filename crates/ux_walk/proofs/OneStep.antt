@@ -248,7 +248,7 @@ module _ (alphabet : Letters) (tokens : List Token) (tables : Tables) (applies :
       stays (put_event x ∷ []) (stays_piece x p) (output_back output word p j later s)
 
   -- over a label to a state, and on from there
-  abbrev Onward : Label → (g n i j : ℕ) → List Event → Type 0
+  abbrev pub Onward : Label → (g n i j : ℕ) → List Event → Type 0
   Onward x g n i j events =
       ((k : ℕ) × (later : List Event) × TakesPlainly alphabet tokens tables x i k
       × Goes g n k j later
@@ -260,14 +260,14 @@ module _ (alphabet : Letters) (tokens : List Token) (tables : Tables) (applies :
       ⊎ ((c : ℕ) × Opens x × applies g x n i c × Goes g c i j events)))
 
   -- over an edge of the state, with its output first
-  abbrev Ahead : (g n i j : ℕ) → List Event → Type 0
+  abbrev pub Ahead : (g n i j : ℕ) → List Event → Type 0
   Ahead g n i j events =
       (state : State) × (slice_get (states_of graphs g) n ≡ Some state)
       × (edge : Edge) × Contains state.edges edge
       × (rest : List Event) × Onward edge.label g edge.target i j rest
       × (events ≡ put_events edge.output ++ rest)
 
-  abbrev Stops : (g n i j : ℕ) → List Event → Type 0
+  abbrev pub Stops : (g n i j : ℕ) → List Event → Type 0
   Stops g n i j events = IsNetEnd (states_of graphs g) n × (i ≡ j) × (events ≡ [])
 
   none_left : {p j : ℕ} {events : List Event} →
@@ -337,7 +337,7 @@ module _ (alphabet : Letters) (tokens : List Token) (tables : Tables) (applies :
       )
   first_context sign other mark g o c p j body word events is s = cc
 
-  goes_only : (g n i j : ℕ) (events : List Event) → Goes g n i j events →
+  pub goes_only : (g n i j : ℕ) (events : List Event) → Goes g n i j events →
       Stops g n i j events ⊎ Ahead g n i j events
   goes_only g n i j events goes = by_run goes.run goes.ends goes.seq
     where

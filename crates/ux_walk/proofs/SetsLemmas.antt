@@ -1,5 +1,5 @@
 -- The elements of a set after one more.
-use Rattle.std.proofs.Common.{arith, ◌≡◌, ℕ, zero, suc, ◌∙◌, List, [], ◌∷◌, ◌++◌, ◌⊎◌, ◌↔◌, inl, inr, refl, sym, ap, subst, Bool, Bor, true, false, cond, map}
+use Rattle.std.proofs.Common.{arith, ◌≡◌, ℕ, zero, suc, ◌∙◌, List, [], ◌∷◌, ◌++◌, ◌⊎◌, ◌↔◌, inl, inr, refl, sym, ap, subst, Bool, Bor, true, false, cond, not, map, append-nil}
 use Rattle.std.specs.Prelude.{Contains, Some, slice_get}
 use Rattle.std.specs.List.{list_any, IsDistinct, AllByRecursion}
 use Rattle.std.specs.Str.{bytes_eq}
@@ -8,6 +8,7 @@ use Rattle.std.proofs.lemmas.Option.{same_Some, slice_get_within}
 use Rattle.std.proofs.lemmas.List.Elements.{Contains-append_left, Contains-push_cases, Contains-push}
 use Rattle.indexmap.specs.IndexSet.{insert_key}
 use Rattle.indexmap.proofs.CallerLemmas.{Contains-list_any}
+use Rattle.ux_walk.specs.Groups.{Grows, IsAdded}
 use Rattle.ux_walk.specs.Links.{AreOnce}
 
 module _ {A : Type 0} (eq : A → A → Bool) (same : (a b : A) → eq a b ≡ true → a ≡ b) where
@@ -37,6 +38,23 @@ module _ {A : Type 0} (eq : A → A → Bool) (same : (a b : A) → eq a b ≡ t
               | inr new ↦ subst (Contains (ks ++ k ∷ [])) (sym new) (Contains-push ks k)
             ],
           )
+
+  -- the items after one more, and whether it is new
+  pub added : (ks new : List A) (k : A) (is_new : Bool) → is_new ≡ not (list_any (eq k) ks) →
+      new ≡ insert_key eq ks k → IsAdded ks new k is_new
+  added ks new k is_new test is = record {
+    grows = subst (λ (l : List A). Grows ks l) (sym is) (grown (list_any (eq k) ks));
+    exact = inserted ks new k is;
+    known = λ old. Contains-list_any eq same ks k (known (list_any (eq k) ks) (sym test ∙ old));
+  }
+    where
+      grown : (b : Bool) → Grows ks (cond b ks (ks ++ k ∷ []))
+      grown true = ([], sym (append-nil ks))
+      grown false = (k ∷ [], refl)
+
+      known : (b : Bool) → not b ≡ false → b ≡ true
+      known true off = refl
+      known false off = let no : true ≡ false = off in cc
 
 each_at : {A : Type 0} (P : A → Type 0) (xs : List A) (j : ℕ) (x : A) → AllByRecursion P xs →
     slice_get xs j ≡ Some x → P x

@@ -1,12 +1,11 @@
--- How much a configuration may still do.
-use Rattle.std.proofs.Common.{arith, ◌≡◌, ℕ, zero, suc, ◌+◌, ◌-◌, ◌*◌, ◌^◌, ◌≤◌, List, [], ◌∷◌, refl, ◌∙◌, ap, max}
+-- How much frames may still do.
+use Rattle.std.proofs.Common.{arith, ◌≡◌, ℕ, zero, suc, ◌+◌, ◌-◌, ◌*◌, ◌^◌, ◌≤◌, List, [], ◌∷◌, refl, ◌∙◌, ap}
 use Rattle.std.specs.Prelude.{Option, Some, None}
 use Rattle.std.proofs.lemmas.Option.{none-some}
 use Rattle.ux_net.specs.declared.net_graph.NetGraph.{NetGraph}
 use Rattle.ux_net.specs.Measured.{rank_of, bound_of, must}
 use Rattle.ux_walk.specs.declared.lists.Link.{Link}
 use Rattle.ux_walk.specs.declared.config.Frame.{Frame}
-use Rattle.ux_walk.specs.declared.config.Config.{Config}
 use Rattle.ux_walk.specs.Links.{link_at, Names, AreBelow}
 
 -- the head of a first link, and what its tail gives
@@ -43,12 +42,3 @@ module _ (graphs : List NetGraph) where
   abbrev pub weight_of : ℕ → List Frame → ℕ
   weight_of m [] = 0
   weight_of m (f ∷ fs) = cost m f + weight_of (m - must graphs f.graph f.state) fs
-
-  module _ (len : ℕ) (frames : List (Link Frame)) where
-    abbrev pub load : Config → ℕ
-    load c = weight_of ((len - c.at) + 1) (c.here ∷ spelled frames c.back c.back)
-
-    -- one more than the greatest weight, or 0 where there is none
-    abbrev pub greatest : List Config → ℕ
-    greatest [] = 0
-    greatest (c ∷ cs) = max (load c + 1) (greatest cs)

@@ -1,5 +1,7 @@
 pub mod Settings
 pub mod Links
+pub mod Groups
+pub mod Joins
 pub mod Contexts
 pub mod Courses
 pub mod Leads

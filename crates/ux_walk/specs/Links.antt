@@ -31,6 +31,13 @@ pub record IsConsed {A : Type 0} (old new : List (Link A)) (head : A) (tail numb
   pub at : link_at new number ≡ Some (record { head = head; tail = tail })
   pub added : (new ≡ old) ⊎ (new ≡ old ++ record { head = head; tail = tail } ∷ [])
 
+-- the number names the elements of the later list, and behind them those of the earlier one
+abbrev pub IsAppended : {A : Type 0} → (old new : List (Link A)) → (earlier later number : ℕ) →
+    Type 0
+IsAppended {A} old new earlier later number = (xs ys : List A) → Names old earlier xs →
+    Names old later ys →
+    Extends old new × AreBelow new × Names new number (ys ++ xs)
+
 -- no element stands at two places
 abbrev pub AreOnce : {A : Type 0} → List A → Type 0
 AreOnce {A} xs =

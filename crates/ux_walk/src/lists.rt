@@ -4,7 +4,7 @@
 //! Equal links are one, so equal lists have equal numbers.
 
 ghost use Rattle.std.specs.Prelude.{◌≡◌, ℕ, List, [], true, IfOk, OnErr, option_copied, reverse};
-ghost use Rattle.ux_walk.specs.Links.{AreBelow, AreOnce, IsConsed, Names, link_at};
+ghost use Rattle.ux_walk.specs.Links.{AreBelow, AreOnce, IsAppended, IsConsed, Names, link_at};
 
 use crate::sets::stand_once;
 use indexmap::IndexSet;
@@ -58,15 +58,41 @@ impl<T: Eq + Hash + Copy + Drop> Lists<T> {
         Ok(index + 1)
     }
 
+    /// The number of the list that has the elements of the later list, and behind them those of the
+    /// earlier one.
+    pub fn append(&mut self, alloc: Global, earlier: usize, later: usize) -> Mem<usize>
+        requires { (a b : T) → T.eq a b ≡ true → a ≡ b }
+        ensures { IfOk result (λ number. AreBelow self.old.links.keys →
+            IsAppended self.old.links.keys self.new.links.keys earlier later number) }
+    {
+        let items = self.listed(alloc, later)?;
+        let mut number = earlier;
+        for item in items.as_slice() {
+            number = self.cons(*item, number)?;
+        }
+        Ok(number)
+    }
+
     /// The elements of a list in reverse order.
     pub fn spell(&self, alloc: Global, number: usize) -> Mem<Vec<T>>
         requires { AreBelow self.now.links.keys }
         ensures { IfOk result (λ items. (xs : List T) → Names self.now.links.keys number xs →
             items.items ≡ reverse xs) }
     {
+        self.listed(alloc, number)
+    }
+
+    /// The same, where nothing is known of the number.
+    pub fn listed(&self, alloc: Global, number: usize) -> Mem<Vec<T>>
+        ensures { IfOk result (λ items. (xs : List T) → AreBelow self.now.links.keys →
+            Names self.now.links.keys number xs → items.items ≡ reverse xs) }
+    {
         let mut items = Vec::new(alloc);
         let mut rest = number;
         while let Some(link) = self.link(rest) {
+            if rest <= link.tail {
+                return Ok(items);
+            }
             items.push(link.head)?;
             rest = link.tail;
         }

@@ -1,4 +1,4 @@
-//! What walks by rounds of one net over one text keep: the indexes of states of many edges, as they
+//! What walks of one net over one text keep: the indexes of states of many edges, as they
 //! meet them, and the texts of events.
 //!
 //! Each index is made once, when its state is first met, and is kept across the walks of one net over

@@ -1,6 +1,6 @@
 //! What a walk has reached, and how it goes one step on.
 
-ghost use Rattle.std.specs.Prelude.{◌≡◌, ◌<◌, ◌≤◌, ◌↔◌, ℕ, List, [], ◌∷◌, ◌++◌, Contains, IfOk, IsTrue, OnOk, length, option_copied, reverse, slice_get, Some};
+ghost use Rattle.std.specs.Prelude.{◌≡◌, ◌<◌, ◌≤◌, ◌↔◌, ℕ, List, [], ◌∷◌, ◌++◌, Contains, IfOk, IfSome, IsTrue, OnOk, length, option_copied, reverse, slice_get, Some};
 ghost use Rattle.ux_alphabet.specs.Letters.{Letters};
 ghost use Rattle.ux_apply.specs.Belonging.{Belongs};
 ghost use Rattle.ux_apply.specs.Tables.{Tables};
@@ -11,25 +11,28 @@ ghost use Rattle.ux_tokens.specs.Numbers.{different_texts};
 ghost use Rattle.ux_tokens.specs.Tokens.{Token};
 ghost use Rattle.ux_walk.specs.Links.{AreOnce};
 ghost use Rattle.ux_walk.specs.LookUps.{AreSound};
-ghost use Rattle.ux_walk.specs.declared.config.Config.{Config};
-ghost use Rattle.ux_walk.specs.Configurations.{Adds, AddsFrom, IsAfterSome, IsFoundAs, IsNamed, IsNothing, IsPast, IsRound, IsSound, Notes, Places, NamesEventsIn, texts_of};
+ghost use Rattle.ux_walk.specs.declared.config.Found.{Found};
+ghost use Rattle.ux_walk.specs.declared.config.Visit.{Visit};
+ghost use Rattle.ux_walk.specs.Groups.{AreGrouped, IsIn};
+ghost use Rattle.ux_walk.specs.Configurations.{Adds, AddsFrom, IsFoundAs, IsNothing, IsPast, IsSound, IsVisit, NamesEventsIn, Notes, Numbers, Of, Places, calling, going, texts_of};
 ghost use Rattle.ux_walk.specs.Contexts.{ContextsTold, MayAsk, Opens};
 ghost use Rattle.ux_walk.specs.Courses.{Course, GoesOn, IsBehind, IsClosed, IsOver, IsOverAt, IsOverSome, IsOverSomeAt, at_state, passing, put_event, put_events};
 ghost use Rattle.ux_walk.specs.Noted.{StandsFor};
 ghost use Rattle.ux_walk.specs.Passages.{IsPassage};
 ghost use Rattle.ux_walk.specs.Settings.{setting_of};
 
-use crate::config::{Config, Found, Frame};
+use crate::config::{Config, Found, Frame, Return, Visit};
 use crate::contexts::Contexts;
+use crate::groups::Groups;
+use crate::joining::join_all;
 use crate::lists::Lists;
 use crate::look_ups::LookUps;
 use crate::matching::{Passage, passage_at, skip};
 use crate::noted::Noted;
-use crate::sets::{put, stand_once};
+use crate::sets::{add, number, put, stand_once};
 use crate::texts::Texts;
 use indexmap::IndexSet;
 use std::alloc::Global;
-use std::mem;
 use std::sync::ledger::Ledger;
 use ux_alphabet::Alphabet;
 use ux_apply::Applied;
@@ -42,15 +45,19 @@ use ux_tokens::Text;
 /// As many edges are tried one by one: no index of them is made.
 const FEW: usize = 8;
 
-/// The pending configurations and what was found, with the lists that they name.
+/// The visits, with their configurations, their callers and what was found of them.
 #[derive(Drop)]
 pub struct Reached<'t> {
-    frames: Lists<Frame>,
     events: Lists<Noted>,
     /// The texts of which the events speak, each once.
     texts: Texts<'t>,
-    pending: IndexSet<Config>,
-    found: IndexSet<Found>,
+    visits: IndexSet<Visit>,
+    /// The configurations, each once, in the order in which the walk goes on from them.
+    configs: IndexSet<Config>,
+    /// Who waits for what each visit derives.
+    returns: Groups<Return>,
+    /// What was found of each visit.
+    found: Groups<Found>,
 }
 
 impl<'t> Reached<'t> {
@@ -59,11 +66,12 @@ impl<'t> Reached<'t> {
         ensures { IsNothing result }
     {
         Reached {
-            frames: Lists::new(alloc),
             events: Lists::new(alloc),
             texts,
-            pending: IndexSet::new(alloc),
-            found: IndexSet::new(alloc),
+            visits: IndexSet::new(alloc),
+            configs: IndexSet::new(alloc),
+            returns: Groups::new(alloc),
+            found: Groups::new(alloc),
         }
     }
 
@@ -72,67 +80,55 @@ impl<'t> Reached<'t> {
         self.texts
     }
 
-    /// Whether a configuration is pending.
-    pub fn is_pending(&self) -> bool
-        ensures { IsTrue result ↔ (0 < length self.now.pending.keys) }
+    /// The configuration of this number, counted from 0 in the order in which they were reached.
+    /// Fewer than 2^63 fit.
+    pub fn config(&self, number: usize) -> Option<Config>
+        ensures is { result ≡ slice_get self.now.configs.keys number }
+        ensures few { IfSome result (λ config. number < 9223372036854775807) }
     {
-        !self.pending.as_slice().is_empty()
+        self.configs.len();
+        self.configs.get_index(number).copied()
     }
 
-    /// Goes one step on from each pending configuration.
-    pub fn round<C: Contexts, L: Ledger>(
-        &mut self,
-        alloc: Global,
-        net: &'t Net,
-        contexts: &C,
-        text: &'t Text,
-        alphabet: &Alphabet,
-        applied: &Applied,
-        look_ups: &mut LookUps<'t>,
-        steps: &mut Steps<L>,
-    ) -> Mem<()>
-        requires belongs { Belongs alphabet.now text.now applied.now }
-        requires sound { AreSound alphabet.now net.now (different_texts text.now) look_ups.now }
-        requires told { ContextsTold (setting_of net.now text.now alphabet.now applied.now)
-            (C.asks contexts.now) (C.applies contexts.now) }
-        requires inside { (c : Config) → Contains self.old.pending.keys c →
-            c.at ≤ length text.now }
-        ensures sound { AreSound alphabet.now net.now (different_texts text.now) look_ups.new }
-        ensures round { OnOk result (IsSound self.old →
-            IsRound alphabet.now text.now applied.now (C.applies contexts.now)
-            net.now self.old self.new) }
-    {
-        let configs = mem::replace(&mut self.pending, IndexSet::new(alloc));
-        self.step_each(
-            alloc,
-            net,
-            contexts,
-            text,
-            alphabet,
-            applied,
-            look_ups,
-            configs.as_slice(),
-            steps,
-        )?;
-        Ok(())
-    }
-
-    /// The derivations that were found, each with its end and its events.
-    pub fn derivations(&self, alloc: Global) -> Mem<Vec<(usize, Lst<Event>)>>
+    /// The derivations of a visit that were found, each once, with its end and its events.
+    pub fn derivations(&self, alloc: Global, visit: usize) -> Mem<Vec<(usize, Lst<Event>)>>
         requires { IsSound self.now }
-        ensures exactly { IfOk result (λ found. (end : ℕ) (events : List Event) →
-            Contains found.items (end, events) ↔ IsFoundAs self.now end events) }
+        ensures exactly { IfOk result (λ found. (v : Visit) → IsVisit self.now visit v →
+            (end : ℕ) (events : List Event) →
+            Contains found.items (end, events) ↔ IsFoundAs self.now v end events) }
         ensures once { IfOk result (λ found. AreOnce found.items) }
     {
+        let of_visit = self.found_of(alloc, visit)?;
         let mut derivations = Vec::new(alloc);
-        for found in self.found.as_slice() {
+        for found in of_visit.as_slice() {
             let events = self.spell(alloc, found.events)?;
             derivations.push((found.end, Lst::new(events)))?;
         }
-        stand_once(&self.found);
+        stand_once(&of_visit);
+        self.visits_stand_once();
         self.events.links_stand_once();
         self.texts.texts_stand_once();
         Ok(derivations)
+    }
+
+    /// No visit has two numbers.
+    pub fn visits_stand_once(&self)
+        ensures { AreOnce self.now.visits.keys }
+    {
+        stand_once(&self.visits);
+    }
+
+    /// What was found of a visit, each once.
+    fn found_of(&self, alloc: Global, visit: usize) -> Mem<IndexSet<Found>>
+        ensures { IfOk result (λ found. AreGrouped self.now.found →
+            (f : Found) → Contains found.keys f ↔ IsIn self.now.found visit f) }
+    {
+        let listed = self.found.of(alloc, visit)?;
+        let mut found = IndexSet::new(alloc);
+        for derivation in listed.as_slice() {
+            put(&mut found, *derivation)?;
+        }
+        Ok(found)
     }
 
     /// The events that a number names, in order.
@@ -165,39 +161,6 @@ impl<'t> Reached<'t> {
         }
     }
 
-    /// Goes one step on from each of the configurations.
-    fn step_each<C: Contexts, L: Ledger>(
-        &mut self,
-        alloc: Global,
-        net: &'t Net,
-        contexts: &C,
-        text: &'t Text,
-        alphabet: &Alphabet,
-        applied: &Applied,
-        look_ups: &mut LookUps<'t>,
-        configs: &[Config],
-        steps: &mut Steps<L>,
-    ) -> Mem<()>
-        requires belongs { Belongs alphabet.now text.now applied.now }
-        requires sound { AreSound alphabet.now net.now (different_texts text.now) look_ups.now }
-        requires told { ContextsTold (setting_of net.now text.now alphabet.now applied.now)
-            (C.asks contexts.now) (C.applies contexts.now) }
-        requires inside { (c : Config) → Contains configs.now c → c.at ≤ length text.now }
-        ensures sound { AreSound alphabet.now net.now (different_texts text.now) look_ups.new }
-        ensures adds { OnOk result (IsSound self.old →
-            ((c : Config) → Contains configs.now c → (w : Course) × IsNamed self.old c w) →
-            Adds (IsAfterSome alphabet.now text.now applied.now (C.applies contexts.now)
-            net.now self.old configs.now)
-            self.old self.new) }
-    {
-        for config in configs {
-            self.step(
-                alloc, net, contexts, text, alphabet, applied, look_ups, *config, steps,
-            )?;
-        }
-        Ok(())
-    }
-
     /// Goes one step on from a configuration: over each edge of its state, and back where that is
     /// final.
     pub fn step<C: Contexts, L: Ledger>(
@@ -218,9 +181,9 @@ impl<'t> Reached<'t> {
             (C.asks contexts.now) (C.applies contexts.now) }
         requires inside { config.at ≤ length text.now }
         ensures sound { AreSound alphabet.now net.now (different_texts text.now) look_ups.new }
-        ensures adds { OnOk result (AddsFrom self.old self.new config (λ back before.
+        ensures adds { OnOk result (AddsFrom self.old self.new config (λ before.
             GoesOn alphabet.now text.now applied.now (C.applies contexts.now) net.now
-            config.here back config.at before)) }
+            config.here [] config.at before)) }
     {
         let Some(state) = net.state(config.here.graph, config.here.state) else {
             return Ok(());
@@ -229,7 +192,7 @@ impl<'t> Reached<'t> {
             alloc, contexts, text, alphabet, applied, look_ups, config, state, steps,
         )?;
         if state.is_final {
-            self.leave(config)?;
+            self.leave(alloc, config)?;
         }
         Ok(())
     }
@@ -256,9 +219,9 @@ impl<'t> Reached<'t> {
         ensures adds { OnOk result ((net : List NetGraph) →
             slice_get (states_of net config.here.graph) config.here.state ≡ Some state.now →
             AreSound alphabet.now net (different_texts text.now) look_ups.old →
-            AddsFrom self.old self.new config (λ back before.
+            AddsFrom self.old self.new config (λ before.
             IsOverSome alphabet.now text.now applied.now (C.applies contexts.now)
-            config.here back config.at before state.now.edges)) }
+            config.here [] config.at before state.now.edges)) }
     {
         let edges = state.edges.as_slice();
         let position = skip(text, config.at);
@@ -302,9 +265,9 @@ impl<'t> Reached<'t> {
     ) -> Mem<()>
         requires belongs { Belongs alphabet.now text.now applied.now }
         requires asked { MayAsk (C.asks contexts.now) config.here.graph edges.now config.at }
-        ensures { OnOk result (AddsFrom self.old self.new config (λ back before.
+        ensures { OnOk result (AddsFrom self.old self.new config (λ before.
             IsOverSomeAt alphabet.now text.now applied.now (C.applies contexts.now)
-            config.here back config.at before edges.now places.now)) }
+            config.here [] config.at before edges.now places.now)) }
     {
         for place in places {
             self.follow_place(
@@ -329,9 +292,9 @@ impl<'t> Reached<'t> {
     ) -> Mem<()>
         requires belongs { Belongs alphabet.now text.now applied.now }
         requires asked { MayAsk (C.asks contexts.now) config.here.graph edges.now config.at }
-        ensures { OnOk result (AddsFrom self.old self.new config (λ back before.
+        ensures { OnOk result (AddsFrom self.old self.new config (λ before.
             IsOverAt alphabet.now text.now applied.now (C.applies contexts.now)
-            config.here back config.at before edges.now place)) }
+            config.here [] config.at before edges.now place)) }
     {
         match edge_at(edges, place) {
             Some(edge) => {
@@ -357,9 +320,9 @@ impl<'t> Reached<'t> {
     ) -> Mem<()>
         requires belongs { Belongs alphabet.now text.now applied.now }
         requires asked { MayAsk (C.asks contexts.now) config.here.graph edges.now config.at }
-        ensures { OnOk result (AddsFrom self.old self.new config (λ back before.
+        ensures { OnOk result (AddsFrom self.old self.new config (λ before.
             IsOverSome alphabet.now text.now applied.now (C.applies contexts.now)
-            config.here back config.at before edges.now)) }
+            config.here [] config.at before edges.now)) }
     {
         for edge in edges {
             self.follow(
@@ -384,9 +347,9 @@ impl<'t> Reached<'t> {
         requires belongs { Belongs alphabet.now text.now applied.now }
         requires asked { Opens edge.now.label →
             C.asks contexts.now config.here.graph edge.now config.at }
-        ensures { OnOk result (AddsFrom self.old self.new config (λ back before.
+        ensures { OnOk result (AddsFrom self.old self.new config (λ before.
             IsOver alphabet.now text.now applied.now (C.applies contexts.now)
-            config.here back config.at before edge.now)) }
+            config.here [] config.at before edge.now)) }
     {
         let passage = passage_at(
             alloc,
@@ -401,12 +364,13 @@ impl<'t> Reached<'t> {
             return Ok(());
         }
         let events = self.put_out(config.events, edge.output.as_slice())?;
-        self.go_on(contexts, Config { events, ..config }, edge, passage)
+        self.go_on(alloc, contexts, Config { events, ..config }, edge, passage)
     }
 
     /// Goes on after an edge whose label applies in this way.
     fn go_on<C: Contexts>(
         &mut self,
+        alloc: Global,
         contexts: &C,
         config: Config,
         edge: &'t Edge,
@@ -416,9 +380,9 @@ impl<'t> Reached<'t> {
             C.asks contexts.now config.here.graph edge.now config.at }
         ensures { OnOk result ((alphabet : Letters) (tokens : List Token) (tables : Tables) →
             IsPassage alphabet tokens tables edge.now.label config.at passage →
-            AddsFrom self.old self.new config (λ back before.
+            AddsFrom self.old self.new config (λ before.
             IsBehind alphabet tokens tables (C.applies contexts.now) edge.now.label
-            (at_state config.here edge.now.target) back config.at before)) }
+            (at_state config.here edge.now.target) [] config.at before)) }
     {
         let here = Frame {
             graph: config.here.graph,
@@ -428,7 +392,7 @@ impl<'t> Reached<'t> {
             Passage::Takes(end) => self.take(config, here, end),
             Passage::Spans(ends) => self.take_each(config, here, ends.as_slice()),
             Passage::Stays => self.pass(config, here, &edge.label),
-            Passage::Calls(graph) => self.call(config, here, graph),
+            Passage::Calls(graph) => self.call(alloc, config, here, graph),
             Passage::Opens => {
                 let closers = contexts.closers(here.graph, edge, config.at);
                 self.close_each(config, closers)
@@ -439,8 +403,8 @@ impl<'t> Reached<'t> {
 
     /// Goes on behind a context, at each of the states into which it is closed.
     fn close_each(&mut self, config: Config, closers: &[u32]) -> Mem<()>
-        ensures { OnOk result (AddsFrom self.old self.new config (λ back before w.
-            (c : ℕ) × Contains closers.now c × IsClosed config.here back config.at before c w)) }
+        ensures { OnOk result (AddsFrom self.old self.new config (λ before w.
+            (c : ℕ) × Contains closers.now c × IsClosed config.here [] config.at before c w)) }
     {
         for closer in closers {
             self.close(config, *closer)?;
@@ -450,8 +414,8 @@ impl<'t> Reached<'t> {
 
     /// Goes on behind a context that is closed into a state.
     fn close(&mut self, config: Config, closer: u32) -> Mem<()>
-        ensures { OnOk result (AddsFrom self.old self.new config (λ back before.
-            IsClosed config.here back config.at before closer)) }
+        ensures { OnOk result (AddsFrom self.old self.new config (λ before.
+            IsClosed config.here [] config.at before closer)) }
     {
         let here = Frame {
             graph: config.here.graph,
@@ -462,8 +426,8 @@ impl<'t> Reached<'t> {
 
     /// Goes on in a frame after the tokens up to each of the ends.
     fn take_each(&mut self, config: Config, here: Frame, ends: &[usize]) -> Mem<()>
-        ensures { OnOk result (AddsFrom self.old self.new config (λ back before w.
-            (end : ℕ) × Contains ends.now end × IsPast config.at here back before end w)) }
+        ensures { OnOk result (AddsFrom self.old self.new config (λ before w.
+            (end : ℕ) × Contains ends.now end × IsPast config.at here before end w)) }
     {
         for end in ends {
             self.take(config, here, *end)?;
@@ -473,8 +437,8 @@ impl<'t> Reached<'t> {
 
     /// Goes on in a frame after the tokens that were taken.
     fn take(&mut self, config: Config, here: Frame, end: usize) -> Mem<()>
-        ensures { OnOk result (AddsFrom self.old self.new config (λ back before.
-            IsPast config.at here back before end)) }
+        ensures { OnOk result (AddsFrom self.old self.new config (λ before.
+            IsPast config.at here before end)) }
     {
         let taken = Noted::Take {
             from: config.at,
@@ -483,7 +447,7 @@ impl<'t> Reached<'t> {
         let events = self.note(config.events, taken)?;
         self.pend(Config {
             here,
-            back: config.back,
+            visit: config.visit,
             at: end,
             events,
         })
@@ -491,84 +455,101 @@ impl<'t> Reached<'t> {
 
     /// Goes on in a frame after a label that takes nothing.
     fn pass(&mut self, config: Config, here: Frame, label: &'t Label) -> Mem<()>
-        ensures { OnOk result (AddsFrom self.old self.new config (λ back before w. w ≡ record {
-          frames = here ∷ back;
-          at = config.at;
-          before = passing label.now ++ before;
-        })) }
+        ensures { OnOk result (AddsFrom self.old self.new config (λ before w.
+            w ≡ going here config.at (passing label.now ++ before))) }
     {
         let events = self.note_passing(config.events, label)?;
         self.pend(Config {
             here,
-            back: config.back,
+            visit: config.visit,
             at: config.at,
             events,
         })
     }
 
-    /// Goes on at the start of a graph, to return to the frame.
-    fn call(&mut self, config: Config, here: Frame, graph: u32) -> Mem<()>
-        ensures { OnOk result (AddsFrom self.old self.new config (λ back before w. w ≡ record {
-          frames = record { graph = graph; state = 0 } ∷ here ∷ back;
+    /// Visits a graph, to go on in the frame behind each of its derivations.
+    fn call(&mut self, alloc: Global, config: Config, here: Frame, graph: u32) -> Mem<()>
+        ensures { OnOk result (AddsFrom self.old self.new config (λ before w. w ≡ record {
+          frames = record { graph = graph; state = 0 } ∷ here ∷ [];
           at = config.at;
           before = before;
         })) }
     {
-        let back = self.frames.cons(here, config.back)?;
-        let start = Frame { graph, state: 0 };
-        self.pend(Config {
-            here: start,
-            back,
+        let called = Visit {
+            graph,
             at: config.at,
+        };
+        let number = self.visit(called)?;
+        let waiting = Return {
+            visit: config.visit,
+            here,
             events: config.events,
-        })
+        };
+        self.wait(alloc, number, called, waiting)
     }
 
-    /// Returns to the frame that called, or ends where there is none.
-    fn leave(&mut self, config: Config) -> Mem<()>
-        ensures { OnOk result (AddsFrom self.old self.new config (λ back before w. w ≡ record {
-          frames = back;
-          at = config.at;
-          before = before;
-        })) }
+    /// The number of a visit.
+    pub fn visit(&mut self, visit: Visit) -> Mem<usize>
+        ensures { IfOk result (Numbers self.old self.new visit) }
     {
-        match self.frames.link(config.back) {
-            Some(link) => {
-                let here = link.head;
-                let back = link.tail;
-                self.pend(Config {
-                    here,
-                    back,
-                    at: config.at,
-                    events: config.events,
-                })
-            },
-            None => self.end(Found {
-                end: config.at,
-                events: config.events,
-            }),
+        let number = number(&mut self.visits, visit)?;
+        Ok(number)
+    }
+
+    /// Adds a caller of a visit, where it is new: the visit begins, unless it has begun, and the
+    /// caller goes on behind what was found of it.
+    fn wait(&mut self, alloc: Global, number: usize, called: Visit, waiting: Return) -> Mem<()>
+        ensures { OnOk result ((v : Visit) (before : List Event) → IsSound self.old →
+            IsVisit self.old number called → IsVisit self.old waiting.visit v →
+            NamesEventsIn self.old waiting.events before →
+            Adds (Of v (λ w. w ≡ calling called waiting.here before)) self.old self.new) }
+    {
+        if !self.returns.add(number, waiting)? {
+            return Ok(());
         }
+        add(&mut self.configs, beginning(number, called))?;
+        let derived = self.found.of(alloc, number)?;
+        join_all(
+            alloc,
+            &mut self.events,
+            &mut self.configs,
+            &[waiting],
+            derived.as_slice(),
+        )
     }
 
-    /// Adds a pending configuration, where it is new.
-    fn pend(&mut self, config: Config) -> Mem<()>
-        ensures { OnOk result (AddsFrom self.old self.new config (λ back before w. w ≡ record {
-          frames = config.here ∷ back;
+    /// Ends a visit: each of its callers goes on.
+    fn leave(&mut self, alloc: Global, config: Config) -> Mem<()>
+        ensures { OnOk result (AddsFrom self.old self.new config (λ before w. w ≡ record {
+          frames = [];
           at = config.at;
           before = before;
         })) }
     {
-        put(&mut self.pending, config)
+        let found = Found {
+            end: config.at,
+            events: config.events,
+        };
+        if !self.found.add(config.visit, found)? {
+            return Ok(());
+        }
+        let returns = self.returns.of(alloc, config.visit)?;
+        join_all(
+            alloc,
+            &mut self.events,
+            &mut self.configs,
+            returns.as_slice(),
+            &[found],
+        )
     }
 
-    /// Adds a derivation, where it is new.
-    fn end(&mut self, found: Found) -> Mem<()>
-        ensures { OnOk result ((before : List Event) → IsSound self.old →
-            NamesEventsIn self.old found.events before →
-            Adds (λ w. w ≡ record { frames = []; at = found.end; before = before })
-            self.old self.new) }
+    /// Adds a configuration, where it is new.
+    fn pend(&mut self, config: Config) -> Mem<()>
+        ensures { OnOk result (AddsFrom self.old self.new config (λ before w.
+            w ≡ going config.here config.at before)) }
     {
-        put(&mut self.found, found)
+        add(&mut self.configs, config)?;
+        Ok(())
     }
 
     /// The number of these events with those of an output after them.
@@ -641,6 +622,27 @@ impl<'t> Reached<'t> {
             Notes self.old self.new (event ∷ []) events number) }
     {
         self.events.cons(noted, events)
+    }
+}
+
+/// The configuration with which a visit begins.
+fn beginning(number: usize, visit: Visit) -> Config
+    ensures { result ≡ record {
+      visit = number;
+      here = record { graph = visit.graph; state = 0 };
+      at = visit.at;
+      events = 0;
+    } }
+{
+    let here = Frame {
+        graph: visit.graph,
+        state: 0,
+    };
+    Config {
+        visit: number,
+        here,
+        at: visit.at,
+        events: 0,
     }
 }
 

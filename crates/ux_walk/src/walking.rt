@@ -7,12 +7,12 @@ ghost use Rattle.ux_outputs.specs.Following.{Follows};
 ghost use Rattle.ux_apply.specs.Belonging.{Belongs};
 ghost use Rattle.ux_walk.specs.Contexts.{ContextsTold};
 ghost use Rattle.ux_walk.specs.Settings.{Derives, setting_of};
-ghost use Rattle.ux_walk.specs.Configurations.{IsFoundAs, IsNothing, IsSound};
+ghost use Rattle.ux_walk.specs.Configurations.{IsFoundAs, IsNothing, IsSound, IsVisit, main_visit};
 ghost use Rattle.ux_tokens.specs.Numbers.{different_texts};
 ghost use Rattle.ux_walk.specs.Links.{AreOnce};
 ghost use Rattle.ux_walk.specs.LookUps.{AreSound};
 
-use crate::config::{Config, Frame};
+use crate::config::{Config, Frame, Visit};
 use crate::contexts::Contexts;
 use crate::look_ups::LookUps;
 use crate::reached::Reached;
@@ -27,8 +27,8 @@ use ux_tokens::Text;
 
 /// Each end and event list that the main graph derives from `start`, once.
 ///
-/// Until a first edge applies, a mask is tried or a state of many edges is met, it takes no memory.
-/// Each try of a mask takes a step.
+/// A graph is entered from a position once, and what it derives from there is shared by its
+/// callers. Each try of a mask takes a step.
 pub fn walk<C: Contexts, L: Ledger>(
     alloc: Global,
     net: &Net,
@@ -65,7 +65,7 @@ pub fn walk<C: Contexts, L: Ledger>(
     )
 }
 
-/// Each end and event list that the main graph derives from `start`, once, by rounds. The look-ups
+/// Each end and event list that the main graph derives from `start`, once. The look-ups
 /// are kept from start to start, and with them the texts of which events speak. Each try of a mask
 /// takes a step.
 pub fn walk_through<'t, C: Contexts, L: Ledger>(
@@ -95,7 +95,7 @@ pub fn walk_through<'t, C: Contexts, L: Ledger>(
     ensures once { IfOk result (λ found. AreOnce found.items) }
 {
     let mut reached = Reached::new(alloc, look_ups.take_texts(alloc));
-    reach(
+    let main = reach(
         alloc,
         net,
         contexts,
@@ -107,12 +107,13 @@ pub fn walk_through<'t, C: Contexts, L: Ledger>(
         &mut reached,
         steps,
     )?;
-    let derivations = reached.derivations(alloc)?;
+    let derivations = reached.derivations(alloc, main)?;
     look_ups.keep_texts(reached.into_texts());
     Ok(derivations)
 }
 
-/// Goes on from `start` by rounds, until no configuration is pending.
+/// Goes on from `start` until nothing is left to go on from. Gives the number of the visit of the
+/// main graph.
 fn reach<'t, C: Contexts, L: Ledger>(
     alloc: Global,
     net: &'t Net,
@@ -124,7 +125,7 @@ fn reach<'t, C: Contexts, L: Ledger>(
     start: usize,
     reached: &mut Reached<'t>,
     steps: &mut Steps<L>,
-) -> Mem<()>
+) -> Mem<usize>
     requires measured { IsMeasured net.now }
     requires belongs { Belongs alphabet.now text.now applied.now }
     requires sound { AreSound alphabet.now net.now (different_texts text.now) look_ups.now }
@@ -134,24 +135,31 @@ fn reach<'t, C: Contexts, L: Ledger>(
     requires nothing { IsNothing reached.now }
     ensures sound { AreSound alphabet.now net.now (different_texts text.now) look_ups.new }
     ensures named { OnOk result (IsSound reached.new) }
+    ensures main { IfOk result (λ main. IsVisit reached.new main (main_visit start)) }
     ensures exactly { OnOk result ((end : ℕ) (events : List Event) →
-        IsFoundAs reached.new end events
+        IsFoundAs reached.new (main_visit start) end events
         ↔ Derives (setting_of net.now text.now alphabet.now applied.now) start end events) }
 {
-    let main = Frame { graph: 1, state: 0 };
+    let main = reached.visit(Visit {
+        graph: 1,
+        at: start,
+    })?;
     let first = Config {
-        here: main,
-        back: 0,
+        visit: main,
+        here: Frame { graph: 1, state: 0 },
         at: start,
         events: 0,
     };
     reached.step(
         alloc, net, contexts, text, alphabet, applied, look_ups, first, steps,
     )?;
-    while reached.is_pending() {
-        reached.round(
-            alloc, net, contexts, text, alphabet, applied, look_ups, steps,
+    let mut next = 0;
+    while let Some(config) = reached.config(next) {
+        reached.step(
+            alloc, net, contexts, text, alphabet, applied, look_ups, config, steps,
         )?;
+        next += 1;
     }
-    Ok(())
+    reached.visits_stand_once();
+    Ok(main)
 }

@@ -375,6 +375,51 @@ fn contexts_with_branches(rt: HostRuntime) -> Result<(), Fail> {
     check_drawings(&rt, ROWS)
 }
 
+#[test]
+fn refuses_loops_over_contexts(rt: HostRuntime) -> Result<(), Fail> {
+    const ROWS: &[Drawing] = &[
+        (
+            "a loop over a context",
+            "2",
+            &[("$[", "3"), ("a", "4"), ("$]", "2 1")],
+            "a",
+            "",
+            "refused: g.grf: EmptyLoop graph=g node=2\n",
+        ),
+        (
+            "a loop over a negative context",
+            "2",
+            &[("$![", "3"), ("a", "4"), ("$]", "2 1")],
+            "a",
+            "",
+            "refused: g.grf: EmptyLoop graph=g node=2\n",
+        ),
+        (
+            "a loop whose least box is in front of the context",
+            "2",
+            &[
+                ("b", "3"),
+                ("<E>", "5"),
+                ("$]", "3 1"),
+                ("$[", "6"),
+                ("a", "4"),
+            ],
+            "a",
+            "",
+            "refused: g.grf: EmptyLoop graph=g node=3\n",
+        ),
+        (
+            "no box inside the context is on the loop",
+            "3",
+            &[("a", "4"), ("$[", "2"), ("$]", "3 1")],
+            "a",
+            "",
+            "refused: g.grf: EmptyLoop graph=g node=3\n",
+        ),
+    ];
+    check_drawings(&rt, ROWS)
+}
+
 /// Refusals of two graphs, of which the first calls the second: a name, both, and the line on `err`.
 type Refusal = (&'static str, Chains, Chains, &'static str);
 

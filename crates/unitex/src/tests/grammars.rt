@@ -9,6 +9,10 @@ use ux_base::Mem;
 /// The text of some rows.
 const CATS: &str = "The cat sat. The cats sat.";
 
+/// Forty words.
+const FORTY: &str =
+    "a a a a a a a a a a a a a a a a a a a a a a a a a a a a a a a a a a a a a a a a";
+
 /// A name, graphs and their boxes, a text, and the index, the line on `err` and the status.
 type Grammar = (
     &'static str,
@@ -286,6 +290,21 @@ fn searches_by_calls(rt: HostRuntime) -> Result<(), Fail> {
             CATS,
             ("#I\n0 4 The cat sat\n", "", 0),
         ),
+        (
+            "calls fail in two ways at each of forty words",
+            &[
+                (
+                    "g.grf",
+                    "#Unigraph\n#\n3\n\"<E>\" 0 0 1 2 \n\"\" 0 0 0 \n\":X\" 0 0 1 1 \n",
+                ),
+                (
+                    "X.grf",
+                    "#Unigraph\n#\n9\n\"<E>\" 0 0 3 2 5 8 \n\"\" 0 0 0 \n\"a\" 0 0 1 3 \n\":X\" 0 0 1 4 \n\"b\" 0 0 1 1 \n\"a\" 0 0 1 6 \n\":X\" 0 0 1 7 \n\"c\" 0 0 1 1 \n\"d\" 0 0 1 1 \n",
+                ),
+            ],
+            FORTY,
+            ("#I\n", "", 0),
+        ),
     ];
     check_grammars(&rt, ROWS)
 }
@@ -444,19 +463,19 @@ fn finds_callees_in_the_folder_of_the_main_graph(rt: HostRuntime) -> Result<(), 
     check_grammars(&rt, ROWS)
 }
 
-/// The word `s`, then 500 times `a`, and as many times `b`.
+/// The word `s`, then 50,000 times `a`, and as many times `b`.
 fn deep_text(alloc: Global) -> Mem<String> {
     let mut text = String::from_str(alloc, "s")?;
-    for _ in 0..500u32 {
+    for _ in 0..50_000u32 {
         text.push_str(" a")?;
     }
-    for _ in 0..500u32 {
+    for _ in 0..50_000u32 {
         text.push_str(" b")?;
     }
     Ok(text)
 }
 
-/// Calls 500 deep: the callee's words are so many `a` and as many `b`.
+/// Calls 50,000 deep: the callee's words are so many `a` and as many `b`.
 #[test]
 fn goes_deep(rt: HostRuntime) -> Result<(), Fail> {
     const GRAPHS: &[(&str, &str)] = &[
@@ -471,10 +490,56 @@ fn goes_deep(rt: HostRuntime) -> Result<(), Fail> {
     ];
     let alloc = rt.alloc();
     let text = deep_text(alloc)?;
-    let index = format!(in alloc; "#I\n0 2000 {text}\n")?;
-    assert_eq!(rt; index.as_str().len(), 2012);
+    let index = format!(in alloc; "#I\n0 200000 {text}\n")?;
+    assert_eq!(rt; index.as_str().len(), 200_014);
     let got = searched(alloc, GRAPHS, text.as_str())?;
-    compare_given(&rt, "500 calls", &got, (index.as_str(), "", 0));
+    compare_given(&rt, "50,000 calls", &got, (index.as_str(), "", 0));
+    Ok(())
+}
+
+/// A graph that calls the next twice.
+fn twice(alloc: Global, number: u32) -> Mem<(String, Vec<u8>)> {
+    let name = format!(in alloc; "d{number}.grf")?;
+    let next = number.saturating_add(1);
+    let graph = format!(in alloc;
+        "#Unigraph\n#\n4\n\"\" 0 0 1 2 \n\"\" 0 0 0 \n\":d{next}\" 0 0 1 3 \n\":d{next}\" 0 0 1 1 \n"
+    )?;
+    file(alloc, name.as_str(), graph.as_str().as_bytes())
+}
+
+/// Thirty graphs of which each calls the next twice, and one that takes nothing; and a graph that takes
+/// `a` behind them all.
+fn doubling(alloc: Global) -> Mem<Vec<(String, Vec<u8>)>> {
+    const GRAPHS: &[(&str, &str)] = &[
+        (
+            "g.grf",
+            "#Unigraph\n#\n4\n\"\" 0 0 1 2 \n\"\" 0 0 0 \n\":d0\" 0 0 1 3 \n\"a\" 0 0 1 1 \n",
+        ),
+        (
+            "d30.grf",
+            "#Unigraph\n#\n2\n\"<E>\" 0 0 1 1 \n\"\" 0 0 0 \n",
+        ),
+    ];
+    let mut files = files_of_graphs(alloc, GRAPHS, "a a a")?;
+    for number in 0..30u32 {
+        files.push(twice(alloc, number)?)?;
+    }
+    Ok(files)
+}
+
+/// The calls stand for 2^30 boxes in each of two modes.
+#[test]
+fn calls_that_multiply_end(rt: HostRuntime) -> Result<(), Fail> {
+    const ROWS: &[(&str, &str)] = &[
+        ("ignore", "#I\n0 0 a\n2 2 a\n4 4 a\n"),
+        ("merge", "#M\n0 0 a\n2 2 a\n4 4 a\n"),
+    ];
+    let alloc = rt.alloc();
+    for row in ROWS {
+        let words = ["locate", "--mode", row.0, "g.grf", "t.txt", "a.txt"];
+        let got = given(alloc, &words, doubling(alloc)?)?;
+        compare_given(&rt, row.0, &got, (row.1, "", 0));
+    }
     Ok(())
 }
 

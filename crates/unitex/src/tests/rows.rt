@@ -60,7 +60,7 @@ pub fn given_by<F: Folder>(
 /// Runs over these files.
 pub fn given(alloc: Global, words: &[&str], files: Vec<(String, Vec<u8>)>) -> Mem<Outcome> {
     let mut folder = MemFolder::new(files, Vec::new(alloc));
-    let out = sink(alloc, 65_536)?;
+    let out = sink(alloc, 262_144)?;
     given_by(alloc, words, &mut folder, (out, sink(alloc, 4096)?))
 }
 

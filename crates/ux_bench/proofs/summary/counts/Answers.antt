@@ -6,11 +6,11 @@ use Rattle.ux_locate.specs.Spans.{hit_at}
 use Rattle.ux_bench.specs.Summaries.{longest_of}
 use Rattle.ux_bench.proofs.summary.counts.Goals as goal
 
-pub locate_spans-requires-clause-plain : goal.locate_spans-requires-clause-plain
-locate_spans-requires-clause-plain g c = c.is_plain.ensures.0 c.if-is_plain.true
+pub locate_spans-requires-clause-uncut : goal.locate_spans-requires-clause-uncut
+locate_spans-requires-clause-uncut g c = c.cuts_nothing.ensures.0 c.if-cuts_nothing.true
 
-pub returns-then-is_plain : goal.returns-then-is_plain
-returns-then-is_plain g c =
+pub returns-then-cuts_nothing : goal.returns-then-cuts_nothing
+returns-then-cuts_nothing g c =
     let tokens = c.args.text.now in
     let spans = c.in_ok-spans.spans.items in
     record {

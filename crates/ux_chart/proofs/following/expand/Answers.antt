@@ -1,52 +1,34 @@
-use Rattle.std.proofs.Common.{List, sym, subst}
-use Rattle.std.specs.Prelude.{Contains}
-use Rattle.ux_net.specs.declared.state.Edge.{Edge}
-use Rattle.ux_net.specs.Nets.{net_grammar}
-use Rattle.ux_parts.specs.Runs.{NextBy}
-use Rattle.ux_chart.specs.declared.config.Config.{Config}
-use Rattle.ux_chart.proofs.Collecting.{collected_more}
-use Rattle.ux_chart.proofs.Searching.{expanded}
+use Rattle.std.proofs.Common.{ℕ, List, subst, sym}
+use Rattle.ux_chart.specs.Places.{AreEnough}
+use Rattle.ux_chart.proofs.Searching.{at_some, expanded, expanded_at}
 use Rattle.ux_chart.proofs.following.expand.Goals as goal
 
-pub follow-requires-clause-inside : goal.follow-requires-clause-inside
-follow-requires-clause-inside g c = (
-  c.in-Some.state.now,
-  sym c.in-Some.ensures,
-  subst (λ (xs : List Edge). Contains xs c.edge-item.result) c.as_slice-edge-items.ensures
-      (c.loop-edge.edge-index, c.loop-edge-test.true, sym c.edge-item.is),
-)
+pub follow_places-requires-clause-edges : goal.follow_places-requires-clause-edges
+follow_places-requires-clause-edges g c =
+    (c.in-Some.state.now, sym c.in-Some.ensures, sym c.as_slice-edges.ensures)
 
-pub follow-requires-clause-known : goal.follow-requires-clause-known
-follow-requires-clause-known g c =
-    c.requires.known c.args.graph c.args.from.state c.in-Some.state.now c.edge-item.result
-    (sym c.in-Some.ensures)
-    (subst (λ (xs : List Edge). Contains xs c.edge-item.result) c.as_slice-edge-items.ensures
-    (c.loop-edge.edge-index, c.loop-edge-test.true, sym c.edge-item.is))
+pub follow_edges-requires-clause-edges : goal.follow_edges-requires-clause-edges
+follow_edges-requires-clause-edges g c =
+    (c.in-Some.state.now, sym c.in-Some.ensures, sym c.as_slice-edges.ensures)
 
-pub loop-edge-preserved : goal.loop-edge-preserved
-loop-edge-preserved g c =
-    let edge = c.edge-item.result in
-    let inside : Contains c.in-Some.state.now.edges edge =
-    subst (λ (xs : List Edge). Contains xs edge) c.as_slice-edge-items.ensures
-    (c.loop-edge.edge-index, c.loop-edge-test.true, sym c.edge-item.is) in
-    collected_more _ _ c.clear.new.self.items c.loop-edge.found.items c.follow.new.found.items
-    c.as_slice-edge-items.result.now c.loop-edge.edge-index edge
-    (λ (w : Config). NextBy (g.B.Basis.input c.args.basis.now) (net_grammar c.args.net.now)
-    c.args.parts.now.levels c.args.graph edge.label edge.target c.args.from.at w.state w.at)
-    c.loop-edge-test.true c.edge-item.is
-    (λ w n. record {
-      state = c.in-Some.state.now;
-      found = sym c.in-Some.ensures;
-      edge = edge;
-      inside = inside;
-      leads = n;
-    })
-    c.loop-edge.invariant (λ w. (λ h. h, λ h. h)) c.in_ok-follow.ensures
+pub returns-in-Some-2 : goal.returns-in-Some-2
+returns-in-Some-2 g c =
+    let input = g.B.Basis.input c.args.basis.now in
+    let net = c.args.net.now in
+    let parts = c.args.parts.now in
+    let edges = c.as_slice-edges.result.now in
+    let enough = at_some c.in_ok-places.field-0 c.in-Some-2.places _ c.in-Some-2.is
+    (c.in_ok-places.ensures net parts c.requires.serves
+    (c.in-Some.state.now, sym c.in-Some.ensures, sym c.as_slice-edges.ensures)) in
+    expanded_at input net parts.levels c.args.graph c.args.from c.in-Some.state.now
+    c.in-Some.ensures edges c.as_slice-edges.ensures c.deref.result.now
+    (subst (λ (l : List ℕ). AreEnough input edges l c.args.from.at) (sym c.deref.ensures.value)
+    enough) c.clear.new.self.items c.follow_places.new.found.items c.clear.ensures.items
+    c.in_ok-follow_places-in-Some-2.ensures
 
-pub returns : goal.returns
-returns g c =
-    expanded (g.B.Basis.input c.args.basis.now) c.args.net.now c.args.parts.now.levels c.args.graph
-    c.args.from c.in-Some.state.now c.in-Some.ensures c.clear.new.self.items
-    c.loop-edge.found.items c.clear.ensures.items c.as_slice-edge-items.result.now
-    c.as_slice-edge-items.ensures c.loop-edge.edge-index c.loop-edge-test.false
-    c.loop-edge.invariant
+pub returns-in-None : goal.returns-in-None
+returns-in-None g c =
+    expanded (g.B.Basis.input c.args.basis.now) c.args.net.now c.args.parts.now.levels
+    c.args.graph c.args.from c.in-Some.state.now c.in-Some.ensures c.as_slice-edges.result.now
+    c.as_slice-edges.ensures c.clear.new.self.items c.follow_edges.new.found.items
+    c.clear.ensures.items c.in_ok-follow_edges-in-None.ensures

@@ -8,8 +8,8 @@ use Rattle.ux_locate.specs.Index.{IsKeptListing}
 use Rattle.ux_locate.specs.Spans.{hit_at}
 use Rattle.ux_concordance.proofs.hits.hits_of.Goals as goal
 
-pub locate_spans-requires-clause-plain : goal.locate_spans-requires-clause-plain
-locate_spans-requires-clause-plain g c = c.is_plain.ensures.0 c.if-is_plain.true
+pub locate_spans-requires-clause-uncut : goal.locate_spans-requires-clause-uncut
+locate_spans-requires-clause-uncut g c = c.cuts_nothing.ensures.0 c.if-cuts_nothing.true
 
 pub returns-in-Ignore : goal.returns-in-Ignore
 returns-in-Ignore g c =

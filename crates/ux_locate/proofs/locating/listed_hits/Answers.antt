@@ -5,11 +5,11 @@ use Rattle.ux_locate.specs.Index.{IsKeptListing}
 use Rattle.ux_locate.proofs.KeptLemmas.{kept_listing, listing_same}
 use Rattle.ux_locate.proofs.locating.listed_hits.Goals as goal
 
-pub kept_hits-requires-clause-plain : goal.kept_hits-requires-clause-plain
-kept_hits-requires-clause-plain g c = c.is_plain.ensures.0 c.if-is_plain.true
+pub kept_hits-requires-clause-uncut : goal.kept_hits-requires-clause-uncut
+kept_hits-requires-clause-uncut g c = c.cuts_nothing.ensures.0 c.if-cuts_nothing.true
 
-pub returns-then-is_plain : goal.returns-then-is_plain
-returns-then-is_plain g c =
+pub returns-then-cuts_nothing : goal.returns-then-cuts_nothing
+returns-then-cuts_nothing g c =
     let search = c.args.search.now in
     kept_listing search.policy (IsFound search.text.now (IsHitFrom search)) c.in_ok-hits.hits.items
     c.sort_hits.new.hits.items c.in_ok-hits.ensures c.sort_hits.ensures.same

@@ -1,4 +1,4 @@
-use Rattle.std.proofs.Common.{◌≡◌, ◌∙◌, List, ℕ, [], ◌+◌, arith, map, sym, ap, subst}
+use Rattle.std.proofs.Common.{refl, ◌≡◌, ◌∙◌, List, ℕ, [], ◌+◌, arith, map, sym, ap, subst}
 use Rattle.std.specs.Prelude.{Contains}
 use Rattle.std.specs.List.Sorted.{IsStrictlyIncreasing}
 use Rattle.ux_outputs.specs.declared.span.Span.{Span}
@@ -23,10 +23,10 @@ begins setting tokens same start starts span from =
 
 pub loop-start-init : goal.loop-start-init
 loop-start-init g c =
-    let setting = c.args.walker.now in
+    let setting = g.E.Ends.setting c.args.finder.now in
     let tokens = c.args.text.now in
     record {
-      same = λ i. setting;
+      same = refl;
       spans = subst (AreKept c.args.policy first_in last_in
           (IsFoundBefore tokens (IsSpanFrom setting) 0)) (sym c.new-spans.ensures.items)
           (kept_start c.args.policy first_in last_in tokens (IsSpanFrom setting)
@@ -51,7 +51,7 @@ push_spans-requires g c e inside =
 
 pub loop-start-preserved-then-is_reached : goal.loop-start-preserved-then-is_reached
 loop-start-preserved-then-is_reached g c =
-    let setting = c.args.walker.now in
+    let setting = g.E.Ends.setting c.args.finder.now in
     let tokens = c.args.text.now in
     let spans = c.loop-start.spans.items in
     let told = told_reach c.args.policy last_in spans c.as_slice.result.now c.spans_reach.result
@@ -66,7 +66,7 @@ loop-start-preserved-then-is_reached g c =
 
 pub loop-start-preserved-then-not-may_find : goal.loop-start-preserved-then-not-may_find
 loop-start-preserved-then-not-may_find g c =
-    let setting = c.args.walker.now in
+    let setting = g.E.Ends.setting c.args.finder.now in
     let tokens = c.args.text.now in
     let start = c.loop-start.start in
     record {
@@ -82,7 +82,7 @@ loop-start-preserved-then-not-may_find g c =
 pub loop-start-preserved : goal.loop-start-preserved
 loop-start-preserved g c =
     let policy = c.args.policy in
-    let setting = c.args.walker.now in
+    let setting = g.E.Ends.setting c.args.finder.now in
     let tokens = c.args.text.now in
     let start = c.loop-start.start in
     let spans = c.loop-start.spans.items in
@@ -109,8 +109,8 @@ loop-start-preserved g c =
 
 pub returns : goal.returns
 returns g c =
-    kept_all c.args.policy first_in last_in c.args.text.now (IsSpanFrom c.args.walker.now)
-    (begins c.args.walker.now c.args.text.now c.requires) c.loop-start.start
+    kept_all c.args.policy first_in last_in c.args.text.now (IsSpanFrom (g.E.Ends.setting c.args.finder.now))
+    (begins (g.E.Ends.setting c.args.finder.now) c.args.text.now c.requires) c.loop-start.start
     c.loop-start.spans.items
     (omega (arith, c.loop-start-test.false, c.len-start-end.ensures.len))
     c.loop-start.invariant.spans

@@ -6,7 +6,7 @@ use Rattle.ux_locate.proofs.spans.spans_from_starts.Given as goal
 -- the spans are those that the policy keeps of the ones from the starts so far
 abbrev pub invariant-loop-start : goal.invariant-loop-start
 invariant-loop-start g l = record {
-  same : l.walker ≡ l.fn.walker;
+  same : g.E.Ends.setting l.finder ≡ g.E.Ends.setting l.fn.finder;
   spans : AreKept l.policy first_in last_in
-      (IsFoundBefore l.text (IsSpanFrom l.fn.walker) l.start) l.spans.items;
+      (IsFoundBefore l.text (IsSpanFrom (g.E.Ends.setting l.fn.finder)) l.start) l.spans.items;
 }

@@ -7,7 +7,11 @@ pub admit-requires : goal.admit-requires
 admit-requires c = grind (arith, common_steps)
 
 pub name_of-requires-clause-from : goal.name_of-requires-clause-from
-name_of-requires-clause-from c = grind (arith, common_steps)
+name_of-requires-clause-from c =
+    let e = c.in-Err-EmptyLoop in
+    let there = loop_there c.args.places.now c.requires.few e.field-0 e.graph e.node e.field-0-is
+    e.ensures.cause in
+    there.from
 
 pub returns-in_err-name_of-in-Err-EmptyLoop-clause-ranks : goal.returns-in_err-name_of-in-Err-EmptyLoop-clause-ranks
 returns-in_err-name_of-in-Err-EmptyLoop-clause-ranks c = grind (arith, common_steps)
@@ -48,14 +52,14 @@ name_of-requires-clause-to c =
     let there = loop_there c.args.places.now c.requires.few e.field-0 e.graph e.node e.field-0-is
     e.ensures.cause in
     let count = c.requires.count in
-    omega (arith, there.0, count)
+    omega (arith, there.to, count)
 
 pub overflow_cast-result : goal.overflow_cast-result
 overflow_cast-result c =
     let e = c.in-Err-EmptyLoop in
     let there = loop_there c.args.places.now c.requires.few e.field-0 e.graph e.node e.field-0-is
     e.ensures.cause in
-    search (rules, there.1)
+    search (rules, there.narrow)
 
 pub name_of-requires-in-Err-LeftRecursion-clause-to : goal.name_of-requires-in-Err-LeftRecursion-clause-to
 name_of-requires-in-Err-LeftRecursion-clause-to c =
@@ -63,11 +67,11 @@ name_of-requires-in-Err-LeftRecursion-clause-to c =
     let there = recursion_there c.args.places.now c.requires.few e.field-0 e.graph e.node e.field-0-is
     e.ensures.cause in
     let count = c.requires.count in
-    omega (arith, there.0, count)
+    omega (arith, there.to, count)
 
 pub overflow_cast-result-in-Err-LeftRecursion : goal.overflow_cast-result-in-Err-LeftRecursion
 overflow_cast-result-in-Err-LeftRecursion c =
     let e = c.in-Err-LeftRecursion in
     let there = recursion_there c.args.places.now c.requires.few e.field-0 e.graph e.node e.field-0-is
     e.ensures.cause in
-    search (rules, there.1)
+    search (rules, there.narrow)

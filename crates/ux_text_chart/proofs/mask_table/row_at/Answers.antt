@@ -17,7 +17,7 @@ returns-then-len-place-clause-row g c =
     let test = c.if-len-place.true in
     let past : length tokens ≤ place = omega (arith, is, len, test) in
     row_none (IsEndOf c.args.alphabet.now tokens c.args.applied.now masks place) c.args.spans.now
-    c.empty_row.result c.requires.paired c.empty_row.ensures.from c.empty_row.ensures.to
+    c.in_ok-row.row c.requires.paired c.in_ok-row.ensures.from c.in_ok-row.ensures.to
     (length masks)
     (λ number k low e. none_past c.args.alphabet.now tokens c.args.applied.now masks
     c.requires.belongs place number k past e)

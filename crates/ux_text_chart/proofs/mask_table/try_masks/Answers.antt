@@ -2,6 +2,8 @@ use Rattle.std.proofs.Common.{arith, ◌≡◌, ◌∙◌, Bor, ap, sym, subst, 
 use Rattle.std.proofs.lemmas.List.{length-map}
 use Rattle.ux_masks.specs.declared.mask.Mask.{Mask}
 use Rattle.ux_net.specs.Masks.{masks_in}
+use Rattle.ux_chart.specs.Tables.{stretch_of}
+use Rattle.ux_chart.specs.declared.table.Stretch.{Stretch}
 use Rattle.ux_text_chart.specs.MaskTables.{IsEndOf}
 use Rattle.ux_text_chart.specs.Spans.{IsRow}
 use Rattle.ux_text_chart.proofs.MaskTableLemmas.{slot_at, tried_more}
@@ -44,10 +46,11 @@ returns-clause-row g c =
     let test = c.loop-mask-test.false in
     let end = c.loop-mask.auto.mask-index-end in
     let e : c.loop-mask.mask-index ≡ length masks = omega (arith, all, shown, test, end) in
-    subst (λ n. IsRow spans (IsEndOf c.args.alphabet.now c.args.text.now c.args.applied.now masks place)
-    (record { from = c.len-from.result; to = n }) (length masks))
-    (sym (c.len-to.ensures ∙ spans.numbers.ok.0))
+    subst (λ (r : Stretch). IsRow spans
+    (IsEndOf c.args.alphabet.now c.args.text.now c.args.applied.now masks place) r (length masks))
+    (sym (c.in_ok-row.ensures ∙ ap (λ n. stretch_of c.len-from.result n)
+    (c.len.ensures ∙ spans.numbers.ok.0)))
     (subst (λ n. IsRow spans
     (IsEndOf c.args.alphabet.now c.args.text.now c.args.applied.now masks place)
-    (record { from = c.len-from.result; to = length spans.numbers.items }) n) e
+    (stretch_of c.len-from.result (length spans.numbers.items)) n) e
     c.loop-mask.invariant.row)

@@ -1,23 +1,22 @@
-use Rattle.std.proofs.Common.{length}
+use Rattle.std.proofs.Common.{◌-◌}
 use Rattle.ux_tokens.specs.Numbers.{different_texts}
 use Rattle.ux_walk.specs.Contexts.{ApplyAsMeant}
 use Rattle.ux_walk.specs.Settings.{applied_text}
-use Rattle.ux_walk.specs.Configurations.{frames_of}
+use Rattle.ux_walk.specs.Configurations.{IsVisit, main_visit}
 use Rattle.ux_walk.specs.LookUps.{AreSound}
-use Rattle.ux_walk.proofs.Rounds.{Walking}
-use Rattle.ux_walk.proofs.Weights.{greatest}
+use Rattle.ux_walk.proofs.Reaching.{Walking}
 use Rattle.ux_walk.proofs.walking.reach.Given as goal
 
--- what was found, and what the pending configurations give, is all that is derived, as it is meant
-abbrev pub invariant-loop-alloc : goal.invariant-loop-alloc
-invariant-loop-alloc g l = record {
+-- what was reached is right, and the walk went on from each configuration before the next
+abbrev pub invariant-loop-config : goal.invariant-loop-config
+invariant-loop-config g l = record {
   sound : AreSound l.alphabet l.net (different_texts l.text) l.look_ups;
+  main : IsVisit l.reached l.main (main_visit l.start);
   walking : (meant : ApplyAsMeant (applied_text l.alphabet l.text l.applied) l.net
       (g.C.Contexts.applies l.contexts)) → Walking l.alphabet l.text l.applied
-      (g.C.Contexts.applies l.contexts) l.net meant l.start l.reached;
+      (g.C.Contexts.applies l.contexts) l.net meant l.start l.reached l.next;
 }
 
--- the greatest weight of a pending configuration falls
-abbrev pub decreases-loop-alloc : goal.decreases-loop-alloc
-decreases-loop-alloc g l =
-    greatest l.net (length l.text) (frames_of l.reached) l.reached.pending.keys
+-- the walk goes on from each configuration once
+abbrev pub decreases-loop-config : goal.decreases-loop-config
+decreases-loop-config g l = 9223372036854775807 - l.next

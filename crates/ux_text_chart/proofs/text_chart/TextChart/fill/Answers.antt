@@ -24,3 +24,6 @@ returns-clause-chart g c =
       filled = subst (λ (net : List NetGraph). IsChart (input_of (masked_setting text)) net
           c.args.parts (length text.text.now) c.in_ok-chart.chart) same c.in_ok-chart.ensures;
     }
+
+pub fill-requires-clause-serves : goal.fill-requires-clause-serves
+fill-requires-clause-serves g c = c.in_ok-basis.ensures.serves

@@ -23,19 +23,21 @@ loop-found-preserved c =
     (record { end = refl; events = c.in_ok-events.ensures }))
 
 pub returns-clause-exactly : goal.returns-clause-exactly
-returns-clause-exactly c =
-    derived_exactly c.args.self.now c.requires c.loop-found.derivations.items
+returns-clause-exactly c = λ v visit end events.
+    derived_exactly c.args.self.now c.requires c.args.visit c.in_ok-of_visit.of_visit.keys
+    (c.in_ok-of_visit.ensures c.requires.found_grouped) c.loop-found.derivations.items
     (subst (λ (l : List Found). AllZip (IsSpelled c.args.self.now) l
     c.loop-found.derivations.items) c.as_slice-found-items.ensures.keys
     (spelled_all c.args.self.now c.as_slice-found-items.result.now c.loop-found.found-index
-    c.loop-found.derivations.items c.loop-found-test.false c.loop-found.invariant))
+    c.loop-found.derivations.items c.loop-found-test.false c.loop-found.invariant)) v visit
+    c.visits_stand_once.ensures end events
 
 pub returns-clause-once : goal.returns-clause-once
 returns-clause-once c =
-    derived_once c.args.self.now c.requires c.loop-found.derivations.items
+    derived_once c.args.self.now c.requires c.args.visit c.in_ok-of_visit.of_visit.keys
+    (c.in_ok-of_visit.ensures c.requires.found_grouped) c.loop-found.derivations.items
     (subst (λ (l : List Found). AllZip (IsSpelled c.args.self.now) l
     c.loop-found.derivations.items) c.as_slice-found-items.ensures.keys
     (spelled_all c.args.self.now c.as_slice-found-items.result.now c.loop-found.found-index
     c.loop-found.derivations.items c.loop-found-test.false c.loop-found.invariant))
-    c.stand_once.ensures c.links_stand_once.ensures
-    c.texts_stand_once.ensures
+    c.stand_once.ensures c.links_stand_once.ensures c.texts_stand_once.ensures

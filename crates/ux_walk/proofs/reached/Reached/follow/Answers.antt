@@ -1,11 +1,11 @@
-use Rattle.std.proofs.Common.{List, reverse, subst}
+use Rattle.std.proofs.Common.{[], List, reverse, subst}
 use Rattle.ux_grf.specs.declared.item.Piece.{Piece}
 use Rattle.ux_outputs.specs.declared.event.Event.{Event}
 use Rattle.ux_walk.specs.declared.config.Frame.{Frame}
 use Rattle.ux_walk.specs.Configurations.{Notes}
 use Rattle.ux_walk.specs.Courses.{IsBehind, at_state, put_events}
 use Rattle.ux_walk.proofs.Results.{on_ok}
-use Rattle.ux_walk.proofs.Adding.{adds_nothing, adds_noted}
+use Rattle.ux_walk.proofs.Adding.{adds_noted, nothing_of}
 use Rattle.ux_walk.proofs.Stepping.{behind_closed}
 use Rattle.ux_walk.proofs.reached.Reached.follow.Goals as goal
 
@@ -23,8 +23,8 @@ returns g c = on_ok c.go_on.result _ _ (λ adds.
     let edge = c.args.edge.now in
     let config = c.args.config in
     let here : Frame = at_state config.here edge.target in
-    adds_noted (λ (back : List Frame) (before : List Event).
-    IsBehind alphabet tokens tables applies edge.label here back config.at before)
+    adds_noted (λ (before : List Event).
+    IsBehind alphabet tokens tables applies edge.label here [] config.at before)
     c.args.self.now c.put_out.new.self c.go_on.new.self config config.here config.at
     (reverse (put_events edge.output)) c.in_ok-events.events
     (subst (λ (l : List Piece). Notes c.args.self.now c.put_out.new.self (reverse (put_events l))
@@ -37,10 +37,10 @@ returns g c = on_ok c.go_on.result _ _ (λ adds.
     }))) c.go_on.ensures
 
 pub returns-then-is_closed : goal.returns-then-is_closed
-returns-then-is_closed g c = λ back before sound spells.
-    adds_nothing _ c.args.self.now sound (λ w.
+returns-then-is_closed g c = λ v before sound spells.
+    nothing_of v _ c.args.self.now sound (λ w.
     behind_closed c.args.alphabet.now c.args.text.now c.args.applied.now
-    (g.C.Contexts.applies c.args.contexts.now) c.args.edge.now.label _ back c.args.config.at _
+    (g.C.Contexts.applies c.args.contexts.now) c.args.edge.now.label _ c.args.config.at _
     c.in_ok-passage.passage (record {
       takes = c.in_ok-passage.ensures.takes;
       stays = c.in_ok-passage.ensures.stays;

@@ -1,27 +1,28 @@
+use Rattle.std.proofs.Common.{[]}
 use Rattle.ux_walk.specs.Courses.{IsOver}
-use Rattle.ux_walk.proofs.Adding.{keeps, spells_kept}
+use Rattle.ux_walk.proofs.Keeping.{keeps, spells_kept}
 use Rattle.ux_walk.proofs.Stepping.{adds_first, adds_next, adds_all}
 use Rattle.ux_walk.proofs.reached.Reached.follow_edges.Goals as goal
 
 pub loop-edge-init : goal.loop-edge-init
-loop-edge-init g c = λ back before sound spells.
-    adds_first (IsOver c.args.alphabet.now c.args.text.now c.args.applied.now
-    (g.C.Contexts.applies c.args.contexts.now) c.args.config.here back
+loop-edge-init g c = λ v before sound spells.
+    adds_first v (IsOver c.args.alphabet.now c.args.text.now c.args.applied.now
+    (g.C.Contexts.applies c.args.contexts.now) c.args.config.here []
     c.args.config.at before) c.args.self.now c.args.edges.now sound
 
 pub loop-edge-preserved : goal.loop-edge-preserved
-loop-edge-preserved g c = λ back before sound spells.
-    let now = c.loop-edge.invariant back before sound spells in
-    adds_next (IsOver c.args.alphabet.now c.args.text.now c.args.applied.now
-    (g.C.Contexts.applies c.args.contexts.now) c.args.config.here back
+loop-edge-preserved g c = λ v before sound spells.
+    let now = c.loop-edge.invariant v before sound spells in
+    adds_next v (IsOver c.args.alphabet.now c.args.text.now c.args.applied.now
+    (g.C.Contexts.applies c.args.contexts.now) c.args.config.here []
     c.args.config.at before) c.args.self.now c.loop-edge.self c.follow.new.self c.args.edges.now
     c.loop-edge.edge-index c.edge-item.result c.loop-edge-test.true c.edge-item.is now
-    (c.in_ok-follow.ensures back before now.sound
-    (spells_kept c.args.self.now c.loop-edge.self (keeps now) c.args.config back before spells))
+    (c.in_ok-follow.ensures v before now.sound
+    (spells_kept c.args.self.now c.loop-edge.self (keeps now) c.args.config v before spells))
 
 pub returns : goal.returns
-returns g c = λ back before sound spells.
-    adds_all (IsOver c.args.alphabet.now c.args.text.now c.args.applied.now
-    (g.C.Contexts.applies c.args.contexts.now) c.args.config.here back
+returns g c = λ v before sound spells.
+    adds_all v (IsOver c.args.alphabet.now c.args.text.now c.args.applied.now
+    (g.C.Contexts.applies c.args.contexts.now) c.args.config.here []
     c.args.config.at before) c.args.self.now c.loop-edge.self c.args.edges.now
-    c.loop-edge.edge-index c.loop-edge-test.false (c.loop-edge.invariant back before sound spells)
+    c.loop-edge.edge-index c.loop-edge-test.false (c.loop-edge.invariant v before sound spells)

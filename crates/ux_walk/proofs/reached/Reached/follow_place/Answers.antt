@@ -1,21 +1,21 @@
-use Rattle.std.proofs.Common.{◌∙◌, sym, subst}
+use Rattle.std.proofs.Common.{[], ◌∙◌, sym, subst}
 use Rattle.std.proofs.lemmas.Option.{same_Some, none-some}
 use Rattle.ux_net.specs.declared.state.Edge.{Edge}
 use Rattle.ux_walk.specs.Courses.{IsOver}
 use Rattle.ux_walk.proofs.Results.{on_ok}
-use Rattle.ux_walk.proofs.Adding.{adds_nothing, adds_alike}
+use Rattle.ux_walk.proofs.Adding.{adds_of, nothing_of}
 use Rattle.ux_walk.proofs.reached.Reached.follow_place.Goals as goal
 
 pub returns-in-Some : goal.returns-in-Some
-returns-in-Some g c = on_ok c.follow.result _ _ (λ adds back before sound spells.
-    adds_alike _ _ c.args.self.now c.follow.new.self (adds back before sound spells) (λ w. (
+returns-in-Some g c = on_ok c.follow.result _ _ (λ adds v before sound spells.
+    adds_of v _ _ c.args.self.now c.follow.new.self (adds v before sound spells) (λ w. (
       λ over. (c.in-Some.edge.now, sym c.in-Some.ensures, over),
       λ at. subst (λ (e : Edge). IsOver c.args.alphabet.now c.args.text.now c.args.applied.now
-          (g.C.Contexts.applies c.args.contexts.now) c.args.config.here back
+          (g.C.Contexts.applies c.args.contexts.now) c.args.config.here []
           c.args.config.at before e w)
           (same_Some at.0 c.in-Some.edge.now (sym at.1 ∙ sym c.in-Some.ensures)) at.2,
     ))) c.follow.ensures
 
 pub returns-in-None : goal.returns-in-None
-returns-in-None g c = λ back before sound spells.
-    adds_nothing _ c.args.self.now sound (λ w at. none-some at.0 (c.in-None.ensures ∙ at.1))
+returns-in-None g c = λ v before sound spells.
+    nothing_of v _ c.args.self.now sound (λ w at. none-some at.0 (c.in-None.ensures ∙ at.1))

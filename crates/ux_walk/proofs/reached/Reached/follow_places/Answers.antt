@@ -1,32 +1,32 @@
-use Rattle.std.proofs.Common.{get_or}
+use Rattle.std.proofs.Common.{[], get_or}
 use Rattle.ux_walk.specs.Courses.{IsOverAt}
-use Rattle.ux_walk.proofs.Adding.{keeps, spells_kept}
+use Rattle.ux_walk.proofs.Keeping.{keeps, spells_kept}
 use Rattle.ux_walk.proofs.Stepping.{adds_first, adds_next, adds_all, item_at}
 use Rattle.ux_walk.proofs.reached.Reached.follow_places.Goals as goal
 
 pub loop-place-init : goal.loop-place-init
-loop-place-init g c = λ back before sound spells.
-    adds_first (IsOverAt c.args.alphabet.now c.args.text.now c.args.applied.now
-    (g.C.Contexts.applies c.args.contexts.now) c.args.config.here back
+loop-place-init g c = λ v before sound spells.
+    adds_first v (IsOverAt c.args.alphabet.now c.args.text.now c.args.applied.now
+    (g.C.Contexts.applies c.args.contexts.now) c.args.config.here []
     c.args.config.at before c.args.edges.now) c.args.self.now c.args.places.now sound
 
 pub loop-place-preserved : goal.loop-place-preserved
-loop-place-preserved g c = λ back before sound spells.
-    let now = c.loop-place.invariant back before sound spells in
-    adds_next (IsOverAt c.args.alphabet.now c.args.text.now c.args.applied.now
-    (g.C.Contexts.applies c.args.contexts.now) c.args.config.here back
+loop-place-preserved g c = λ v before sound spells.
+    let now = c.loop-place.invariant v before sound spells in
+    adds_next v (IsOverAt c.args.alphabet.now c.args.text.now c.args.applied.now
+    (g.C.Contexts.applies c.args.contexts.now) c.args.config.here []
     c.args.config.at before c.args.edges.now) c.args.self.now c.loop-place.self
     c.follow_place.new.self c.args.places.now
     c.loop-place.place-index (get_or c.args.places.now c.loop-place.place-index 0)
     c.loop-place-test.true
     (item_at c.args.places.now c.loop-place.place-index 0 c.loop-place-test.true) now
-    (c.in_ok-follow_place.ensures back before now.sound
-    (spells_kept c.args.self.now c.loop-place.self (keeps now) c.args.config back before spells))
+    (c.in_ok-follow_place.ensures v before now.sound
+    (spells_kept c.args.self.now c.loop-place.self (keeps now) c.args.config v before spells))
 
 pub returns : goal.returns
-returns g c = λ back before sound spells.
-    adds_all (IsOverAt c.args.alphabet.now c.args.text.now c.args.applied.now
-    (g.C.Contexts.applies c.args.contexts.now) c.args.config.here back
+returns g c = λ v before sound spells.
+    adds_all v (IsOverAt c.args.alphabet.now c.args.text.now c.args.applied.now
+    (g.C.Contexts.applies c.args.contexts.now) c.args.config.here []
     c.args.config.at before c.args.edges.now) c.args.self.now c.loop-place.self c.args.places.now
     c.loop-place.place-index c.loop-place-test.false
-    (c.loop-place.invariant back before sound spells)
+    (c.loop-place.invariant v before sound spells)

@@ -1,4 +1,4 @@
-use Rattle.std.proofs.Common.{List, ℕ, subst, sym}
+use Rattle.std.proofs.Common.{[], List, ℕ, subst, sym}
 use Rattle.std.specs.Prelude.{slice_get}
 use Rattle.ux_net.specs.declared.state.Edge.{Edge}
 use Rattle.ux_tokens.specs.Numbers.{different_texts}
@@ -27,17 +27,17 @@ returns-clause-sound g c = λ net found sound.
 pub returns-then-not-has_index-clause-adds : goal.returns-then-not-has_index-clause-adds
 returns-then-not-has_index-clause-adds g c = on_ok c.follow_edges.result _ _
     (λ adds net found sound. subst (λ (l : List Edge).
-    AddsFrom c.args.self.now c.follow_edges.new.self c.args.config (λ back before.
+    AddsFrom c.args.self.now c.follow_edges.new.self c.args.config (λ before.
     IsOverSome c.args.alphabet.now c.args.text.now c.args.applied.now
-    (g.C.Contexts.applies c.args.contexts.now) c.args.config.here back
+    (g.C.Contexts.applies c.args.contexts.now) c.args.config.here []
     c.args.config.at before l)) c.as_slice-edges.ensures adds) c.follow_edges.ensures
 
 pub returns-in_default-clause-adds : goal.returns-in_default-clause-adds
 returns-in_default-clause-adds g c = on_ok c.follow_edges-in_default.result _ _
     (λ adds net found sound. subst (λ (l : List Edge).
-    AddsFrom c.args.self.now c.follow_edges-in_default.new.self c.args.config (λ back before.
+    AddsFrom c.args.self.now c.follow_edges-in_default.new.self c.args.config (λ before.
     IsOverSome c.args.alphabet.now c.args.text.now c.args.applied.now
-    (g.C.Contexts.applies c.args.contexts.now) c.args.config.here back
+    (g.C.Contexts.applies c.args.contexts.now) c.args.config.here []
     c.args.config.at before l)) c.as_slice-edges.ensures adds) c.follow_edges-in_default.ensures
 
 pub returns-clause-adds : goal.returns-clause-adds
@@ -60,9 +60,9 @@ returns-clause-adds g c = on_ok c.follow_places.result _ _ (λ adds net found so
     state.edges text is
     numbered))
     (subst (λ (l : List Edge). AddsFrom c.args.self.now c.follow_places.new.self config
-    (λ back before. IsOverSomeAt alphabet tokens tables applies config.here back config.at before
+    (λ before. IsOverSomeAt alphabet tokens tables applies config.here [] config.at before
     l places))
     c.as_slice-edges.ensures
     (subst (λ (l : List ℕ). AddsFrom c.args.self.now c.follow_places.new.self config
-    (λ back before. IsOverSomeAt alphabet tokens tables applies config.here back config.at before
+    (λ before. IsOverSomeAt alphabet tokens tables applies config.here [] config.at before
     c.as_slice-edges.result.now l)) c.as_slice.ensures.value adds))) c.follow_places.ensures

@@ -6,9 +6,11 @@ use Rattle.ux_walk.proofs.reached.Reached.note.Goals as goal
 pub returns : goal.returns
 returns c = if_ok c.cons.result _ _ (λ number consed event stands.
     adds_event c.args.self.now (record {
-      frames = c.args.self.now.frames;
       events = c.cons.new.self;
       texts = c.args.self.now.texts;
-      pending = c.args.self.now.pending;
+      visits = c.args.self.now.visits;
+      configs = c.args.self.now.configs;
+      returns = c.args.self.now.returns;
       found = c.args.self.now.found;
-    }) c.args.noted event c.args.events number consed stands refl refl refl refl) c.cons.ensures
+    }) c.args.noted event c.args.events number consed stands refl refl
+    (record { configs = refl; returns = refl; found = refl })) c.cons.ensures

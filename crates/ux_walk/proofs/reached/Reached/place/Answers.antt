@@ -6,9 +6,12 @@ use Rattle.ux_walk.proofs.reached.Reached.place.Goals as goal
 pub returns : goal.returns
 returns c = if_ok c.place.result _ _ (λ place placed.
     adds_text c.args.self.now (record {
-      frames = c.args.self.now.frames;
       events = c.args.self.now.events;
       texts = c.place.new.self;
-      pending = c.args.self.now.pending;
+      visits = c.args.self.now.visits;
+      configs = c.args.self.now.configs;
+      returns = c.args.self.now.returns;
       found = c.args.self.now.found;
-    }) c.args.text.now place placed refl refl refl refl) c.place.ensures
+    }) c.args.text.now place placed refl refl
+    (record { configs = refl; returns = refl; found = refl }))
+    c.place.ensures

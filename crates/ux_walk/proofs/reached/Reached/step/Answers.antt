@@ -1,6 +1,6 @@
-use Rattle.std.proofs.Common.{◌≡◌, ◌∙◌, true, false, refl, sym, arith}
+use Rattle.std.proofs.Common.{◌≡◌, ◌∙◌, true, false, sym, arith}
 use Rattle.std.proofs.lemmas.Grind.{common_steps}
-use Rattle.ux_walk.proofs.Stepping.{steps_final, steps_on}
+use Rattle.ux_walk.proofs.Stepping.{steps_final, steps_nowhere, steps_on}
 use Rattle.ux_walk.proofs.reached.Reached.step.Goals as goal
 
 pub follow_state-requires-clause-asked : goal.follow_state-requires-clause-asked
@@ -19,7 +19,7 @@ returns-in_ok-leave-clause-adds g c =
     steps_final c.args.alphabet.now c.args.text.now c.args.applied.now
     (g.C.Contexts.applies c.args.contexts.now) c.args.net.now c.args.config
     c.in-Some.state.now (sym c.in-Some.ensures) c.args.self.now c.follow_state.new.self
-    c.leave.new.self c.in-Some.state.now.edges refl c.if-state.true
+    c.leave.new.self c.if-state.true
     (c.in_ok-follow_state.ensures.adds c.args.net.now (sym c.in-Some.ensures) c.requires.sound)
     c.in_ok-leave.ensures
 
@@ -28,7 +28,6 @@ returns-else-state-clause-adds g c =
     steps_on c.args.alphabet.now c.args.text.now c.args.applied.now
     (g.C.Contexts.applies c.args.contexts.now) c.args.net.now c.args.config
     c.in-Some.state.now (sym c.in-Some.ensures) c.args.self.now c.follow_state.new.self
-    c.in-Some.state.now.edges refl
     (λ yes. let no : false ≡ true = sym c.if-state.false ∙ yes in cc)
     (c.in_ok-follow_state.ensures.adds c.args.net.now (sym c.in-Some.ensures) c.requires.sound)
 
@@ -36,7 +35,10 @@ pub returns-in_default-clause-sound : goal.returns-in_default-clause-sound
 returns-in_default-clause-sound g c = grind (arith, common_steps)
 
 pub returns-in_default-clause-adds : goal.returns-in_default-clause-adds
-returns-in_default-clause-adds g c = grind (arith, common_steps)
+returns-in_default-clause-adds g c =
+    steps_nowhere c.args.alphabet.now c.args.text.now c.args.applied.now
+    (g.C.Contexts.applies c.args.contexts.now) c.args.net.now c.args.config c.args.self.now
+    (sym c.in_default.ensures)
 
 pub returns-in_err-follow_state-clause-sound : goal.returns-in_err-follow_state-clause-sound
 returns-in_err-follow_state-clause-sound g c = grind (arith, common_steps)

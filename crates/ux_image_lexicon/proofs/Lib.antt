@@ -1,0 +1,13 @@
+pub mod OnceLemmas
+pub mod FoundLemmas
+pub mod ReadLemmas
+pub mod PlaceLemmas
+pub mod OrderLemmas
+pub mod CountLemmas
+pub mod WalkLemmas
+pub mod CountedLemmas
+pub mod FindLemmas
+pub mod EnterLemmas
+pub mod FewLemmas
+pub mod ExactLemmas
+pub mod ApartLemmas

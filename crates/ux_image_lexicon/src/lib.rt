@@ -1,0 +1,31 @@
+//! Dictionaries that stay the automata of their images.
+//!
+//! A look-up goes along the edges of the automaton, and makes the entries that were asked for of
+//! their forms and codes; no list of all entries is there. Begin with `lexicon`, where `read_image`
+//! makes an `ImageLexicon` of a file. `reached` is a place in one, to which a text leads. Inside,
+//! `coded` is the automaton with its lists of codes, `lists` reads these once, and `entries` makes
+//! entries. `counts` counts them once, by a `walk` that has one form at a time, and `apart` finds the
+//! lists of which that is seen at once. `finding` goes to the list of a form by its letters. Which
+//! entries an automaton and its lists tell stands in `specs/Told.antt`.
+//!
+//! ```text
+//! let lexicon = read_image(alloc, &bytes)?;
+//! lexicon.fitting(alloc, "The", &alphabet)?      // the entries of `the` and `The`
+//! ```
+#![tactic(auto)]
+
+mod apart;
+pub mod coded;
+pub mod codes;
+mod counts;
+mod entries;
+mod finding;
+pub mod lexicon;
+mod lists;
+pub mod reached;
+mod walk;
+
+pub use coded::Coded;
+pub use codes::{ReadCode, ReadList};
+pub use lexicon::{ImageLexicon, read_image};
+pub use reached::ImageReached;

@@ -1,0 +1,66 @@
+//! Places in the automaton of an image.
+
+ghost use Rattle.std.specs.Prelude.{◌≡◌, ◌↔◌, ◌++◌, ℕ, List, All, IsTrue, IfOk};
+ghost use Rattle.ux_alphabet.specs.Letters.{Letters};
+ghost use Rattle.ux_dela.specs.Sound.{IsSound};
+ghost use Rattle.ux_dela.specs.declared.entry.Entry.{Entry};
+ghost use Rattle.ux_dict.specs.Forms.{IsFitting, MayBegin};
+ghost use Rattle.ux_image_lexicon.specs.Places.{IsReachedInImage};
+
+use crate::coded::Coded;
+use crate::entries::entries_told;
+use std::alloc::Global;
+use ux_alphabet::Alphabet;
+use ux_base::Mem;
+use ux_dela::Entry;
+use ux_dict::different;
+use ux_image_look_ups as look_ups;
+use ux_image_look_ups::Way;
+
+/// A place in the automaton of an image.
+#[derive(Drop)]
+pub struct ImageReached<'a> {
+    pub(crate) coded: &'a Coded,
+    /// The ways by which the text so far leads.
+    pub(crate) ways: Vec<Way>,
+}
+
+impl<'a> ImageReached<'a> {
+    /// Where the text so far leads with this one behind it. Takes a look at each edge of the states on
+    /// the way, once for each way to write the text with lower-case letters that some form has.
+    pub fn go_on(&self, alloc: Global, text: &str, alphabet: &Alphabet) -> Mem<ImageReached<'a>>
+        ensures { IfOk result (λ next. (content : List Entry) (front : List ℕ) →
+            IsReachedInImage alphabet.now content front self.now →
+            IsReachedInImage alphabet.now content (front ++ text.now) next) }
+    {
+        let ways = look_ups::go_on(alloc, self.coded.states(), &self.ways, text, alphabet)?;
+        Ok(ImageReached {
+            coded: self.coded,
+            ways,
+        })
+    }
+
+    /// Whether some form begins with characters that fit the text so far, one by one.
+    pub fn may_go_on(&self) -> bool
+        ensures { (alphabet : Letters) (content : List Entry) (text : List ℕ) →
+            IsReachedInImage alphabet content text self.now →
+            (IsTrue result ↔ MayBegin alphabet text content) }
+    {
+        look_ups::may_go_on(self.coded.states(), &self.ways)
+    }
+
+    /// The entries whose form fits the text so far character by character, in the order of the
+    /// content. They are made of their forms and codes.
+    pub fn ending(&self, alloc: Global) -> Mem<Vec<Entry>>
+        ensures found { IfOk result (λ found. (alphabet : Letters) (content : List Entry)
+            (text : List ℕ) → IsReachedInImage alphabet content text self.now →
+            IsFitting alphabet text content found.items) }
+        ensures sound { IfOk result (λ found. (alphabet : Letters) (content : List Entry)
+            (text : List ℕ) → IsReachedInImage alphabet content text self.now →
+            All IsSound found.items) }
+    {
+        let forms = look_ups::ending(alloc, self.coded.states(), &self.ways)?;
+        let entries = entries_told(alloc, self.coded.lists(), &forms)?;
+        different(alloc, entries)
+    }
+}

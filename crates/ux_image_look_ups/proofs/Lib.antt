@@ -1,0 +1,3 @@
+pub mod WayLemmas
+pub mod EndLemmas
+pub mod LongestLemmas

@@ -1,0 +1,272 @@
+-- Ways that fit the front of a text, and how they go on with one more character of it.
+use Rattle.std.proofs.Common.{◌≡◌, ℕ, suc, ◌+◌, ◌<◌, List, [], ◌∷◌, ◌++◌, length, map, take, get_or, refl, sym, ◌∙◌, ap, subst, inl, inr, arith, length-append}
+use Rattle.std.specs.Prelude.{All, Contains, Option, None, Some, flat_map}
+use Rattle.std.specs.List.{AllZip}
+use Rattle.std.proofs.lemmas.List.{append_assoc, append-nil, map-append, take_more}
+use Rattle.std.proofs.lemmas.List.Concat.{flat_map-append}
+use Rattle.std.proofs.lemmas.List.Elements.{All-nil, All-cons, All-head, All-tail, All-map, All-push, AllZip-push, length_all_zip}
+use Rattle.std.proofs.lemmas.Option.{slice_get-get_or}
+use Rattle.ux_alphabet.specs.Letters.{Letters, Fits}
+use Rattle.ux_dawg.specs.Building.{bare}
+use Rattle.ux_dawg.specs.Listed.{behind, ending}
+use Rattle.ux_dawg.specs.Paths.{AreStates, IsFit}
+use Rattle.ux_dawg.specs.declared.state.Edge.{Edge}
+use Rattle.ux_dawg.specs.declared.state.Form.{Form}
+use Rattle.ux_dawg.specs.declared.state.State.{State}
+use Rattle.ux_dict.specs.Forms.{IsChosen, none, kept}
+use Rattle.ux_dict.proofs.ChosenLemmas.{chosen-again, chosen-append, chosen-none}
+use Rattle.ux_dict.proofs.FittingLemmas.{same_front, zip_apart}
+use Rattle.ux_image_lists.proofs.SumLemmas.{from_depth}
+use Rattle.ux_image_look_ups.specs.declared.ways.Way.{Way}
+use Rattle.ux_image_look_ups.specs.Ways.{behind_all, branches, forms_at, forms_by, forms_on, way_on, AreWays, BeginsFitting, FitsText, GoesTo, HaveForms, IsWay}
+
+-- all members are chosen where all have the property
+pub chosen-full : {X : Type 0} (P : X → Type 0) (xs : List X) → All P xs → IsChosen P xs xs
+chosen-full P [] all = none
+chosen-full P (x ∷ xs) all = kept (All-head P x xs all) (chosen-full P xs (All-tail P x xs all))
+
+-- one more letter behind some, and then a form's
+behind_all-one : (letters : List ℕ) (a : ℕ) (forms : List Form) →
+    map (behind_all (letters ++ a ∷ [])) forms ≡ map (behind_all letters) (map (behind a) forms)
+behind_all-one letters a [] = refl
+behind_all-one letters a (f ∷ forms) =
+    let first : behind_all (letters ++ a ∷ []) f ≡ behind_all letters (behind a f) =
+    λ i. record { letters = append_assoc letters (a ∷ []) f.letters i; code = f.code } in
+    ap (λ (g : Form). g ∷ map (behind_all (letters ++ a ∷ [])) forms) first
+    ∙ ap (λ (l : List Form). behind_all letters (behind a f) ∷ l) (behind_all-one letters a forms)
+
+-- no letters in front
+pub behind_all-none : (forms : List Form) → map (behind_all []) forms ≡ forms
+behind_all-none [] = refl
+behind_all-none (f ∷ forms) = ap (λ (l : List Form). f ∷ l) (behind_all-none forms)
+
+-- two lists beside one another, and their last members
+zip_last : (R : ℕ → ℕ → Type 0) (xs ys : List ℕ) (x y : ℕ) → length xs ≡ length ys →
+    AllZip R (xs ++ x ∷ []) (ys ++ y ∷ []) → R x y
+zip_last R [] [] x y long zip = zip.0
+zip_last R [] (b ∷ ys) x y long zip = absurd (omega (arith, long))
+zip_last R (a ∷ xs) [] x y long zip = absurd (omega (arith, long))
+zip_last R (a ∷ xs) (b ∷ ys) x y long zip = zip_last R xs ys x y (omega (arith, long)) zip.1
+
+-- what begins with letters that fit more begins with some that fit less
+pub fits_less : (alphabet : Letters) (front more : List ℕ) (form : Form) →
+    BeginsFitting alphabet (front ++ more) form → BeginsFitting alphabet front form
+fits_less alphabet front more form (fitting, rest, zip, is) =
+    let split = zip_apart (Fits alphabet) fitting front more zip in (
+      split.0,
+      split.1 ++ rest,
+      split.3,
+      is ∙ ap (λ (l : List ℕ). l ++ rest) split.2 ∙ append_assoc split.0 split.1 rest,
+    )
+
+-- a form that fits a text whole begins with letters that fit it
+pub whole_begins : (alphabet : Letters) (text : List ℕ) (form : Form) →
+    FitsText alphabet text form → BeginsFitting alphabet text form
+whole_begins alphabet text form zip = (form.letters, [], zip, sym (append-nil form.letters))
+
+module _ (states : List State) where
+  abbrev most : ℕ
+  most = length states
+
+  abbrev at : ℕ → State
+  at t = get_or states t bare
+
+  -- the form that ends where the way does, if there is one
+  abbrev pub ended : Way → List Form
+  ended way = map (behind_all way.letters) (ending (at way.state).code)
+
+  -- the forms that go on by the edge
+  abbrev pub branch : Way → Edge → List Form
+  branch way edge =
+      map (behind_all way.letters) (map (behind edge.letter) (forms_at states edge.target))
+
+  -- those that end there, or go on by one of the edges
+  abbrev pub passed : Way → List Edge → List Form
+  passed way edges = ended way ++ flat_map (branch way) edges
+
+  fit_at : AreStates states → (t : ℕ) → t < most → IsFit t (at t)
+  fit_at fit t less = fit t (at t) (slice_get-get_or states t bare less)
+
+  -- an edge leads to a state from which there is a form
+  pub edge_leads : AreStates states → HaveForms states → (number : ℕ) → number < most →
+      (edges : List Edge) → edges ≡ (at number).edges → (i : ℕ) (edge : Edge) → i < length edges →
+      edge ≡ get_or edges i edge →
+      (edge.target < most) × (0 < length (forms_at states edge.target))
+  edge_leads fit have number inside edges are i edge less is =
+      let has = subst (λ (l : List Edge). Contains l edge) are (i, less, sym is) in
+      let low = (fit_at fit number inside).within edge has in
+      (omega (arith, low, inside), have edge.target (omega (arith, low, inside)))
+
+  -- the forms from a state: its own, and those of its edges
+  pub from_here : AreStates states → (t : ℕ) → t < most →
+      forms_at states t ≡ ending (at t).code ++ branches states (at t).edges
+  from_here fit t less =
+      from_depth states fit most (suc most) t (at t) (fit_at fit t less) (omega (arith, less))
+      (omega (arith, less)) (omega (arith, less))
+
+  map-branches : (way : Way) (edges : List Edge) →
+      map (behind_all way.letters) (branches states edges) ≡ flat_map (branch way) edges
+  map-branches way [] = refl
+  map-branches way (e ∷ edges) =
+      map-append (behind_all way.letters) (map (behind e.letter) (forms_at states e.target))
+      (branches states edges)
+      ∙ ap (λ (l : List Form). branch way e ++ l) (map-branches way edges)
+
+  -- the forms of a way are those that end there and those of all edges
+  pub by_edges : AreStates states → (way : Way) → way.state < most →
+      forms_by states way ≡ passed way (at way.state).edges
+  by_edges fit way less =
+      ap (map (behind_all way.letters)) (from_here fit way.state less)
+      ∙ map-append (behind_all way.letters) (ending (at way.state).code)
+      (branches states (at way.state).edges)
+      ∙ ap (λ (l : List Form). ended way ++ l) (map-branches way (at way.state).edges)
+
+  -- the forms of ways so far and of the next one
+  pub forms_on-push : (ways : List Way) (way : Way) →
+      forms_on states (ways ++ way ∷ []) ≡ forms_on states ways ++ forms_by states way
+  forms_on-push ways way =
+      flat_map-append (forms_by states) ways (way ∷ [])
+      ∙ ap (λ (l : List Form). forms_on states ways ++ l) (append-nil (forms_by states way))
+
+  pub forms_on-more : (ways : List Way) (i : ℕ) (way : Way) → i < length ways →
+      way ≡ get_or ways i way →
+      forms_on states (take (i + 1) ways) ≡ forms_on states (take i ways) ++ forms_by states way
+  forms_on-more ways i way less is =
+      ap (forms_on states) (take_more ways i way less
+      ∙ ap (λ (w : Way). take i ways ++ w ∷ []) (sym is))
+      ∙ forms_on-push (take i ways) way
+
+  pub passed-more : (way : Way) (edges : List Edge) (i : ℕ) (edge : Edge) → i < length edges →
+      edge ≡ get_or edges i edge →
+      passed way (take (i + 1) edges) ≡ passed way (take i edges) ++ branch way edge
+  passed-more way edges i edge less is =
+      ap (passed way) (take_more edges i edge less
+      ∙ ap (λ (e : Edge). take i edges ++ e ∷ []) (sym is))
+      ∙ ap (λ (l : List Form). ended way ++ l)
+      (flat_map-append (branch way) (take i edges) (edge ∷ [])
+      ∙ ap (λ (l : List Form). flat_map (branch way) (take i edges) ++ l)
+      (append-nil (branch way edge)))
+      ∙ sym (append_assoc (ended way) (flat_map (branch way) (take i edges)) (branch way edge))
+
+  -- the forms of a way that goes on by an edge
+  by_way_on : (way : Way) (edge : Edge) → forms_by states (way_on way edge) ≡ branch way edge
+  by_way_on way edge = behind_all-one way.letters edge.letter (forms_at states edge.target)
+
+  module _ (alphabet : Letters) (front : List ℕ) (c : ℕ) (way : Way)
+      (is : IsWay states alphabet front way) where
+    abbrev Begins : Form → Type 0
+    Begins = BeginsFitting alphabet (front ++ c ∷ [])
+
+    long_way : length way.letters ≡ length front
+    long_way = length_all_zip (Fits alphabet) way.letters front is.fit
+
+    -- a form that ends where the way does has no letter more
+    ended_short : (code : Option ℕ) →
+        All (λ form. Begins form → ⊥) (map (behind_all way.letters) (ending code))
+    ended_short None = All-nil (λ form. Begins form → ⊥)
+    ended_short (Some code) =
+        All-cons (λ form. Begins form → ⊥) _ []
+        (λ (fitting, rest, zip, same).
+        let long = length_all_zip (Fits alphabet) fitting (front ++ c ∷ []) zip in
+        let more = length-append front (c ∷ []) in
+        let whole = ap (length {A = ℕ}) same in
+        let parts = length-append fitting rest in
+        let own = length-append way.letters [] in
+        absurd (omega (arith, long, more, whole, parts, own, long_way)))
+        (All-nil (λ form. Begins form → ⊥))
+
+    -- forms that go on by an edge that fits
+    branch_fits : (edge : Edge) → Fits alphabet edge.letter c → All Begins (branch way edge)
+    branch_fits edge fits =
+        let there = forms_at states edge.target in
+        All-map Begins (behind_all way.letters) (map (behind edge.letter) there)
+        (All-map (λ form. Begins (behind_all way.letters form)) (behind edge.letter) there
+        (λ k d less. (
+          way.letters ++ edge.letter ∷ [],
+          (get_or there k d).letters,
+          AllZip-push (Fits alphabet) way.letters front edge.letter c is.fit fits,
+          sym (append_assoc way.letters (edge.letter ∷ []) (get_or there k d).letters),
+        )))
+
+    -- and by one that doesn't
+    branch_fails : (edge : Edge) → (Fits alphabet edge.letter c → ⊥) →
+        All (λ form. Begins form → ⊥) (branch way edge)
+    branch_fails edge fails =
+        let there = forms_at states edge.target in
+        All-map (λ form. Begins form → ⊥) (behind_all way.letters) (map (behind edge.letter) there)
+        (All-map (λ form. Begins (behind_all way.letters form) → ⊥) (behind edge.letter) there
+        (λ k d less. only (get_or there k d)))
+      where
+        only : (form : Form) → Begins (behind_all way.letters (behind edge.letter form)) → ⊥
+        only form (fitting, rest, zip, same) =
+            let word = way.letters ++ edge.letter ∷ [] in
+            let long = length_all_zip (Fits alphabet) fitting (front ++ c ∷ []) zip in
+            let more = length-append front (c ∷ []) in
+            let own = length-append way.letters (edge.letter ∷ []) in
+            let one = same_front word fitting form.letters rest
+            (append_assoc way.letters (edge.letter ∷ []) form.letters ∙ same)
+            (omega (arith, long, more, own, long_way)) in
+            fails (zip_last (Fits alphabet) way.letters front edge.letter c long_way
+            (subst (λ (l : List ℕ). AllZip (Fits alphabet) l (front ++ c ∷ [])) (sym one) zip))
+
+    -- before any edge
+    pub ways_start : (forms : List Form) (old : List Way) →
+        AreWays states alphabet (front ++ c ∷ []) forms old →
+        AreWays states alphabet (front ++ c ∷ []) (forms ++ passed way []) old
+    ways_start forms old so_far = record {
+      whole = subst (λ (l : List Form). IsChosen Begins (forms ++ l) (forms_on states old))
+          (sym (append-nil (ended way)))
+          (subst (λ (l : List Form). IsChosen Begins (forms ++ ended way) l)
+          (append-nil (forms_on states old))
+          (chosen-append Begins so_far.whole
+          (chosen-none Begins (ended way) (ended_short (at way.state).code))));
+      each = so_far.each;
+    }
+
+    -- with one edge more
+    pub ways_by_edge : (forms : List Form) (edge : Edge) (old new : List Way) →
+        edge.target < most → 0 < length (forms_at states edge.target) →
+        GoesTo alphabet way edge c old new →
+        AreWays states alphabet (front ++ c ∷ []) forms old →
+        AreWays states alphabet (front ++ c ∷ []) (forms ++ branch way edge) new
+    ways_by_edge forms edge old new within some goes so_far = elim goes [
+      | inl (fits, pushed) ↦
+          subst (AreWays states alphabet (front ++ c ∷ []) (forms ++ branch way edge)) (sym pushed)
+          (record {
+            whole = subst (IsChosen Begins (forms ++ branch way edge))
+                (sym (forms_on-push old (way_on way edge)
+                ∙ ap (λ (l : List Form). forms_on states old ++ l) (by_way_on way edge)))
+                (chosen-append Begins so_far.whole
+                (chosen-full Begins (branch way edge) (branch_fits edge fits)));
+            each = All-push (IsWay states alphabet (front ++ c ∷ [])) old (way_on way edge)
+                so_far.each (record {
+                  within = within;
+                  fit = AllZip-push (Fits alphabet) way.letters front edge.letter c is.fit fits;
+                  some = some;
+                });
+          })
+      | inr (fails, same) ↦
+          subst (AreWays states alphabet (front ++ c ∷ []) (forms ++ branch way edge)) (sym same)
+          (record {
+            whole = subst (IsChosen Begins (forms ++ branch way edge))
+                (append-nil (forms_on states old))
+                (chosen-append Begins so_far.whole
+                (chosen-none Begins (branch way edge) (branch_fails edge fails)));
+            each = so_far.each;
+          })
+    ]
+
+  -- what holds of the forms of the ways holds of all forms
+  pub ways_among : (alphabet : Letters) (front more : List ℕ) (forms : List Form)
+      (ways next : List Way) → AreWays states alphabet front forms ways →
+      AreWays states alphabet (front ++ more) (forms_on states ways) next →
+      AreWays states alphabet (front ++ more) forms next
+  ways_among alphabet front more forms ways next are step = record {
+    whole = chosen-again (BeginsFitting alphabet front) (BeginsFitting alphabet (front ++ more))
+        (fits_less alphabet front more) are.whole step.whole;
+    each = step.each;
+  }
+
+  -- no way, no form
+  pub ways_none : (alphabet : Letters) (text : List ℕ) → AreWays states alphabet text [] []
+  ways_none alphabet text = record { whole = none; each = All-nil (IsWay states alphabet text) }

@@ -1,0 +1,4 @@
+pub mod Ways
+pub mod Pieces
+pub mod Longest
+pub mod Taking

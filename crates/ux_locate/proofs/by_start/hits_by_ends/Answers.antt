@@ -1,0 +1,7 @@
+use Rattle.ux_tokens.specs.Numbers.{different_texts}
+use Rattle.ux_locate.proofs.by_start.hits_by_ends.Goals as goal
+
+pub hits_from_starts-requires-clause-kept : goal.hits_from_starts-requires-clause-kept
+hits_from_starts-requires-clause-kept g c =
+    let search = c.args.search.now in
+    c.new-look_ups.ensures search.alphabet.now search.net.now (different_texts search.text.now)

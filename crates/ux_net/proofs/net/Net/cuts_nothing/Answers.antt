@@ -1,0 +1,11 @@
+use Rattle.std.proofs.Common.{◌∙◌, ap}
+use Rattle.std.specs.List.{list_all}
+use Rattle.ux_net.specs.Nets.{each_in_graph, is_uncut}
+use Rattle.ux_net.proofs.LabelLaws.{uncut_law}
+use Rattle.ux_net.proofs.net.Net.cuts_nothing.Goals as goal
+
+pub returns : goal.returns
+returns c =
+    uncut_law c.args.self.now c.are_all.result
+    (c.are_all.ensures
+    ∙ ap (list_all (each_in_graph is_uncut)) (c.deref.ensures.value ∙ c.self.view_is))

@@ -1,0 +1,170 @@
+//! What a dictionary finds that stays the automaton of its image, by rows, beside one of the same
+//! entries in memory.
+
+use crate::comparing::compare;
+use crate::dict::{PAIRS, printed};
+use std::alloc::Global;
+use std::process::Abort;
+use std::test::Fail;
+use ux_alphabet::Alphabet;
+use ux_dela::{Entry, read_delaf};
+use ux_dict::{Lexicon, ListLexicon};
+use ux_image::{image_of, is_content};
+use ux_image_lexicon::{ImageLexicon, read_image};
+
+/// A name, a dictionary's lines in order of form, a text, the entries whose forms fit it, each between
+/// brackets, whether a form may begin with it, the longest form's length, and how many entries have
+/// exactly this form, and how many there are.
+type Found = (
+    &'static str,
+    &'static str,
+    &'static str,
+    &'static str,
+    bool,
+    usize,
+    usize,
+    usize,
+);
+
+/// An image of the form `a` with two codes, of which the second one takes five characters off and adds
+/// an `a`, so that both make one entry.
+const ALIKE: &[u8] = b"UXUDI\x02\r\n\x02\0\0\0\x01\0\0\0\
+\x01\0\0\0\0\0\0\0\0\0\0\0\x01\0\0\0a\0\0\0\0\0\0\0\
+\x02\0\0\0\x01\0\0\0\0\0\0\0\0\0\0\0\x01\0\0\0N\
+\x01\0\0\0\x05\0\0\0\x01\0\0\0a\x01\0\0\0N";
+
+/// The image of the entries, or nothing where they aren't a content.
+fn image(alloc: Global, entries: &[Entry]) -> Result<Vec<u8>, Fail> {
+    if !is_content(entries) {
+        return Ok(Vec::new(alloc));
+    }
+    Ok(image_of(alloc, entries)?)
+}
+
+/// The dictionary of an image that isn't too long.
+fn lexicon(alloc: Global, bytes: &[u8]) -> Result<ImageLexicon, Fail> {
+    if bytes.len() < 1000 {
+        return Ok(read_image(alloc, bytes)?);
+    }
+    Ok(read_image(alloc, &[])?)
+}
+
+/// The dictionary of the lines, as an image.
+fn image_lexicon(alloc: Global, lines: &str) -> Result<ImageLexicon, Fail> {
+    let entries = read_delaf(alloc, lines)?;
+    let bytes = image(alloc, &entries)?;
+    lexicon(alloc, &bytes)
+}
+
+/// The entries whose forms fit the text, as lines, that an image finds.
+fn found(alloc: Global, lexicon: &ImageLexicon, text: &str) -> Result<String, Fail> {
+    let alphabet = Alphabet::read(alloc, PAIRS)?;
+    let entries = lexicon.fitting(alloc, text, &alphabet)?;
+    printed(alloc, &entries)
+}
+
+/// The same of entries in memory.
+fn found_in_list(alloc: Global, lines: &str, text: &str) -> Result<String, Fail> {
+    let alphabet = Alphabet::read(alloc, PAIRS)?;
+    let lexicon = ListLexicon::read(alloc, lines)?;
+    let entries = lexicon.fitting(alloc, text, &alphabet)?;
+    printed(alloc, &entries)
+}
+
+/// Whether a form may begin with the text.
+fn may_begin(alloc: Global, lexicon: &ImageLexicon, text: &str) -> Result<bool, Fail> {
+    let alphabet = Alphabet::read(alloc, PAIRS)?;
+    Ok(lexicon.may_begin(alloc, text, &alphabet)?)
+}
+
+/// How many entries have exactly this form.
+fn exact(lexicon: &ImageLexicon, form: &str) -> usize {
+    lexicon.exact(form).unwrap_or(0)
+}
+
+fn check_found(rt: &impl Abort, alloc: Global, row: &Found) -> Result<(), Fail> {
+    let lexicon = image_lexicon(alloc, row.1)?;
+    compare(rt, row.0, found(alloc, &lexicon, row.2)?.as_str(), row.3);
+    compare(
+        rt,
+        row.0,
+        found_in_list(alloc, row.1, row.2)?.as_str(),
+        row.3,
+    );
+    compare(rt, row.0, may_begin(alloc, &lexicon, row.2)?, row.4);
+    compare(rt, row.0, lexicon.longest(), row.5);
+    compare(rt, row.0, exact(&lexicon, row.2), row.6);
+    compare(rt, row.0, lexicon.count(), row.7);
+    Ok(())
+}
+
+#[test]
+fn an_image_finds_what_its_entries_say(rt: HostRuntime) -> Result<(), Fail> {
+    const CASES: &str = "THE,.c\nThe,.b\nthe,.a\nthem,they.d";
+    const ROWS: &[Found] = &[
+        ("a lower-case text", CASES, "the", "[the,.a]", true, 4, 1, 4),
+        ("a capital", CASES, "The", "[The,.b][the,.a]", true, 4, 1, 4),
+        (
+            "capitals",
+            CASES,
+            "THE",
+            "[THE,.c][The,.b][the,.a]",
+            true,
+            4,
+            1,
+            4,
+        ),
+        ("a lemma", CASES, "Them", "[them,they.d]", true, 4, 0, 4),
+        ("a front", CASES, "TH", "", true, 4, 0, 4),
+        ("a longer text", CASES, "thema", "", false, 4, 0, 4),
+        ("an accent", "été,.N", "Été", "[été,.N]", true, 3, 0, 1),
+        ("an accented capital", "Été,.N", "été", "", false, 3, 0, 1),
+        (
+            "a space",
+            "the cat,.N",
+            "The Cat",
+            "[the cat,.N]",
+            true,
+            7,
+            0,
+            1,
+        ),
+        (
+            "two codes",
+            "cat,.V\ncat,.N",
+            "cat",
+            "[cat,.V][cat,.N]",
+            true,
+            3,
+            2,
+            2,
+        ),
+        (
+            "two lemmas",
+            "axes,axe.N\naxes,axis.N",
+            "axes",
+            "[axes,axe.N][axes,axis.N]",
+            true,
+            4,
+            2,
+            2,
+        ),
+        ("no text", "cat,.N", "", "", true, 3, 0, 1),
+        ("no entry", "", "cat", "", false, 0, 0, 0),
+        ("no entry and no text", "", "", "", false, 0, 0, 0),
+    ];
+    for row in ROWS {
+        check_found(&rt, rt.alloc(), row)?;
+    }
+    Ok(())
+}
+
+#[test]
+fn an_entry_of_two_codes_is_found_once(rt: HostRuntime) -> Result<(), Fail> {
+    let lexicon = lexicon(rt.alloc(), ALIKE)?;
+    let lines = found(rt.alloc(), &lexicon, "A")?;
+    compare(&rt, "in capitals", lines.as_str(), "[a,.N]");
+    compare(&rt, "its form", exact(&lexicon, "a"), 1);
+    compare(&rt, "all entries", lexicon.count(), 1);
+    Ok(())
+}

@@ -1,0 +1,146 @@
+//! Indexes of the states of a net that have many literals.
+//!
+//! They are made once, when a text is made the basis of charts. So where a search comes to such a
+//! state, it tries those of its edges alone that may apply at the token. What they take in all is
+//! bounded (`ux_walk::look_ups`): beyond that, edges are tried one by one.
+
+ghost use Rattle.std.specs.Prelude.{◌≡◌, ◌<◌, ◌≤◌, List, IfOk, IfSome, IsSomeAnd, IsTrue, Some, length, slice_get};
+ghost use Rattle.ux_alphabet.specs.Letters.{Letters};
+ghost use Rattle.ux_apply.specs.Tables.{Tables};
+ghost use Rattle.ux_net.specs.declared.net_graph.NetGraph.{NetGraph};
+ghost use Rattle.ux_outputs.specs.Rendering.{skip as skip_of};
+ghost use Rattle.ux_tokens.specs.Numbers.{different_texts};
+ghost use Rattle.ux_chart.specs.Places.{AreEdgesOf, AreEnough};
+ghost use Rattle.ux_walk.specs.LookUps.{AreSound};
+ghost use Rattle.ux_walk.specs.Settings.{applied_text};
+ghost use Rattle.ux_text_chart.specs.Likely.{IsTokenAt};
+
+use std::alloc::Global;
+use ux_alphabet::Alphabet;
+use ux_base::Mem;
+use ux_net::{Edge, Label, Net};
+use ux_tokens::Text;
+use ux_walk::config::Frame;
+use ux_walk::look_ups::LookUps;
+use ux_walk::matching::skip;
+
+/// As many literals are tried one by one: no index of their state is made.
+const FEW: usize = 8;
+
+/// The indexes of the states of many literals.
+pub fn indexes_of<'t>(
+    alloc: Global,
+    net: &Net,
+    text: &'t Text,
+    alphabet: &Alphabet,
+) -> Mem<LookUps<'t>>
+    ensures { IfOk result (AreSound alphabet.now net.now (different_texts text.now)) }
+{
+    let mut look_ups = LookUps::new(alloc);
+    for before in 0..net.graphs() {
+        meet_graph(alloc, net, text, alphabet, before + 1, &mut look_ups)?;
+    }
+    Ok(look_ups)
+}
+
+/// Makes the indexes of the states of a graph.
+fn meet_graph<'t>(
+    alloc: Global,
+    net: &Net,
+    text: &'t Text,
+    alphabet: &Alphabet,
+    graph: u32,
+    look_ups: &mut LookUps<'t>,
+) -> Mem<()>
+    requires from { 1 ≤ graph }
+    requires to { graph ≤ length net.now }
+    requires sound { AreSound alphabet.now net.now (different_texts text.now) look_ups.old }
+    ensures { AreSound alphabet.now net.now (different_texts text.now) look_ups.new }
+{
+    for state in 0..net.states(graph) {
+        meet_state(alloc, net, text, alphabet, Frame { graph, state }, look_ups)?;
+    }
+    Ok(())
+}
+
+/// Makes the index of a state, if it has many literals.
+fn meet_state<'t>(
+    alloc: Global,
+    net: &Net,
+    text: &'t Text,
+    alphabet: &Alphabet,
+    frame: Frame,
+    look_ups: &mut LookUps<'t>,
+) -> Mem<()>
+    requires sound { AreSound alphabet.now net.now (different_texts text.now) look_ups.old }
+    ensures { AreSound alphabet.now net.now (different_texts text.now) look_ups.new }
+{
+    let Some(state) = net.state(frame.graph, frame.state) else {
+        return Ok(());
+    };
+    let edges = state.edges.as_slice();
+    if !has_index(edges) {
+        return Ok(());
+    }
+    look_ups.meet(alloc, text, alphabet, frame, edges)
+}
+
+/// Whether a state of these edges gets an index: many are literals, and 32 bits tell each place.
+pub fn has_index(edges: &[Edge]) -> bool
+    ensures { IsTrue result → length edges.now < 4294967296 }
+{
+    edges.len() < 4_294_967_296 && FEW < literals(edges)
+}
+
+/// How many of the edges are literals.
+fn literals(edges: &[Edge]) -> usize {
+    let mut count = 0usize;
+    for edge in edges {
+        if matches!(&edge.label, Label::Fold(_) | Label::Exact(_)) {
+            count = count.saturating_add(1);
+        }
+    }
+    count
+}
+
+/// The number of the token at a position, after an optional space.
+pub fn token_at(text: &Text, at: usize) -> Option<u32>
+    ensures told { IsTokenAt text.now at result }
+    ensures there { IfSome result (λ number.
+        IsSomeAnd (slice_get text.now (skip_of text.now at))
+        (λ token. slice_get (different_texts text.now) number ≡ Some token.text)) }
+{
+    let place = skip(text, at);
+    if text.len() <= place {
+        return None;
+    }
+    Some(text.number(place))
+}
+
+/// The places of those of a state's edges that may apply at a position, where an index is kept.
+pub fn places_at(
+    alloc: Global,
+    look_ups: &LookUps<'_>,
+    text: &Text,
+    state: Frame,
+    edges: &[Edge],
+    at: usize,
+) -> Mem<Option<Vec<u32>>>
+    ensures { (alphabet : Letters) (tables : Tables) (net : List NetGraph) →
+        AreSound alphabet net (different_texts text.now) look_ups.now →
+        AreEdgesOf net state.graph state.state edges.now →
+        IfOk result (λ places. IfSome places (λ places.
+        AreEnough (applied_text alphabet text.now tables) edges.now places.items at)) }
+{
+    if edges.len() <= FEW {
+        return Ok(None);
+    }
+    let Some(index) = look_ups.index(state) else {
+        return Ok(None);
+    };
+    let Some(number) = token_at(text, at) else {
+        return Ok(None);
+    };
+    let places = index.places(alloc, number)?;
+    Ok(Some(places))
+}
