@@ -12,7 +12,7 @@ use crate::reason::Reason;
 use std::alloc::Global;
 use ux_base::Folder;
 use ux_dela::{DelaError, count_delaf, count_delas};
-use ux_image_files::{is_image, read_image};
+use ux_image_files::{is_image, read_lexicon};
 use ux_plan::{Stop, read_decoded, refused};
 
 /// Reads a dictionary of forms, and tells the number of its entries.
@@ -69,7 +69,7 @@ fn count_entries<F: Folder>(
     }
 }
 
-/// How many entries an image has, each once.
+/// How many entries an image has, each once. No list of them is made.
 fn count_imaged<F: Folder>(alloc: Global, name: &str, folder: &mut F) -> Result<usize, Stop<Reason>>
     ensures later { IsLater (F.seen folder.old) (F.seen folder.new) }
     ensures ok { IfOk result
@@ -77,8 +77,8 @@ fn count_imaged<F: Folder>(alloc: Global, name: &str, folder: &mut F) -> Result<
     ensures err { IfErr result (StopsFile (made (image_format Image) IsCountOf) name.now
         (F.seen folder.old) (F.seen folder.new)) }
 {
-    let entries = read_image(alloc, name, folder)?;
-    Ok(entries.len())
+    let lexicon = read_lexicon(alloc, name, folder)?;
+    Ok(lexicon.count())
 }
 
 /// How many entries a file of forms has.

@@ -1,6 +1,5 @@
 -- The format of images is sound, and so is what is made of sound formats.
-use Rattle.std.proofs.Common.{◌≡◌, Bool, true, false, ℕ, List, sym, subst}
-use Rattle.ux_dela.specs.declared.entry.Entry.{Entry}
+use Rattle.std.proofs.Common.{◌≡◌, Bool, true, false, subst}
 use Rattle.ux_image_content.specs.Files.{IsImageContent, RefusesImage}
 use Rattle.ux_image_content.proofs.ContentLaws.{content_excluded, one_content}
 use Rattle.ux_image_files.specs.ImageFiles.{either, image_format, made}

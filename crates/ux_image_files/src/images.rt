@@ -11,6 +11,7 @@ use std::alloc::Global;
 use ux_base::Folder;
 use ux_dela::Entry;
 use ux_image_content::read_content;
+use ux_image_lexicon::{ImageLexicon, read_image as read_automaton};
 use ux_image_reader::ImageError;
 use ux_plan::{Stop, read_bytes, refused};
 
@@ -51,6 +52,25 @@ pub fn read_image<F: Folder, R: OfImage>(
     let bytes = read_bytes(alloc, name, folder)?;
     match read_content(alloc, &bytes) {
         Ok(entries) => Ok(entries),
+        Err(error) => Err(stop_of(alloc, name, error)),
+    }
+}
+
+/// Reads an image as the dictionary that it is, and makes none of its entries.
+#[tactic(auto, using(crate::proofs::ByteSteps::byte_steps))]
+pub fn read_lexicon<F: Folder, R: OfImage>(
+    alloc: Global,
+    name: &str,
+    folder: &mut F,
+) -> Result<ImageLexicon, Stop<R>>
+    ensures later { IsLater (F.seen folder.old) (F.seen folder.new) }
+    ensures ok { IfOk result (Reads (image_format R.image_as) name.now (F.seen folder.old).files) }
+    ensures err { IfErr result (StopsFile (image_format R.image_as) name.now
+        (F.seen folder.old) (F.seen folder.new)) }
+{
+    let bytes = read_bytes(alloc, name, folder)?;
+    match read_automaton(alloc, &bytes) {
+        Ok(lexicon) => Ok(lexicon),
         Err(error) => Err(stop_of(alloc, name, error)),
     }
 }
