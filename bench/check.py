@@ -1,13 +1,14 @@
 #!/usr/bin/env python3
 """Times `unitex check` on generated dictionaries of forms of 150,000, 300,000 and 1,000,000 lines, a third of them
-compounds, beside `wc -l`. Prints the best of three runs, and peak memory by the file's size.
+compounds, beside `wc -l`, and on the image of the first. Prints the best of three runs, and peak memory by the file's
+size.
 
 Needs the built program (make build) and a folder to write to (bench/data).
 """
 import os
 import random
 
-from measuring import DATA, PROGRAM, apart, best, prepare
+from measuring import DATA, PROGRAM, apart, best, prepare, run
 
 CODES = [".N+Conc:ms", ".N+Hum:fs:fp", ".V+t:P3s", ".A:mp", ".ADV"]
 
@@ -39,6 +40,12 @@ def main():
         for name, arguments in [("unitex check", [PROGRAM, "check", path]), ("wc -l", ["wc", "-l", path])]:
             seconds, memory = best(arguments)
             print(f"  {name:12}  {seconds:.3f} s  {memory / 1e6:.1f} MB  {memory / length:.1f} of the file")
+    image = os.path.join(DATA, "forms150000.udi")
+    run([PROGRAM, "compress", os.path.join(DATA, "forms150000.dic")], image)
+    length = os.path.getsize(image)
+    seconds, memory = best([PROGRAM, "check", image])
+    print(f"the image of 150000 lines, {length / 1e6:.1f} MB")
+    print(f"  unitex check  {seconds:.3f} s  {memory / 1e6:.1f} MB  {memory / length:.1f} of the file")
 
 
 main()

@@ -4,7 +4,8 @@ a context in front of it, `$![`, `<V>`, `$]`, beside the phrase alone: a generat
 them compounds, over a text of 2 MB. Calls that multiply: a graph that calls itself in two ways and fails in both, over 40
 and over 4,000 tokens; thirty graphs that each call the next twice, of which the last takes nothing; calls inside each
 other that may each end. Two hundred graphs of ten phrases behind a context, over 4 MB. A graph that calls itself 50,000
-times, beside a loop over as many tokens. Prints the best of three runs, what each found, and peak memory.
+times, beside a loop over as many tokens, and 500 to 2,000 times with an output. Prints the best of three runs, what each
+found, and peak memory.
 
 Needs the built program (make build) and a folder to write to (bench/data).
 """
@@ -98,6 +99,19 @@ def depth(alphabet):
     loop = write("round.grf", graph([("<E>", [2]), ("", []), ("s", [3]), ("a", [3, 4]), ("b", [4, 1])]))
     flat = tell("the loop, the longest", loop, text, alphabet, "--policy", "longest")
     print(f"  {tell('the graph', grammar, text, alphabet, '--policy', 'longest') / flat:.2f} times as long")
+    charted = write("charted.grf", graph([
+        ("<E>", [2]), ("", []), ("s", [4]), (":deep", [1]), ("$![", [5]), ("zz", [6]), ("$]", [3])]))
+    print(f"  {tell('the same behind a context', charted, text, alphabet, '--policy', 'longest') / flat:.2f} times as long")
+
+
+def outputs(alphabet):
+    """The same with an output, so that each derivation is listed with its events."""
+    print("a graph that calls itself, with an output, merged")
+    write("marked.grf", graph([("<E>", [2]), ("", []), ("a/x", [3, 4]), (":marked", [4]), ("b", [1])]))
+    grammar = write("outputs.grf", graph([("<E>", [2]), ("", []), ("s", [3]), (":marked", [1])]))
+    for count in (500, 1_000, 2_000):
+        text = words("marked.txt", ("s", 1), ("a", count), ("b", count))
+        tell(f"{count} calls, the longest", grammar, text, alphabet, "--mode", "merge", "--policy", "longest")
 
 
 def main():
@@ -107,6 +121,7 @@ def main():
     doubling(alphabet)
     nested(alphabet)
     depth(alphabet)
+    outputs(alphabet)
     many(alphabet)
     phrase(alphabet)
 
