@@ -4,7 +4,7 @@ use Rattle.ux_dela.specs.declared.entry.Entry.{Entry}
 use Rattle.ux_dict.specs.declared.parts.Part.{Part}
 use Rattle.ux_dict.specs.Parts.{AreFittingParts}
 use Rattle.ux_dict.proofs.FittingLemmas.{fitting_whole}
-use Rattle.ux_dict.proofs.list_lexicon.ListLexiconLexicon.begin.Goals as goal
+use Rattle.ux_dict.proofs.list_lexicon.ListLexicon.begin.Goals as goal
 
 pub returns : goal.returns
 returns c alphabet =

@@ -1,5 +1,5 @@
 use Rattle.std.proofs.lemmas.Result.{IfOk-weaker}
-use Rattle.ux_dict.proofs.list_lexicon.ListLexiconLexicon.fitting.Goals as goal
+use Rattle.ux_dict.proofs.list_lexicon.ListLexicon.fitting.Goals as goal
 
 pub returns-clause-sound : goal.returns-clause-sound
 returns-clause-sound c =

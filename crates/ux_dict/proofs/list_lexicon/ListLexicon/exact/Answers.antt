@@ -3,7 +3,7 @@ use Rattle.std.specs.Prelude.{filter, bytes_eq}
 use Rattle.std.proofs.lemmas.List.Sums.{length-filter}
 use Rattle.ux_dela.specs.declared.entry.Entry.{Entry}
 use Rattle.ux_dict.specs.Forms.{count_of}
-use Rattle.ux_dict.proofs.list_lexicon.ListLexiconLexicon.exact.Goals as goal
+use Rattle.ux_dict.proofs.list_lexicon.ListLexicon.exact.Goals as goal
 
 -- as many are found as the content has
 counted : (form : List ℕ) (found entries content : List Entry) →

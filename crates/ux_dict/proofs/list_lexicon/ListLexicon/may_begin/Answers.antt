@@ -1,4 +1,4 @@
-use Rattle.ux_dict.proofs.list_lexicon.ListLexiconLexicon.may_begin.Goals as goal
+use Rattle.ux_dict.proofs.list_lexicon.ListLexicon.may_begin.Goals as goal
 
 pub returns : goal.returns
 returns c =

@@ -1,12 +1,11 @@
--- Places in a dictionary, to which texts lead. Public: the crate's public contracts speak of it.
+-- Places in a dictionary of entries that were read, to which texts lead. Public: the crate's public
+-- contracts speak of it.
 use Rattle.std.specs.Prelude.{◌≡◌, ℕ, List, All, IsUtf8}
 use Rattle.std.specs.Str.{chars}
 use Rattle.ux_alphabet.specs.Letters.{Letters}
 use Rattle.ux_dela.specs.Sound.{IsSound}
 use Rattle.ux_dela.specs.declared.entry.Entry.{Entry}
 use Rattle.ux_dict.specs.declared.list_reached.ListReached.{ListReached}
-use Rattle.ux_dict.specs.declared.reached.Reached.{Reached}
-use Rattle.ux_dict.specs.declared.reached.Reached.TheVariants as reached
 use Rattle.ux_dict.specs.Parts.{AreFittingParts}
 
 -- the place is in this content, and its parts have the entries whose forms begin with characters
@@ -17,7 +16,3 @@ pub record IsReachedInList (alphabet : Letters) (content : List Entry) (text : L
   pub sound : All IsSound content
   pub utf8 : IsUtf8 text
   pub fit : AreFittingParts alphabet (chars text) content place.parts.items
-
--- the text leads to the place in the content, by the alphabet
-abbrev pub IsReachedBy : Letters → (content : List Entry) (text : List ℕ) → Reached → Type 0
-IsReachedBy alphabet content text (reached.List place) = IsReachedInList alphabet content text place
