@@ -1,9 +1,8 @@
 -- A text as an input: what a label takes lies ahead, and where a label leads.
-use Rattle.std.proofs.Common.{arith, ◌≡◌, ℕ, zero, suc, List, [], ◌∷◌, ◌++◌, ◌⊎◌, ◌↔◌, Option, Some, None, inl, inr, refl, sym, ap, subst, ◌∙◌, length, get_or, Bool, true, false, not, eqb, ◌<◌, ◌≤◌}
+use Rattle.std.proofs.Common.{arith, ◌≡◌, ℕ, zero, suc, List, [], ◌∷◌, ◌++◌, ◌⊎◌, ◌↔◌, Option, Some, None, inl, inr, refl, sym, ap, subst, ◌∙◌, length, Bool}
 use Rattle.std.specs.Prelude.{Contains, IsTrue, is_some, slice_get}
 use Rattle.std.specs.List.{flat_map}
-use Rattle.std.proofs.lemmas.Bool.{eqb-true, eqb-false}
-use Rattle.std.proofs.lemmas.List.Elements.{Contains-append_left, Contains-append_right, Contains-append_cases, Contains-get_or, Contains-push, Contains-push_cases}
+use Rattle.std.proofs.lemmas.List.Elements.{Contains-append_left, Contains-append_right, Contains-append_cases, Contains-push, Contains-push_cases}
 use Rattle.std.proofs.lemmas.Option.{same_Some, slice_get_within, none-some}
 use Rattle.ux_alphabet.specs.Letters.{Letters}
 use Rattle.ux_tokens.specs.Tokens.{Token}
@@ -16,7 +15,6 @@ use Rattle.ux_net.specs.declared.state.Edge.{Edge}
 use Rattle.ux_net.specs.declared.state.State.{State}
 use Rattle.ux_net.specs.Masks.{masks_of, masks_of_edge, masks_of_graph, masks_of_state}
 use Rattle.ux_net.specs.Nets.{states_in, states_of}
-use Rattle.ux_net.proofs.JoinedLemmas.{less_or}
 use Rattle.ux_apply.specs.Accepting.{Accepts}
 use Rattle.ux_apply.specs.Belonging.{Belongs}
 use Rattle.ux_apply.specs.Tables.{Tables}
@@ -29,7 +27,8 @@ use Rattle.ux_parts.specs.Ordered.{GoesAhead, IsTaking}
 use Rattle.ux_parts.specs.Runs.{Plain}
 use Rattle.ux_walk.specs.Settings.{applied_text}
 use Rattle.ux_walk.proofs.Onward.{takes_forward}
-use Rattle.ux_text_chart.specs.MaskedTexts.{IsMaskIn, MayLead, without_masks}
+use Rattle.ux_mask_table.specs.MaskedTexts.{AddsEnds, IsMaskIn}
+use Rattle.ux_text_chart.specs.Leading.{MayLead, without_masks}
 
 module _ (alphabet : Letters) (tokens : List Token) (tables : Tables) where
   taking : (x : Label) (p k : ℕ) → Takes alphabet tokens (Accepts alphabet tokens tables) x p k →
@@ -66,24 +65,25 @@ module _ (alphabet : Letters) (tokens : List Token) (tables : Tables) where
   plain_same x p k never = (λ h. h, λ h. h)
 
   -- the ends of a mask are added
-  pub masked : (x : Label) (mask : Mask) (p : ℕ) (old new ends : List ℕ) → x ≡ label.Mask mask →
-      ((k : ℕ) → Contains ends k ↔ Accepts alphabet tokens tables mask (skip tokens p) k) →
-      new ≡ old ++ ends →
+  pub masked : (x : Label) (mask : Mask) (p place : ℕ) (old new : List ℕ) → x ≡ label.Mask mask →
+      place ≡ skip tokens p → AddsEnds (Accepts alphabet tokens tables mask place) old new →
       (k : ℕ) → Contains new k ↔ (Contains old k ⊎ Plain (applied_text alphabet tokens tables) x p k)
-  masked x mask p old new ends is exact put k =
+  masked x mask p place old new is after adds k =
       subst (λ (y : Label). Contains new k
       ↔ (Contains old k ⊎ Plain (applied_text alphabet tokens tables) y p k)) (sym is)
       (subst (λ (l : List ℕ). Contains l k
       ↔ (Contains old k ⊎ Plain (applied_text alphabet tokens tables) (label.Mask mask) p k))
-      (sym put) (
-        λ h. elim (Contains-append_cases old ends k h) [
+      (sym adds.added) (
+        λ h. elim (Contains-append_cases old adds.more k h) [
           | inl o ↦ inl o
-          | inr n ↦ inr (inl ((exact k).0 n))
+          | inr n ↦ inr (inl (subst (λ n. Accepts alphabet tokens tables mask n k) after
+              ((adds.exactly k).0 n)))
         ],
         λ h. elim h [
-          | inl o ↦ Contains-append_left old ends k o
-          | inr n ↦ Contains-append_right old ends k (elim n [
-            | inl t ↦ (exact k).1 t
+          | inl o ↦ Contains-append_left old adds.more k o
+          | inr n ↦ Contains-append_right old adds.more k (elim n [
+            | inl t ↦ (adds.exactly k).1
+                (subst (λ n. Accepts alphabet tokens tables mask n k) (sym after) t)
             | inr s ↦ absurd s.2
           ])
         ],
@@ -240,40 +240,18 @@ module _ (alphabet : Letters) (tokens : List Token) (tables : Tables) where
       )
       by (Some k) is = (λ t. (tried_leads x tried o p exact).0 (k, is), λ may. refl)
 
-  -- a mask leads on where it has an end
-  pub mask_test : (x : Label) (mask : Mask) (p : ℕ) (ends : List ℕ) → x ≡ label.Mask mask →
-      ((k : ℕ) → Contains ends k ↔ Accepts alphabet tokens tables mask (skip tokens p) k) →
-      ((k : ℕ) × Contains ends k) ↔ MayLead (applied_text alphabet tokens tables) x p
-  mask_test x mask p ends is exact =
-      subst (λ (y : Label). ((k : ℕ) × Contains ends k)
-      ↔ MayLead (applied_text alphabet tokens tables) y p) (sym is) (
-        λ (k, has). (k, (exact k).0 has),
-        λ (k, takes). (k, (exact k).1 takes),
+  -- a mask leads on where it accepts something
+  pub mask_test : (x : Label) (mask : Mask) (p place : ℕ) (some : Bool) → x ≡ label.Mask mask →
+      place ≡ skip tokens p →
+      (IsTrue some ↔ ((k : ℕ) × Accepts alphabet tokens tables mask place k)) →
+      IsTrue some ↔ MayLead (applied_text alphabet tokens tables) x p
+  mask_test x mask p place some is after told =
+      subst (λ (y : Label). IsTrue some ↔ MayLead (applied_text alphabet tokens tables) y p)
+      (sym is) (
+        λ t. subst (λ n. (k : ℕ) × Accepts alphabet tokens tables mask n k) after (told.0 t),
+        λ (k, takes). told.1
+            (k, subst (λ n. Accepts alphabet tokens tables mask n k) (sym after) takes),
       )
-
-  -- the same, by the test of its list
-  pub mask_told : (x : Label) (mask : Mask) (p : ℕ) (ends : List ℕ) (none : Bool) →
-      x ≡ label.Mask mask →
-      ((k : ℕ) → Contains ends k ↔ Accepts alphabet tokens tables mask (skip tokens p) k) →
-      none ≡ eqb (length ends) 0 →
-      IsTrue (not none) ↔ MayLead (applied_text alphabet tokens tables) x p
-  mask_told x mask p ends true is exact told = (
-    λ t. cc,
-    λ may.
-        let end = (mask_test x mask p ends is exact).1 may in
-        let len = eqb-true (length ends) 0 (sym told) in
-        let inside = end.1.1 in
-        absurd (omega (arith, len, inside)),
-  )
-  mask_told x mask p ends false is exact told = (
-    λ t. (mask_test x mask p ends is exact).0
-        (get_or ends 0 0, Contains-get_or ends 0 0 (some (less_or 0 (length ends)))),
-    λ may. refl,
-  )
-    where
-      some : (0 < length ends) ⊎ (length ends ≤ 0) → 0 < length ends
-      some (inl l) = l
-      some (inr m) = absurd (eqb-false (length ends) 0 (sym told) (omega (arith, m)))
 
 module _ (alphabet : Letters) (tokens : List Token) where
   abbrev bare : Input
@@ -338,35 +316,3 @@ module _ (alphabet : Letters) (tokens : List Token) where
   plain_begun x (inl b) p k = plain_passed x (subst IsPassed (sym b.1) tt) p k
   plain_begun x (inr (inl e)) p k = plain_passed x (subst IsPassed (sym e.1) tt) p k
   plain_begun x (inr (inr c)) p k = plain_passed x (subst IsPassed (sym c) tt) p k
-
--- what a list gives stands among what all give
-joined_has : {X Y : Type 0} (f : X → List Y) (xs : List X) (x : X) (y : Y) → Contains xs x →
-    Contains (f x) y → Contains (flat_map f xs) y
-joined_has f [] x y here there = absurd (Contains-none x here)
-joined_has f (z ∷ zs) x y here there = elim (Contains-cases z x zs here) [
-  | inl e ↦
-      Contains-append_left (f z) (flat_map f zs) y (subst (λ w. Contains (f w) y) (sym e) there)
-  | inr later ↦
-      Contains-append_right (f z) (flat_map f zs) y (joined_has f zs x y later there)
-]
-
--- each label of a net is one of its labels
-pub labels_in : (net : List NetGraph) (g n : ℕ) (state : State) (edge : Edge) →
-    slice_get (states_of net g) n ≡ Some state → Contains state.edges edge →
-    IsMaskIn net edge.label
-labels_in net g n state edge found inside mask has = of_number g found
-  where
-    of_state : Contains (masks_of_state state) mask
-    of_state = joined_has masks_of_edge state.edges edge mask inside has
-
-    of_graph : (m : ℕ) (o : Option NetGraph) → slice_get net m ≡ o →
-        slice_get (states_in o) n ≡ Some state → Contains (masks_of net) mask
-    of_graph m None is at = absurd (let w = slice_get_within [] n state at in omega (arith, w))
-    of_graph m (Some graph) is at =
-        joined_has masks_of_graph net graph mask (Contains-from_place net m graph is)
-        (joined_has masks_of_state graph.states state mask
-        (Contains-from_place graph.states n state at) of_state)
-
-    of_number : (h : ℕ) → slice_get (states_of net h) n ≡ Some state → Contains (masks_of net) mask
-    of_number zero at = absurd (let w = slice_get_within [] n state at in omega (arith, w))
-    of_number (suc m) at = of_graph m (slice_get net m) refl at

@@ -3,9 +3,9 @@ use Rattle.ux_net.specs.declared.label.Label.{Label}
 use Rattle.ux_net.specs.declared.label.Label.TheVariants as label
 use Rattle.ux_parts.specs.Runs.{Plain}
 use Rattle.ux_walk.proofs.MatchingLemmas.{through}
-use Rattle.ux_text_chart.specs.MaskedTexts.{without_masks}
-use Rattle.ux_text_chart.proofs.MaskedTextLemmas.{plain_taking, plain_glue, plain_begun}
-use Rattle.ux_text_chart.proofs.masked_text.end_by.Goals as goal
+use Rattle.ux_text_chart.specs.Leading.{without_masks}
+use Rattle.ux_text_chart.proofs.LeadingLemmas.{plain_taking, plain_glue, plain_begun}
+use Rattle.ux_text_chart.proofs.leading.end_by.Goals as goal
 
 pub returns-in-Fold : goal.returns-in-Fold
 returns-in-Fold c = λ k.
