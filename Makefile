@@ -3,8 +3,8 @@
 # `make build` proves all crates that the program stands on, lowest first, and builds it: crates/unitex/out/unitex.
 # `make tour` runs every example of the documents by the built program, and compares with what they show.
 # `make install PREFIX=DIR` puts the built program and its manual page under DIR.
-# `make bench` times searches beside GNU grep, the tokens of a text beside a C program, and dictionaries beside wc and
-# grep.
+# `make bench` times searches beside GNU grep, the tokens of a text beside a C program, dictionaries beside wc and
+# grep, and images beside a map of the crate fst, which it compiles from Debian's package of its sources.
 # `make gate` is the merge gate and the test command.
 
 PREFIX ?= /usr/local
@@ -51,6 +51,7 @@ bench:
 	@bench/policies.py
 	@bench/contexts.py
 	@bench/concord.py
+	@bench/images.py
 
 gate:
 	@rt ci

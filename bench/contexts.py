@@ -2,10 +2,10 @@
 """Times searches that go by a table of partial results. A noun phrase (`<DET>`, then any number of `<A>`, then `<N>`) with
 a context in front of it, `$![`, `<V>`, `$]`, beside the phrase alone: a generated dictionary of 150,000 lines, a third of
 them compounds, over a text of 2 MB. Calls that multiply: a graph that calls itself in two ways and fails in both, over 40
-and over 4,000 tokens; thirty graphs that each call the next twice, of which the last takes nothing; calls inside each
-other that may each end. Two hundred graphs of ten phrases behind a context, over 4 MB. A graph that calls itself 50,000
-times, beside a loop over as many tokens, and 500 to 2,000 times with an output. Prints the best of three runs, what each
-found, and peak memory.
+and over 4,000 tokens; graphs that call themselves and never come to their ends; thirty graphs that each call the next
+twice, of which the last takes nothing; calls inside each other that may each end. Two hundred graphs of ten phrases behind
+a context, over 4 MB. A graph that calls itself 50,000 times, beside a loop over as many tokens, and 500 to 2,000 times with
+an output. Prints the best of three runs, what each found, and peak memory.
 
 Needs the built program (make build) and a folder to write to (bench/data).
 """
@@ -51,6 +51,17 @@ def failing(alphabet):
         ("d", [1])]))
     for count in (40, 400, 4_000):
         tell(f"{count} tokens", grammar, words("failing.txt", ("a", count)), alphabet)
+
+
+def going_down(alphabet):
+    """A graph that calls itself behind `a`, and ends at `b`, which isn't there: each start goes down to the text's end."""
+    print("a graph that calls itself at its end, and one that goes on behind the call, over a text of `a` alone")
+    write("down.grf", graph([("<E>", [2, 3]), ("", []), ("a", [4]), ("a b", [1]), (":down", [1])]))
+    write("inside.grf", graph([("<E>", [2]), ("", []), ("a", [3, 4]), (":inside", [4]), ("b", [1])]))
+    for count in (4_000, 8_000, 16_000):
+        text = words("down.txt", ("a", count))
+        for name in ("down", "inside"):
+            tell(f"{count} tokens, {name}", os.path.join(DATA, f"{name}.grf"), text, alphabet)
 
 
 def doubling(alphabet):
@@ -118,6 +129,7 @@ def main():
     prepare()
     alphabet = write("letters.txt", ALPHABET)
     failing(alphabet)
+    going_down(alphabet)
     doubling(alphabet)
     nested(alphabet)
     depth(alphabet)

@@ -6,7 +6,7 @@ use Rattle.std.proofs.lemmas.List.Elements.{All-nil, All-push}
 use Rattle.ux_alphabet.specs.Letters.{Letters}
 use Rattle.ux_dela.specs.declared.entry.Entry.{Entry}
 use Rattle.ux_dict.specs.Forms.{MayBegin}
-use Rattle.ux_dict.specs.Reached.{IsReachedBy}
+use Rattle.ux_lexicon.specs.Reached.{IsReachedBy}
 use Rattle.ux_apply.specs.declared.cursors.Cursor.{Cursor}
 use Rattle.ux_apply.specs.declared.priority.Priority.{Priority}
 use Rattle.ux_apply.specs.Applying.{contents}

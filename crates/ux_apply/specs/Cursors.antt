@@ -3,7 +3,7 @@ use Rattle.std.specs.Prelude.{◌≡◌, ℕ, List, IsUtf8}
 use Rattle.std.specs.List.{AllZip}
 use Rattle.ux_alphabet.specs.Letters.{Letters}
 use Rattle.ux_dela.specs.declared.entry.Entry.{Entry}
-use Rattle.ux_dict.specs.Reached.{IsReachedBy}
+use Rattle.ux_lexicon.specs.Reached.{IsReachedBy}
 use Rattle.ux_apply.specs.declared.cursors.Cursor.{Cursor}
 use Rattle.ux_apply.specs.declared.priority.Priority.{Priority}
 

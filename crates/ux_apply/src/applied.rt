@@ -25,7 +25,7 @@ use std::sync::ledger::Ledger;
 use ux_alphabet::Alphabet;
 use ux_base::{Mem, Steps};
 use ux_dela::Entry;
-use ux_dict::Lexicon;
+use ux_lexicon::Lexicon;
 use ux_masks::Mask;
 use ux_tokens::Text;
 

@@ -6,7 +6,7 @@ ghost use Rattle.ux_dela.specs.Sound.{IsSound};
 ghost use Rattle.ux_dela.specs.declared.entry.Entry.{Entry};
 ghost use Rattle.ux_dict.specs.Content.{AreDifferent};
 ghost use Rattle.ux_dict.specs.Forms.{IsFitting};
-ghost use Rattle.ux_dict.specs.Reached.{IsReachedBy};
+ghost use Rattle.ux_lexicon.specs.Reached.{IsReachedBy};
 ghost use Rattle.ux_apply.specs.Applying.{AreApplying, AreFound, content_at, contents};
 ghost use Rattle.ux_apply.specs.Cursors.{WhereLed};
 ghost use Rattle.ux_apply.specs.Kept.{AreAdded};
@@ -17,7 +17,8 @@ use std::alloc::Global;
 use ux_alphabet::Alphabet;
 use ux_base::Mem;
 use ux_dela::Entry;
-use ux_dict::{Lexicon, Reached, different};
+use ux_dict::different;
+use ux_lexicon::{Lexicon, Reached};
 
 /// The entries that apply to the text. Takes one look-up a dictionary.
 pub(crate) fn applying<L: Lexicon>(

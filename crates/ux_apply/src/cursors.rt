@@ -16,7 +16,7 @@ use crate::priority::Priority;
 use std::alloc::Global;
 use ux_alphabet::Alphabet;
 use ux_base::Mem;
-use ux_dict::{Lexicon, Reached};
+use ux_lexicon::{Lexicon, Reached};
 
 /// Where a text leads in one dictionary.
 #[derive(Drop)]

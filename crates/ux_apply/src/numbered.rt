@@ -15,7 +15,7 @@ use std::alloc::Global;
 use ux_alphabet::Alphabet;
 use ux_base::Mem;
 use ux_dela::Entry;
-use ux_dict::Lexicon;
+use ux_lexicon::Lexicon;
 use ux_tokens::Text;
 use ux_tokens::kind::Kind;
 

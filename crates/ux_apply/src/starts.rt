@@ -14,7 +14,7 @@ use crate::priority::Priority;
 use std::alloc::Global;
 use ux_alphabet::Alphabet;
 use ux_base::Mem;
-use ux_dict::Lexicon;
+use ux_lexicon::Lexicon;
 use ux_tokens::Text;
 use ux_tokens::kind::Kind;
 

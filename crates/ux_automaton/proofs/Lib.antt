@@ -1,5 +1,5 @@
 pub mod LandingLemmas
-pub mod MarkLemmas
+pub mod KnownLemmas
 pub mod Results
 pub mod SlotsLemmas
 pub mod AddingLemmas

@@ -1,9 +1,10 @@
--- What an automaton keeps is right for its setting. Inner: contracts see an automaton as its setting
--- and its fronts.
+-- What an automaton keeps is right for its setting. Inner: contracts see an
+-- automaton as its setting and its fronts.
 use Rattle.std.specs.Prelude.{◌≡◌, ◌↔◌, ◌≤◌, ℕ, List, Bool, true, false, Contains, Some, IsTrue, length, slice_get}
 use Rattle.ux_apply.specs.Accepting.{IsAlone}
-use Rattle.ux_apply.specs.Belonging.{Belongs}
 use Rattle.ux_closure.specs.declared.stand.Stand.{Stand}
+use Rattle.ux_mask_table.specs.declared.masked_text.MaskedText.{MaskedText}
+use Rattle.ux_mask_table.specs.MaskedTexts.{HasTable}
 use Rattle.ux_tokens.specs.declared.kind.Kind.{Kind}
 use Rattle.ux_tokens.specs.Numbers.{different_texts}
 use Rattle.ux_walk.specs.declared.lists.Link.{Link}
@@ -11,12 +12,11 @@ use Rattle.ux_walk.specs.declared.look_ups.LookUps.{LookUps}
 use Rattle.ux_walk.specs.Leads.{Stack, main_stack}
 use Rattle.ux_walk.specs.Links.{AreBelow, Extends}
 use Rattle.ux_walk.specs.LookUps.{AreSound}
-use Rattle.ux_walk.specs.Settings.{Setting, setting_of}
+use Rattle.ux_walk.specs.Settings.{Setting, masked_setting}
 use Rattle.ux_automaton.specs.declared.automaton.Automaton.TheInside.{Inside}
 use Rattle.ux_automaton.specs.declared.closed.Closed.{Closed}
 use Rattle.ux_automaton.specs.declared.closed.Closures.{Closures}
 use Rattle.ux_automaton.specs.declared.fronts.Fronts.{Fronts}
-use Rattle.ux_automaton.specs.declared.given.Given.{Given}
 use Rattle.ux_automaton.specs.declared.kept.Kept.{Kept}
 use Rattle.ux_automaton.specs.declared.transitions.Transition.{Transition}
 use Rattle.ux_automaton.specs.declared.transitions.Transitions.{Transitions}
@@ -24,19 +24,10 @@ use Rattle.ux_automaton.specs.FrontIndexes.{AreFrontsIndexed}
 use Rattle.ux_automaton.specs.Fronts.{Known, Store, HoldsIn, IsFrontIn}
 use Rattle.ux_automaton.specs.Caches.{HasValue, IsBarred, IsClosed, IsTransition}
 
--- the setting of what was given
-abbrev pub setting_in : Given → Setting
-setting_in given =
-    setting_of given.net.now given.text.now given.alphabet.now given.applied.now
-
--- the entries belong to the text
-abbrev pub BelongIn : Given → Type 0
-BelongIn given = Belongs given.alphabet.now given.text.now given.applied.now
-
 -- each index is that of a state's edges, for the tokens of the text
-abbrev pub AreIndexed : Given → LookUps → Type 0
-AreIndexed given look_ups =
-    AreSound given.alphabet.now given.net.now (different_texts given.text.now) look_ups
+abbrev pub AreIndexed : MaskedText → LookUps → Type 0
+AreIndexed masked look_ups =
+    AreSound masked.alphabet.now masked.net.now (different_texts masked.text.now) look_ups
 
 -- the lists by which fronts are told
 abbrev pub store_of : Fronts → Store
@@ -91,8 +82,8 @@ pub record AreRight (setting : Setting) (kept : Kept) : Type 0 where
       IsBarred setting number kind
 
 -- what contracts see of what is kept
-abbrev pub known_in : Given → Kept → Known
-known_in given kept = record { setting = setting_in given; store = store_of kept.fronts }
+abbrev pub known_in : MaskedText → Kept → Known
+known_in masked kept = record { setting = masked_setting masked; store = store_of kept.fronts }
 
 -- where no mark stands, no span of several tokens begins
 abbrev pub AreMarked : Setting → List Bool → Type 0
@@ -101,13 +92,13 @@ AreMarked setting marks = (i : ℕ) → slice_get marks i ≡ Some false →
 
 -- what contracts see of an automaton
 abbrev pub known_of : Inside → Known
-known_of a = known_in a.given a.kept
+known_of a = known_in a.masked.now a.kept
 
 -- what it keeps is right, unless memory ran out while it grew
 pub record IsConsistent (a : Inside) : Type 0 where
-  pub belongs : BelongIn a.given
-  pub marked : AreMarked (setting_in a.given) a.marks.items
-  pub right : IsTrue a.is_whole → AreRight (setting_in a.given) a.kept
-  pub indexed : IsTrue a.is_whole → AreIndexed a.given a.look_ups
+  pub table : HasTable a.masked.now
+  pub marked : AreMarked (masked_setting a.masked.now) a.marks.items
+  pub right : IsTrue a.is_whole → AreRight (masked_setting a.masked.now) a.kept
+  pub indexed : IsTrue a.is_whole → AreIndexed a.masked.now a.look_ups
   pub fronts_indexed : IsTrue a.is_whole →
-      AreFrontsIndexed a.given (store_of a.kept.fronts) a.front_indexes
+      AreFrontsIndexed a.masked.now (store_of a.kept.fronts) a.front_indexes

@@ -4,26 +4,21 @@
 //! Memory may run out while it grows; then it isn't used again.
 
 ghost use Rattle.std.specs.Prelude.{◌≡◌, ◌↔◌, ◌⊎◌, ◌<◌, ◌≤◌, false, IfOk, OnOk, length};
-ghost use Rattle.ux_apply.specs.Belonging.{Belongs};
 ghost use Rattle.ux_meaning.specs.Texts.{IsSpaceAt};
 ghost use Rattle.ux_walk.specs.Leads.{Stack as TheStack, main_stack};
-ghost use Rattle.ux_walk.specs.Settings.{setting_of};
+ghost use Rattle.ux_mask_table.specs.MaskedTexts.{HasTable};
 ghost use Rattle.ux_automaton.specs.Fronts.{BeginsNothing, Holds, IsFront, Keeps};
+ghost use Rattle.ux_walk.specs.Settings.{masked_setting};
 ghost use Rattle.ux_automaton.specs.Steps.{IsStep};
 
 use crate::front_indexes::FrontIndexes;
-use crate::given::Given;
 use crate::kept::Kept;
 use crate::marks::marks_of;
 use crate::step::Step;
 use std::alloc::Global;
 use std::marker::Model;
-use std::sync::ledger::Ledger;
-use ux_alphabet::Alphabet;
-use ux_apply::Applied;
-use ux_base::{Mem, NoMemory, Steps};
-use ux_net::Net;
-use ux_tokens::Text;
+use ux_base::{Mem, NoMemory};
+use ux_mask_table::MaskedText;
 use ux_walk::look_ups::LookUps;
 
 /// So many links may tell the fronts when a walk begins: some forty megabytes. Beyond it what is
@@ -33,7 +28,8 @@ const MOST_LINKS: usize = 524_288;
 /// An automaton over the tokens of one text, for walks of one net.
 #[derive(Drop)]
 pub struct Automaton<'a> {
-    given: Given<'a>,
+    /// The text, with what its masks accept.
+    masked: &'a MaskedText<'a>,
     /// Marks of the places at which a span of several tokens may begin.
     marks: Vec<bool>,
     kept: Kept,
@@ -58,28 +54,16 @@ impl<'a> Model for Automaton<'a> {
 }
 
 impl<'a> Automaton<'a> {
-    /// An automaton to which no walk came yet. Takes a step a token.
-    pub fn of(
-        alloc: Global,
-        net: &'a Net,
-        text: &'a Text,
-        alphabet: &'a Alphabet,
-        applied: &'a Applied,
-    ) -> Mem<Automaton<'a>>
-        requires { Belongs alphabet.now text.now applied.now }
-        ensures { IfOk result (λ automaton. automaton.setting
-            ≡ setting_of net.now text.now alphabet.now applied.now) }
+    /// An automaton over a text with its masks, to which no walk came yet. Takes a look at each
+    /// token.
+    pub fn of(alloc: Global, masked: &'a MaskedText<'a>) -> Mem<Automaton<'a>>
+        requires { HasTable masked.now }
+        ensures { IfOk result (λ automaton. automaton.setting ≡ masked_setting masked.now) }
     {
-        let given = Given {
-            net,
-            text,
-            alphabet,
-            applied,
-        };
-        let marks = marks_of(alloc, &given)?;
-        let kept = Kept::new(alloc, text.different())?;
+        let marks = marks_of(alloc, masked)?;
+        let kept = Kept::new(alloc, masked.text.different())?;
         Ok(Automaton {
-            given,
+            masked,
             marks,
             kept,
             look_ups: LookUps::new(alloc),
@@ -97,7 +81,7 @@ impl<'a> Automaton<'a> {
     {
         !self.is_whole
             || self.kept.may_begin(
-                &self.given,
+                self.masked,
                 &self.front_indexes,
                 self.marks.as_slice(),
                 start,
@@ -118,7 +102,7 @@ impl<'a> Automaton<'a> {
         if self.kept.size() <= MOST_LINKS {
             return Ok(self.kept.first());
         }
-        let kept = Kept::new(alloc, self.given.text.different())?;
+        let kept = Kept::new(alloc, self.masked.text.different())?;
         let first = kept.first();
         self.kept = kept;
         self.front_indexes.let_go(alloc);
@@ -127,13 +111,7 @@ impl<'a> Automaton<'a> {
 
     /// Where walks from a front go on at a position. Takes a look-up, and memory for what no walk
     /// came to before.
-    pub fn step<L: Ledger>(
-        &mut self,
-        alloc: Global,
-        front: usize,
-        at: usize,
-        steps: &mut Steps<L>,
-    ) -> Mem<Step>
+    pub fn step(&mut self, alloc: Global, front: usize, at: usize) -> Mem<Step>
         requires front { IsFront self.now front }
         requires inside { at ≤ length self.now.setting.tokens }
         ensures keeps { OnOk result (Keeps self.old self.new) }
@@ -145,13 +123,12 @@ impl<'a> Automaton<'a> {
         self.is_whole = false;
         let step = self.kept.step(
             alloc,
-            &self.given,
+            self.masked,
             &mut self.look_ups,
             &mut self.front_indexes,
             self.marks.as_slice(),
             front,
             at,
-            steps,
         )?;
         self.is_whole = true;
         Ok(step)

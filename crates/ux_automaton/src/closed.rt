@@ -4,21 +4,22 @@ ghost use Rattle.std.specs.Prelude.{◌≡◌, ◌↔◌, ◌⊎◌, ◌+◌, �
 ghost use Rattle.ux_meaning.specs.Texts.{IsSpaceAt};
 ghost use Rattle.ux_closure.specs.Taking.{TellsSpace};
 ghost use Rattle.ux_walk.specs.Leads.{Stack as TheStack};
+ghost use Rattle.ux_mask_table.specs.MaskedTexts.{HasTable};
 ghost use Rattle.ux_automaton.specs.declared.closed.Closed.{Closed as TheClosed};
 ghost use Rattle.ux_automaton.specs.Caches.{IsClosed};
 ghost use Rattle.ux_automaton.specs.Fronts.{HoldsIn, IsFrontIn, NamesStack};
-ghost use Rattle.ux_automaton.specs.Kept.{AreIndexed, AreStands, BelongIn, Grows, HasClosed, IsSound, setting_in, store_of};
+ghost use Rattle.ux_automaton.specs.Kept.{AreIndexed, AreStands, Grows, HasClosed, IsSound, store_of};
+ghost use Rattle.ux_walk.specs.Settings.{masked_setting};
 ghost use Rattle.ux_automaton.specs.Targets.{IsOver};
 
 use crate::fronts::Fronts;
-use crate::given::Given;
 use crate::slots::{give, value_of};
 use crate::takers::may_take;
 use crate::targets::{front_at, have_mask, targets_of};
 use std::alloc::Global;
-use std::sync::ledger::Ledger;
-use ux_base::{Mem, Steps};
+use ux_base::Mem;
 use ux_closure::stand::Stand;
+use ux_mask_table::MaskedText;
 use ux_walk::look_ups::LookUps;
 use ux_walk::matching::is_space;
 
@@ -85,65 +86,63 @@ impl Closures {
 }
 
 /// What is to be known of a front, where a space stands at a position, or where none does.
-pub fn close<'t, L: Ledger>(
+pub fn close<'t>(
     alloc: Global,
     fronts: &mut Fronts,
-    given: &Given<'t>,
+    masked: &MaskedText<'t>,
     look_ups: &mut LookUps<'t>,
     front: usize,
     is_spaced: bool,
     at: usize,
-    steps: &mut Steps<L>,
 ) -> Mem<Closed>
     requires sound { IsSound (store_of fronts.now) }
-    requires belongs { BelongIn given.now }
-    requires indexed { AreIndexed given.now look_ups.now }
+    requires table { HasTable masked.now }
+    requires indexed { AreIndexed masked.now look_ups.now }
     requires there { IsFrontIn (store_of fronts.now) front }
-    requires tells { TellsSpace (setting_in given.now) at is_spaced }
-    ensures indexed { OnOk result (AreIndexed given.now look_ups.new) }
+    requires tells { TellsSpace (masked_setting masked.now) at is_spaced }
+    ensures indexed { OnOk result (AreIndexed masked.now look_ups.new) }
     ensures grows { OnOk result (Grows (store_of fronts.old) (store_of fronts.new)) }
     ensures closed { IfOk result
-        (IsClosed (setting_in given.now) (store_of fronts.new) front is_spaced) }
+        (IsClosed (masked_setting masked.now) (store_of fronts.new) front is_spaced) }
 {
-    let closure = fronts.close(alloc, given.net, front, is_spaced)?;
+    let closure = fronts.close(alloc, masked.net, front, is_spaced)?;
     let stands = closure.stands.as_slice();
     let closed = fronts.front_of(stands)?;
-    let over_space = over_space(alloc, fronts, given, look_ups, stands, at, steps)?;
+    let over_space = over_space(alloc, fronts, masked, look_ups, stands, at)?;
     Ok(Closed {
         front: closed,
         ends: closure.ends,
-        has_masks: have_mask(given.net, stands),
-        takes_tokens: may_take(given.net, stands),
+        has_masks: have_mask(masked.net, stands),
+        takes_tokens: may_take(masked.net, stands),
         over_space,
     })
 }
 
 /// The front after the space at a position, and front 0 where none stands there.
-fn over_space<'t, L: Ledger>(
+fn over_space<'t>(
     alloc: Global,
     fronts: &mut Fronts,
-    given: &Given<'t>,
+    masked: &MaskedText<'t>,
     look_ups: &mut LookUps<'t>,
     stands: &[Stand],
     at: usize,
-    steps: &mut Steps<L>,
 ) -> Mem<usize>
     requires sound { IsSound (store_of fronts.now) }
-    requires belongs { BelongIn given.now }
-    requires indexed { AreIndexed given.now look_ups.now }
+    requires table { HasTable masked.now }
+    requires indexed { AreIndexed masked.now look_ups.now }
     requires stands { AreStands (store_of fronts.now) stands.now }
-    ensures indexed { OnOk result (AreIndexed given.now look_ups.new) }
+    ensures indexed { OnOk result (AreIndexed masked.now look_ups.new) }
     ensures grows { OnOk result (Grows (store_of fronts.old) (store_of fronts.new)) }
     ensures there { IfOk result (IsFrontIn (store_of fronts.new)) }
-    ensures spaced { IfOk result (λ front. IsSpaceAt given.now.text.now at → (stack : TheStack) →
+    ensures spaced { IfOk result (λ front. IsSpaceAt masked.now.text.now at → (stack : TheStack) →
         HoldsIn (store_of fronts.new) front stack
-        ↔ IsOver (setting_in given.now)
+        ↔ IsOver (masked_setting masked.now)
         (NamesStack (store_of fronts.old).stacks (Contains stands.now)) at (at + 1) stack) }
-    ensures bare { IfOk result (λ front. (IsSpaceAt given.now.text.now at → ⊥) → front ≡ 0) }
+    ensures bare { IfOk result (λ front. (IsSpaceAt masked.now.text.now at → ⊥) → front ≡ 0) }
 {
-    if !is_space(given.text, at) {
+    if !is_space(masked.text, at) {
         return Ok(0);
     }
-    let targets = targets_of(alloc, given, look_ups, stands, at, steps)?;
+    let targets = targets_of(alloc, masked, look_ups, stands, at)?;
     front_at(alloc, fronts, targets.as_slice(), at + 1)
 }

@@ -5,17 +5,18 @@
 
 ghost use Rattle.std.specs.Prelude.{◌≡◌, ◌↔◌, ◌⊎◌, ◌<◌, ℕ, Contains, IsTrue, OnOk, Some, option_copied, slice_get};
 ghost use Rattle.ux_net.specs.Nets.{states_of};
+ghost use Rattle.ux_mask_table.specs.MaskedTexts.{AreEdgesKnown, HasTable, IsKnown};
 ghost use Rattle.ux_automaton.specs.declared.target.Target.{Target as TheTarget};
-ghost use Rattle.ux_automaton.specs.Kept.{AreIndexed, BelongIn, setting_in};
+ghost use Rattle.ux_automaton.specs.Kept.{AreIndexed};
+ghost use Rattle.ux_walk.specs.Settings.{masked_setting};
 ghost use Rattle.ux_automaton.specs.Targets.{IsTargetAt, IsTargetAtSome, IsTargetOver, IsTargetOverSome};
 
-use crate::given::Given;
 use crate::taking::ends_of;
 use crate::target::Target;
 use std::alloc::Global;
-use std::sync::ledger::Ledger;
-use ux_base::{Mem, Steps};
+use ux_base::Mem;
 use ux_closure::stand::Stand;
+use ux_mask_table::MaskedText;
 use ux_net::{Edge, State};
 use ux_walk::config::Frame;
 use ux_walk::look_ups::LookUps;
@@ -26,128 +27,114 @@ const FEW: usize = 8;
 
 /// Adds the targets of a stand at this state. Where a token stands, and the state has an index, only
 /// the edges are tried that may take it.
-pub fn add_state<'t, L: Ledger>(
+pub fn add_state<'t>(
     alloc: Global,
-    given: &Given<'t>,
+    masked: &MaskedText<'t>,
     look_ups: &mut LookUps<'t>,
     stand: Stand,
     state: &State,
     at: usize,
-    steps: &mut Steps<L>,
     targets: &mut Vec<Target>,
 ) -> Mem<()>
-    requires belongs { BelongIn given.now }
-    requires indexed { AreIndexed given.now look_ups.now }
-    requires found { slice_get (states_of given.now.net.now stand.here.graph) stand.here.state
+    requires table { HasTable masked.now }
+    requires indexed { AreIndexed masked.now look_ups.now }
+    requires found { slice_get (states_of masked.now.net.now stand.here.graph) stand.here.state
         ≡ Some state.now }
-    ensures indexed { OnOk result (AreIndexed given.now look_ups.new) }
+    ensures indexed { OnOk result (AreIndexed masked.now look_ups.new) }
     ensures targets { OnOk result ((target : TheTarget) → Contains targets.new.items target
         ↔ (Contains targets.old.items target
-        ⊎ IsTargetOverSome (setting_in given.now) at stand state.now.edges target)) }
+        ⊎ IsTargetOverSome (masked_setting masked.now) at stand state.now.edges target)) }
 {
     let edges = state.edges.as_slice();
-    let place = skip(given.text, at);
-    if !has_index(edges.len()) || given.text.len() <= place {
-        return add_edges(alloc, given, stand, edges, at, steps, targets);
+    let place = skip(masked.text, at);
+    if !has_index(edges.len()) || masked.text.len() <= place {
+        return add_edges(alloc, masked, stand, edges, at, targets);
     }
-    look_ups.meet(alloc, given.text, given.alphabet, stand.here, edges)?;
+    look_ups.meet(alloc, masked.text, masked.alphabet, stand.here, edges)?;
     let Some(index) = look_ups.index(stand.here) else {
-        return add_edges(alloc, given, stand, edges, at, steps, targets);
+        return add_edges(alloc, masked, stand, edges, at, targets);
     };
-    let places = index.places(alloc, given.text.number(place))?;
-    add_places(
-        alloc,
-        given,
-        stand,
-        edges,
-        places.as_slice(),
-        at,
-        steps,
-        targets,
-    )
+    let places = index.places(alloc, masked.text.number(place))?;
+    add_places(alloc, masked, stand, edges, places.as_slice(), at, targets)
 }
 
 /// Adds the targets of a stand over the edges at the places.
-fn add_places<L: Ledger>(
+fn add_places(
     alloc: Global,
-    given: &Given,
+    masked: &MaskedText,
     stand: Stand,
     edges: &[Edge],
     places: &[u32],
     at: usize,
-    steps: &mut Steps<L>,
     targets: &mut Vec<Target>,
 ) -> Mem<()>
-    requires belongs { BelongIn given.now }
+    requires known { AreEdgesKnown masked.now edges.now }
     ensures { OnOk result ((target : TheTarget) → Contains targets.new.items target
         ↔ (Contains targets.old.items target
-        ⊎ IsTargetAtSome (setting_in given.now) at stand edges.now places.now target)) }
+        ⊎ IsTargetAtSome (masked_setting masked.now) at stand edges.now places.now target)) }
 {
     for place in places {
-        add_place(alloc, given, stand, edges, *place, at, steps, targets)?;
+        add_place(alloc, masked, stand, edges, *place, at, targets)?;
     }
     Ok(())
 }
 
 /// Adds the targets of a stand over the edge at a place, if one stands there.
-fn add_place<L: Ledger>(
+fn add_place(
     alloc: Global,
-    given: &Given,
+    masked: &MaskedText,
     stand: Stand,
     edges: &[Edge],
     place: u32,
     at: usize,
-    steps: &mut Steps<L>,
     targets: &mut Vec<Target>,
 ) -> Mem<()>
-    requires belongs { BelongIn given.now }
+    requires known { AreEdgesKnown masked.now edges.now }
     ensures { OnOk result ((target : TheTarget) → Contains targets.new.items target
         ↔ (Contains targets.old.items target
-        ⊎ IsTargetAt (setting_in given.now) at stand edges.now place target)) }
+        ⊎ IsTargetAt (masked_setting masked.now) at stand edges.now place target)) }
 {
     match edge_at(edges, place) {
-        Some(edge) => add_edge(alloc, given, stand, edge, at, steps, targets),
+        Some(edge) => add_edge(alloc, masked, stand, edge, at, targets),
         None => Ok(()),
     }
 }
 
 /// Adds the targets of a stand over these edges.
-fn add_edges<L: Ledger>(
+fn add_edges(
     alloc: Global,
-    given: &Given,
+    masked: &MaskedText,
     stand: Stand,
     edges: &[Edge],
     at: usize,
-    steps: &mut Steps<L>,
     targets: &mut Vec<Target>,
 ) -> Mem<()>
-    requires belongs { BelongIn given.now }
+    requires known { AreEdgesKnown masked.now edges.now }
     ensures { OnOk result ((target : TheTarget) → Contains targets.new.items target
         ↔ (Contains targets.old.items target
-        ⊎ IsTargetOverSome (setting_in given.now) at stand edges.now target)) }
+        ⊎ IsTargetOverSome (masked_setting masked.now) at stand edges.now target)) }
 {
     for edge in edges {
-        add_edge(alloc, given, stand, edge, at, steps, targets)?;
+        add_edge(alloc, masked, stand, edge, at, targets)?;
     }
     Ok(())
 }
 
 /// Adds the targets of a stand over an edge: one for each end of what its label takes.
-fn add_edge<L: Ledger>(
+fn add_edge(
     alloc: Global,
-    given: &Given,
+    masked: &MaskedText,
     stand: Stand,
     edge: &Edge,
     at: usize,
-    steps: &mut Steps<L>,
     targets: &mut Vec<Target>,
 ) -> Mem<()>
-    requires belongs { BelongIn given.now }
+    requires known { IsKnown masked.now edge.now.label }
     ensures { OnOk result ((target : TheTarget) → Contains targets.new.items target
         ↔ (Contains targets.old.items target
-        ⊎ IsTargetOver (setting_in given.now) at stand edge.now target)) }
+        ⊎ IsTargetOver (masked_setting masked.now) at stand edge.now target)) }
 {
-    let ends = ends_of(alloc, given, &edge.label, at, steps)?;
+    let ends = ends_of(alloc, masked, &edge.label, at)?;
     let here = Frame {
         graph: stand.here.graph,
         state: edge.target,

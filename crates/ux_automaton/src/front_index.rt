@@ -11,14 +11,14 @@ ghost use Rattle.ux_net.specs.declared.state.Edge.{Edge as TheEdge};
 ghost use Rattle.ux_tokens.specs.Numbers.{different_texts};
 ghost use Rattle.ux_walk.specs.Literals.{AreReady, IsFitted, IsLiteral};
 ghost use Rattle.ux_automaton.specs.declared.front_index.Fitting.{Fitting as TheFitting};
-ghost use Rattle.ux_automaton.specs.declared.given.Given.{Given as TheGiven};
+ghost use Rattle.ux_mask_table.specs.declared.masked_text.MaskedText.{MaskedText as TheMaskedText};
 ghost use Rattle.ux_automaton.specs.FrontIndexes.{AreLikely, FitsOver, HasOther, IsFrontIndex, number_of, stand_of};
 ghost use Rattle.ux_automaton.specs.Fronts.{HasStand, Store};
 
-use crate::given::Given;
 use std::alloc::Global;
 use ux_base::Mem;
 use ux_closure::stand::Stand;
+use ux_mask_table::MaskedText;
 use ux_net::{Edge, Label, Net};
 use ux_walk::words::Words;
 
@@ -43,12 +43,17 @@ pub struct FrontIndex {
 impl FrontIndex {
     /// The index of these stands. Takes the comparisons that `Words::cost` tells of so many labels,
     /// and a sorting of what was found.
-    pub fn of(alloc: Global, words: &Words, given: &Given, stands: &[Stand]) -> Mem<FrontIndex>
-        requires { AreReady given.now.alphabet.now (different_texts given.now.text.now) words.now }
-        ensures { IfOk result (IsFrontIndex given.now (Contains stands.now)) }
+    pub fn of(
+        alloc: Global,
+        words: &Words,
+        masked: &MaskedText,
+        stands: &[Stand],
+    ) -> Mem<FrontIndex>
+        requires { AreReady masked.now.alphabet.now (different_texts masked.now.text.now) words.now }
+        ensures { IfOk result (IsFrontIndex masked.now (Contains stands.now)) }
     {
-        let mut fittings = fittings_of(alloc, words, given, stands)?;
-        let others = others_of(alloc, given.net, stands)?;
+        let mut fittings = fittings_of(alloc, words, masked, stands)?;
+        let others = others_of(alloc, masked.net, stands)?;
         sort(&mut fittings);
         Ok(FrontIndex { fittings, others })
     }
@@ -56,10 +61,10 @@ impl FrontIndex {
     /// The stands that may lead on over the token of this number. Takes a look-up, and a step for
     /// each of them.
     pub fn likely(&self, alloc: Global, number: u32) -> Mem<Vec<Stand>>
-        ensures { (given : TheGiven) (text : List ℕ) (store : Store) (front : ℕ) →
-            IsFrontIndex given (HasStand store front) self.now →
-            slice_get (different_texts given.text.now) number ≡ Some text →
-            IfOk result (λ few. AreLikely given text (HasStand store front) few.items) }
+        ensures { (masked : TheMaskedText) (text : List ℕ) (store : Store) (front : ℕ) →
+            IsFrontIndex masked (HasStand store front) self.now →
+            slice_get (different_texts masked.text.now) number ≡ Some text →
+            IfOk result (λ few. AreLikely masked text (HasStand store front) few.items) }
     {
         let mut few = stands_of(alloc, run(self.fittings.as_slice(), number))?;
         few.extend_from_slice(self.others.as_slice())?;
@@ -69,10 +74,10 @@ impl FrontIndex {
     /// Whether it is known that none of the stands leads on over the token of this number. Takes a
     /// look-up.
     pub fn has_none(&self, number: u32) -> bool
-        ensures { (given : TheGiven) (text : List ℕ) (store : Store) (front : ℕ) →
-            IsFrontIndex given (HasStand store front) self.now →
-            slice_get (different_texts given.text.now) number ≡ Some text →
-            IsTrue result → AreLikely given text (HasStand store front) [] }
+        ensures { (masked : TheMaskedText) (text : List ℕ) (store : Store) (front : ℕ) →
+            IsFrontIndex masked (HasStand store front) self.now →
+            slice_get (different_texts masked.text.now) number ≡ Some text →
+            IsTrue result → AreLikely masked text (HasStand store front) [] }
     {
         are_none(
             self.others.as_slice(),
@@ -88,14 +93,19 @@ impl FrontIndex {
 }
 
 /// Each stand with each token that a literal of it fits.
-fn fittings_of(alloc: Global, words: &Words, given: &Given, stands: &[Stand]) -> Mem<Vec<Fitting>>
-    requires { AreReady given.now.alphabet.now (different_texts given.now.text.now) words.now }
+fn fittings_of(
+    alloc: Global,
+    words: &Words,
+    masked: &MaskedText,
+    stands: &[Stand],
+) -> Mem<Vec<Fitting>>
+    requires { AreReady masked.now.alphabet.now (different_texts masked.now.text.now) words.now }
     ensures { IfOk result (λ fittings. (fitting : TheFitting) → Contains fittings.items fitting
-        ↔ ((stand : TheStand) × Contains stands.now stand × FitsOver given.now stand fitting)) }
+        ↔ ((stand : TheStand) × Contains stands.now stand × FitsOver masked.now stand fitting)) }
 {
     let mut fittings = Vec::new(alloc);
     for stand in stands {
-        add_stand(alloc, words, given, *stand, &mut fittings)?;
+        add_stand(alloc, words, masked, *stand, &mut fittings)?;
     }
     Ok(fittings)
 }
@@ -104,16 +114,23 @@ fn fittings_of(alloc: Global, words: &Words, given: &Given, stands: &[Stand]) ->
 fn add_stand(
     alloc: Global,
     words: &Words,
-    given: &Given,
+    masked: &MaskedText,
     stand: Stand,
     fittings: &mut Vec<Fitting>,
 ) -> Mem<()>
-    requires { AreReady given.now.alphabet.now (different_texts given.now.text.now) words.now }
+    requires { AreReady masked.now.alphabet.now (different_texts masked.now.text.now) words.now }
     ensures { OnOk result ((fitting : TheFitting) → Contains fittings.new.items fitting
-        ↔ (Contains fittings.old.items fitting ⊎ FitsOver given.now stand fitting)) }
+        ↔ (Contains fittings.old.items fitting ⊎ FitsOver masked.now stand fitting)) }
 {
-    match given.net.state(stand.here.graph, stand.here.state) {
-        Some(state) => add_edges(alloc, words, given, stand, state.edges.as_slice(), fittings),
+    match masked.net.state(stand.here.graph, stand.here.state) {
+        Some(state) => add_edges(
+            alloc,
+            words,
+            masked,
+            stand,
+            state.edges.as_slice(),
+            fittings,
+        ),
         None => Ok(()),
     }
 }
@@ -122,19 +139,19 @@ fn add_stand(
 fn add_edges(
     alloc: Global,
     words: &Words,
-    given: &Given,
+    masked: &MaskedText,
     stand: Stand,
     edges: &[Edge],
     fittings: &mut Vec<Fitting>,
 ) -> Mem<()>
-    requires { AreReady given.now.alphabet.now (different_texts given.now.text.now) words.now }
+    requires { AreReady masked.now.alphabet.now (different_texts masked.now.text.now) words.now }
     ensures { OnOk result ((fitting : TheFitting) → Contains fittings.new.items fitting
         ↔ (Contains fittings.old.items fitting ⊎ ((edge : TheEdge) × Contains edges.now edge
-        × (IsFitted given.now.alphabet.now (different_texts given.now.text.now) edge.label
+        × (IsFitted masked.now.alphabet.now (different_texts masked.now.text.now) edge.label
         fitting.number × (fitting.stand ≡ stand))))) }
 {
     for edge in edges {
-        add_edge(alloc, words, given, stand, &edge.label, fittings)?;
+        add_edge(alloc, words, masked, stand, &edge.label, fittings)?;
     }
     Ok(())
 }
@@ -143,18 +160,18 @@ fn add_edges(
 fn add_edge(
     alloc: Global,
     words: &Words,
-    given: &Given,
+    masked: &MaskedText,
     stand: Stand,
     label: &Label,
     fittings: &mut Vec<Fitting>,
 ) -> Mem<()>
-    requires { AreReady given.now.alphabet.now (different_texts given.now.text.now) words.now }
+    requires { AreReady masked.now.alphabet.now (different_texts masked.now.text.now) words.now }
     ensures { OnOk result ((fitting : TheFitting) → Contains fittings.new.items fitting
         ↔ (Contains fittings.old.items fitting
-        ⊎ (IsFitted given.now.alphabet.now (different_texts given.now.text.now) label.now
+        ⊎ (IsFitted masked.now.alphabet.now (different_texts masked.now.text.now) label.now
         fitting.number × (fitting.stand ≡ stand)))) }
 {
-    let numbers = words.numbers(alloc, given.alphabet, label)?;
+    let numbers = words.numbers(alloc, masked.alphabet, label)?;
     for number in &numbers {
         fittings.push(Fitting {
             number: *number,

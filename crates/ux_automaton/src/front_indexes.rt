@@ -7,19 +7,19 @@
 ghost use Rattle.std.specs.Prelude.{◌≡◌, ◌↔◌, ◌⊎◌, [], ℕ, true, List, Contains, IfOk, IfSome, IsTrue, OnOk, Some, slice_get};
 ghost use Rattle.ux_closure.specs.declared.stand.Stand.{Stand as TheStand};
 ghost use Rattle.ux_tokens.specs.Numbers.{different_texts};
-ghost use Rattle.ux_automaton.specs.declared.given.Given.{Given as TheGiven};
+ghost use Rattle.ux_mask_table.specs.declared.masked_text.MaskedText.{MaskedText as TheMaskedText};
 ghost use Rattle.ux_automaton.specs.FrontIndexes.{AreFrontsIndexed, AreLikely, IsFrontIndex};
 ghost use Rattle.ux_automaton.specs.Fronts.{HasStand, IsFrontIn, Store};
 ghost use Rattle.ux_automaton.specs.Kept.{IsSound, store_of};
 
 use crate::front_index::FrontIndex;
 use crate::fronts::Fronts;
-use crate::given::Given;
 use indexmap::IndexMap;
 use std::alloc::Global;
 use std::hash::Hash;
 use ux_base::Mem;
 use ux_closure::stand::Stand;
+use ux_mask_table::MaskedText;
 use ux_net::Net;
 use ux_walk::words::Words;
 
@@ -51,7 +51,7 @@ pub struct FrontIndexes<'t> {
 impl<'t> FrontIndexes<'t> {
     /// No index yet. Takes no memory.
     pub fn new(alloc: Global) -> FrontIndexes<'t>
-        ensures { (given : TheGiven) (store : Store) → AreFrontsIndexed given store result }
+        ensures { (masked : TheMaskedText) (store : Store) → AreFrontsIndexed masked store result }
     {
         FrontIndexes {
             words: None,
@@ -63,8 +63,8 @@ impl<'t> FrontIndexes<'t> {
 
     /// Lets all indexes go, so that there may be other fronts.
     pub fn let_go(&mut self, alloc: Global)
-        ensures { (given : TheGiven) (old new : Store) → AreFrontsIndexed given old self.old →
-            AreFrontsIndexed given new self.new }
+        ensures { (masked : TheMaskedText) (old new : Store) →
+            AreFrontsIndexed masked old self.old → AreFrontsIndexed masked new self.new }
     {
         self.indexes = IndexMap::new(alloc);
         self.compared = MOST_COMPARED;
@@ -73,10 +73,10 @@ impl<'t> FrontIndexes<'t> {
 
     /// Whether it is known that no stand of the front leads on over the token of this number.
     pub fn has_none(&self, front: usize, number: u32) -> bool
-        ensures { (given : TheGiven) (store : Store) (text : List ℕ) →
-            AreFrontsIndexed given store self.now →
-            slice_get (different_texts given.text.now) number ≡ Some text →
-            IsTrue result → AreLikely given text (HasStand store front) [] }
+        ensures { (masked : TheMaskedText) (store : Store) (text : List ℕ) →
+            AreFrontsIndexed masked store self.now →
+            slice_get (different_texts masked.text.now) number ≡ Some text →
+            IsTrue result → AreLikely masked text (HasStand store front) [] }
     {
         match at(&self.indexes, front) {
             Some(index) => index.has_none(number),
@@ -89,25 +89,25 @@ impl<'t> FrontIndexes<'t> {
     pub fn likely(
         &mut self,
         alloc: Global,
-        given: &Given<'t>,
+        masked: &MaskedText<'t>,
         fronts: &Fronts,
         front: usize,
         number: u32,
     ) -> Mem<Vec<Stand>>
-        requires indexed { AreFrontsIndexed given.now (store_of fronts.now) self.now }
+        requires indexed { AreFrontsIndexed masked.now (store_of fronts.now) self.now }
         requires sound { IsSound (store_of fronts.now) }
         requires there { IsFrontIn (store_of fronts.now) front }
-        ensures indexed { AreFrontsIndexed given.now (store_of fronts.now) self.new }
+        ensures indexed { AreFrontsIndexed masked.now (store_of fronts.now) self.new }
         ensures likely { (text : List ℕ) →
-            slice_get (different_texts given.now.text.now) number ≡ Some text →
+            slice_get (different_texts masked.now.text.now) number ≡ Some text →
             IfOk result (λ few.
-            AreLikely given.now text (HasStand (store_of fronts.now) front) few.items) }
+            AreLikely masked.now text (HasStand (store_of fronts.now) front) few.items) }
     {
         if let Some(index) = at(&self.indexes, front) {
             return index.likely(alloc, number);
         }
         let stands = fronts.stands(alloc, front)?;
-        self.meet(alloc, given, fronts, front, stands.as_slice())?;
+        self.meet(alloc, masked, fronts, front, stands.as_slice())?;
         Ok(stands)
     }
 
@@ -130,33 +130,33 @@ impl<'t> FrontIndexes<'t> {
     fn meet(
         &mut self,
         alloc: Global,
-        given: &Given<'t>,
+        masked: &MaskedText<'t>,
         fronts: &Fronts,
         front: usize,
         stands: &[Stand],
     ) -> Mem<()>
-        requires indexed { AreFrontsIndexed given.now (store_of fronts.now) self.now }
+        requires indexed { AreFrontsIndexed masked.now (store_of fronts.now) self.now }
         requires there { IsFrontIn (store_of fronts.now) front }
         requires stands { (stand : TheStand) →
             Contains stands.now stand ↔ HasStand (store_of fronts.now) front stand }
-        ensures { AreFrontsIndexed given.now (store_of fronts.now) self.new }
+        ensures { AreFrontsIndexed masked.now (store_of fronts.now) self.new }
     {
-        if self.kept == 0 || !self.is_worth(given.net, stands) {
+        if self.kept == 0 || !self.is_worth(masked.net, stands) {
             return Ok(());
         }
-        self.know_words(alloc, given, fronts)?;
-        self.add_index(alloc, given, fronts, front, stands)
+        self.know_words(alloc, masked, fronts)?;
+        self.add_index(alloc, masked, fronts, front, stands)
     }
 
     /// Makes the list of the different tokens, where it is missing.
-    fn know_words(&mut self, alloc: Global, given: &Given<'t>, fronts: &Fronts) -> Mem<()>
-        requires { AreFrontsIndexed given.now (store_of fronts.now) self.now }
-        ensures { AreFrontsIndexed given.now (store_of fronts.now) self.new }
+    fn know_words(&mut self, alloc: Global, masked: &MaskedText<'t>, fronts: &Fronts) -> Mem<()>
+        requires { AreFrontsIndexed masked.now (store_of fronts.now) self.now }
+        ensures { AreFrontsIndexed masked.now (store_of fronts.now) self.new }
     {
         if self.words.is_some() {
             return Ok(());
         }
-        let words = Words::of(alloc, given.text, given.alphabet)?;
+        let words = Words::of(alloc, masked.text, masked.alphabet)?;
         self.words = Some(words);
         Ok(())
     }
@@ -165,25 +165,25 @@ impl<'t> FrontIndexes<'t> {
     fn add_index(
         &mut self,
         alloc: Global,
-        given: &Given,
+        masked: &MaskedText,
         fronts: &Fronts,
         front: usize,
         stands: &[Stand],
     ) -> Mem<()>
-        requires indexed { AreFrontsIndexed given.now (store_of fronts.now) self.now }
+        requires indexed { AreFrontsIndexed masked.now (store_of fronts.now) self.now }
         requires there { IsFrontIn (store_of fronts.now) front }
         requires stands { (stand : TheStand) →
             Contains stands.now stand ↔ HasStand (store_of fronts.now) front stand }
-        ensures { AreFrontsIndexed given.now (store_of fronts.now) self.new }
+        ensures { AreFrontsIndexed masked.now (store_of fronts.now) self.new }
     {
         let Some(words) = &self.words else {
             return Ok(());
         };
-        let cost = words.cost(edges_in(given.net, stands));
+        let cost = words.cost(edges_in(masked.net, stands));
         if self.compared < cost {
             return Ok(());
         }
-        let index = FrontIndex::of(alloc, words, given, stands)?;
+        let index = FrontIndex::of(alloc, words, masked, stands)?;
         self.compared -= cost;
         self.kept = self.kept.saturating_sub(index.size());
         put_at(&mut self.indexes, front, index)

@@ -9,12 +9,13 @@ ghost use Rattle.ux_meaning.specs.Texts.{IsSpaceAt};
 ghost use Rattle.ux_outputs.specs.Rendering.{skip as skip_of};
 ghost use Rattle.ux_closure.specs.Taking.{TellsSpace};
 ghost use Rattle.ux_walk.specs.Leads.{Stack as TheStack};
-ghost use Rattle.ux_walk.specs.Settings.{Setting};
+ghost use Rattle.ux_walk.specs.Settings.{Setting, masked_setting};
 ghost use Rattle.ux_apply.specs.Accepting.{IsAlone};
+ghost use Rattle.ux_mask_table.specs.MaskedTexts.{HasTable};
 ghost use Rattle.ux_automaton.specs.Caches.{HasValue, IsClosed, IsNumbered, IsTransition, TakeSingly};
 ghost use Rattle.ux_automaton.specs.FrontIndexes.{AreFrontsIndexed};
 ghost use Rattle.ux_automaton.specs.Fronts.{BeginsNothing, HoldsIn, IsFrontIn};
-ghost use Rattle.ux_automaton.specs.Kept.{AreIndexed, AreMarked, AreRight, BelongIn, Grows, IsFirst, IsSound, known_in, setting_in, store_of};
+ghost use Rattle.ux_automaton.specs.Kept.{AreIndexed, AreMarked, AreRight, Grows, IsFirst, IsSound, known_in, store_of};
 ghost use Rattle.ux_automaton.specs.Onwards.{IsOnward, LeadNowhere, LeadOnlyTo};
 ghost use Rattle.ux_automaton.specs.Steps.{IsStep};
 ghost use Rattle.ux_automaton.specs.Targets.{HaveNoMask, TakeNoToken};
@@ -22,15 +23,14 @@ ghost use Rattle.ux_automaton.specs.Targets.{HaveNoMask, TakeNoToken};
 use crate::closed::{Closed, Closures, close};
 use crate::front_indexes::FrontIndexes;
 use crate::fronts::Fronts;
-use crate::given::Given;
 use crate::onward::{Onward, onward_anew, over_token};
 use crate::slots::{give, value_of};
 use crate::step::Step;
 use crate::transitions::{Transition, Transitions};
 use std::alloc::Global;
-use std::sync::ledger::Ledger;
-use ux_base::{Mem, Steps};
+use ux_base::Mem;
 use ux_closure::stand::Stand;
+use ux_mask_table::MaskedText;
 use ux_tokens::Kind;
 use ux_walk::config::Frame;
 use ux_walk::look_ups::LookUps;
@@ -89,56 +89,56 @@ impl Kept {
     /// what is known of each front that is met over two tokens, and at the transitions.
     pub fn may_begin(
         &self,
-        given: &Given,
+        masked: &MaskedText,
         front_indexes: &FrontIndexes,
         marks: &[bool],
         start: usize,
     ) -> bool
-        requires right { AreRight (setting_in given.now) self.now }
-        requires belongs { BelongIn given.now }
-        requires fronts { AreFrontsIndexed given.now (store_of self.now.fronts) front_indexes.now }
-        requires marked { AreMarked (setting_in given.now) marks.now }
-        requires inside { start < length given.now.text.now }
-        ensures { result ≡ false → (IsSpaceAt given.now.text.now start → ⊥) →
-            BeginsNothing (setting_in given.now) start }
+        requires right { AreRight (masked_setting masked.now) self.now }
+        requires table { HasTable masked.now }
+        requires fronts { AreFrontsIndexed masked.now (store_of self.now.fronts) front_indexes.now }
+        requires marked { AreMarked (masked_setting masked.now) marks.now }
+        requires inside { start < length masked.now.text.now }
+        ensures { result ≡ false → (IsSpaceAt masked.now.text.now start → ⊥) →
+            BeginsNothing (masked_setting masked.now) start }
     {
-        given.text.len();
-        if self.is_barred(given, marks, start) {
+        masked.text.len();
+        if self.is_barred(masked, marks, start) {
             return false;
         }
         let Some(closed) = self.closures.get(self.first, false) else {
             return true;
         };
-        let Some(next) = self.next_known(given, front_indexes, marks, closed, start) else {
+        let Some(next) = self.next_known(masked, front_indexes, marks, closed, start) else {
             return true;
         };
-        !self.leads_nowhere(given, front_indexes, marks, next, start + 1)
+        !self.leads_nowhere(masked, front_indexes, marks, next, start + 1)
     }
 
     /// Whether it is known that nothing begins with the token at a start at which no space stands.
-    fn is_barred(&self, given: &Given, marks: &[bool], start: usize) -> bool
-        requires right { AreRight (setting_in given.now) self.now }
-        requires marked { AreMarked (setting_in given.now) marks.now }
-        requires inside { start < length given.now.text.now }
-        ensures { IsTrue result → (IsSpaceAt given.now.text.now start → ⊥) →
-            BeginsNothing (setting_in given.now) start }
+    fn is_barred(&self, masked: &MaskedText, marks: &[bool], start: usize) -> bool
+        requires right { AreRight (masked_setting masked.now) self.now }
+        requires marked { AreMarked (masked_setting masked.now) marks.now }
+        requires inside { start < length masked.now.text.now }
+        ensures { IsTrue result → (IsSpaceAt masked.now.text.now start → ⊥) →
+            BeginsNothing (masked_setting masked.now) start }
     {
         if may_span_at(marks, start) {
             return false;
         }
-        let number = given.text.number(start);
-        let kind = given.text.kind(start);
-        self.bars(given, number, kind, start)
+        let number = masked.text.number(start);
+        let kind = masked.text.kind(start);
+        self.bars(masked, number, kind, start)
     }
 
     /// Whether it is known that nothing begins with a token of this number and kind, at a start where
     /// no space stands and no span of several tokens begins.
-    fn bars(&self, given: &Given, number: u32, kind: Kind, start: usize) -> bool
-        requires right { AreRight (setting_in given.now) self.now }
-        requires numbered { IsNumbered given.now.text.now start number kind }
-        requires alone { IsAlone given.now.text.now given.now.applied.now start }
-        ensures { IsTrue result → (IsSpaceAt given.now.text.now start → ⊥) →
-            BeginsNothing (setting_in given.now) start }
+    fn bars(&self, masked: &MaskedText, number: u32, kind: Kind, start: usize) -> bool
+        requires right { AreRight (masked_setting masked.now) self.now }
+        requires numbered { IsNumbered masked.now.text.now start number kind }
+        requires alone { IsAlone masked.now.text.now masked.now.applied.now start }
+        ensures { IsTrue result → (IsSpaceAt masked.now.text.now start → ⊥) →
+            BeginsNothing (masked_setting masked.now) start }
     {
         match self.barred_kind(number) {
             Some(barred) => is_same(barred, kind),
@@ -156,88 +156,88 @@ impl Kept {
     /// Whether it is known that no walk leads anywhere from a front at a position.
     fn leads_nowhere(
         &self,
-        given: &Given,
+        masked: &MaskedText,
         front_indexes: &FrontIndexes,
         marks: &[bool],
         front: usize,
         at: usize,
     ) -> bool
-        requires right { AreRight (setting_in given.now) self.now }
-        requires belongs { BelongIn given.now }
-        requires fronts { AreFrontsIndexed given.now (store_of self.now.fronts) front_indexes.now }
-        requires marked { AreMarked (setting_in given.now) marks.now }
-        requires within { at ≤ length given.now.text.now }
-        ensures { IsTrue result → LeadNowhere (setting_in given.now)
+        requires right { AreRight (masked_setting masked.now) self.now }
+        requires table { HasTable masked.now }
+        requires fronts { AreFrontsIndexed masked.now (store_of self.now.fronts) front_indexes.now }
+        requires marked { AreMarked (masked_setting masked.now) marks.now }
+        requires within { at ≤ length masked.now.text.now }
+        ensures { IsTrue result → LeadNowhere (masked_setting masked.now)
             (HoldsIn (store_of self.now.fronts) front) at }
     {
         if front == 0 {
             return true;
         }
-        given.text.len();
-        let Some(closed) = self.closures.get(front, is_space(given.text, at)) else {
+        masked.text.len();
+        let Some(closed) = self.closures.get(front, is_space(masked.text, at)) else {
             return false;
         };
-        if !self.is_stuck(given, front_indexes, marks, closed, at) {
+        if !self.is_stuck(masked, front_indexes, marks, closed, at) {
             return false;
         }
-        self.leads_nowhere_at_once(given, front_indexes, marks, closed.over_space, at + 1)
+        self.leads_nowhere_at_once(masked, front_indexes, marks, closed.over_space, at + 1)
     }
 
     /// Whether it is known that no walk leads anywhere from a front at a position, not over a space
     /// there either.
     fn leads_nowhere_at_once(
         &self,
-        given: &Given,
+        masked: &MaskedText,
         front_indexes: &FrontIndexes,
         marks: &[bool],
         front: usize,
         at: usize,
     ) -> bool
-        requires right { AreRight (setting_in given.now) self.now }
-        requires belongs { BelongIn given.now }
-        requires fronts { AreFrontsIndexed given.now (store_of self.now.fronts) front_indexes.now }
-        requires marked { AreMarked (setting_in given.now) marks.now }
-        ensures { IsTrue result → LeadNowhere (setting_in given.now)
+        requires right { AreRight (masked_setting masked.now) self.now }
+        requires table { HasTable masked.now }
+        requires fronts { AreFrontsIndexed masked.now (store_of self.now.fronts) front_indexes.now }
+        requires marked { AreMarked (masked_setting masked.now) marks.now }
+        ensures { IsTrue result → LeadNowhere (masked_setting masked.now)
             (HoldsIn (store_of self.now.fronts) front) at }
     {
         if front == 0 {
             return true;
         }
-        let Some(closed) = self.closures.get(front, is_space(given.text, at)) else {
+        let Some(closed) = self.closures.get(front, is_space(masked.text, at)) else {
             return false;
         };
         if !is_nothing(closed.over_space) {
             return false;
         }
-        self.is_stuck(given, front_indexes, marks, closed, at)
+        self.is_stuck(masked, front_indexes, marks, closed, at)
     }
 
     /// Whether it is known of a closed front that no walk ends there at a position, and that none
     /// goes on over a token.
     fn is_stuck(
         &self,
-        given: &Given,
+        masked: &MaskedText,
         front_indexes: &FrontIndexes,
         marks: &[bool],
         closed: Closed,
         at: usize,
     ) -> bool
-        requires right { AreRight (setting_in given.now) self.now }
-        requires belongs { BelongIn given.now }
-        requires fronts { AreFrontsIndexed given.now (store_of self.now.fronts) front_indexes.now }
-        requires marked { AreMarked (setting_in given.now) marks.now }
+        requires right { AreRight (masked_setting masked.now) self.now }
+        requires table { HasTable masked.now }
+        requires fronts { AreFrontsIndexed masked.now (store_of self.now.fronts) front_indexes.now }
+        requires marked { AreMarked (masked_setting masked.now) marks.now }
         requires masks { closed.has_masks ≡ false →
-            HaveNoMask given.now.net.now (HoldsIn (store_of self.now.fronts) closed.front) }
+            HaveNoMask masked.now.net.now (HoldsIn (store_of self.now.fronts) closed.front) }
         requires tokens { closed.takes_tokens ≡ false →
-            TakeNoToken given.now.net.now (HoldsIn (store_of self.now.fronts) closed.front) }
+            TakeNoToken masked.now.net.now (HoldsIn (store_of self.now.fronts) closed.front) }
         ensures ends { IsTrue result → closed.ends ≡ false }
-        ensures only { IsTrue result → LeadOnlyTo (setting_in given.now) (store_of self.now.fronts)
+        ensures only { IsTrue result → LeadOnlyTo (masked_setting masked.now) (store_of self.now.fronts)
             (HoldsIn (store_of self.now.fronts) closed.front) at 0 }
     {
         if closed.ends {
             return false;
         }
-        match self.next_known(given, front_indexes, marks, closed, at) {
+        match self.next_known(masked, front_indexes, marks, closed, at) {
             Some(next) => next == 0,
             None => false,
         }
@@ -247,56 +247,57 @@ impl Kept {
     /// and no mask accepts a span of several there. At the end of the text it is front 0.
     fn next_known(
         &self,
-        given: &Given,
+        masked: &MaskedText,
         front_indexes: &FrontIndexes,
         marks: &[bool],
         closed: Closed,
         at: usize,
     ) -> Option<usize>
-        requires right { AreRight (setting_in given.now) self.now }
-        requires belongs { BelongIn given.now }
-        requires fronts { AreFrontsIndexed given.now (store_of self.now.fronts) front_indexes.now }
-        requires marked { AreMarked (setting_in given.now) marks.now }
+        requires right { AreRight (masked_setting masked.now) self.now }
+        requires table { HasTable masked.now }
+        requires fronts { AreFrontsIndexed masked.now (store_of self.now.fronts) front_indexes.now }
+        requires marked { AreMarked (masked_setting masked.now) marks.now }
         requires masks { closed.has_masks ≡ false →
-            HaveNoMask given.now.net.now (HoldsIn (store_of self.now.fronts) closed.front) }
+            HaveNoMask masked.now.net.now (HoldsIn (store_of self.now.fronts) closed.front) }
         requires tokens { closed.takes_tokens ≡ false →
-            TakeNoToken given.now.net.now (HoldsIn (store_of self.now.fronts) closed.front) }
-        ensures { IfSome result (LeadOnlyTo (setting_in given.now) (store_of self.now.fronts)
+            TakeNoToken masked.now.net.now (HoldsIn (store_of self.now.fronts) closed.front) }
+        ensures { IfSome result (LeadOnlyTo (masked_setting masked.now) (store_of self.now.fronts)
             (HoldsIn (store_of self.now.fronts) closed.front) at) }
     {
         if !closed.takes_tokens {
             return Some(0);
         }
-        let place = skip(given.text, at);
-        if given.text.len() <= place {
+        let place = skip(masked.text, at);
+        if masked.text.len() <= place {
             return Some(0);
         }
         if may_land(closed, marks, place) {
             return None;
         }
-        let number = given.text.number(place);
-        let kind = given.text.kind(place);
-        self.next_singly(given, front_indexes, closed.front, number, kind, at)
+        let number = masked.text.number(place);
+        let kind = masked.text.kind(place);
+        self.next_singly(masked, front_indexes, closed.front, number, kind, at)
     }
 
     /// The front behind a token of this number and kind, where it is known, and no mask there
     /// accepts a span of several.
     fn next_singly(
         &self,
-        given: &Given,
+        masked: &MaskedText,
         front_indexes: &FrontIndexes,
         front: usize,
         number: u32,
         kind: Kind,
         at: usize,
     ) -> Option<usize>
-        requires right { AreRight (setting_in given.now) self.now }
-        requires belongs { BelongIn given.now }
-        requires fronts { AreFrontsIndexed given.now (store_of self.now.fronts) front_indexes.now }
-        requires numbered { IsNumbered given.now.text.now (skip_of given.now.text.now at) number kind }
-        requires singly { TakeSingly (setting_in given.now) (HoldsIn (store_of self.now.fronts) front)
-            (skip_of given.now.text.now at) }
-        ensures { IfSome result (LeadOnlyTo (setting_in given.now) (store_of self.now.fronts)
+        requires right { AreRight (masked_setting masked.now) self.now }
+        requires table { HasTable masked.now }
+        requires fronts { AreFrontsIndexed masked.now (store_of self.now.fronts) front_indexes.now }
+        requires numbered { IsNumbered masked.now.text.now (skip_of masked.now.text.now at)
+            number kind }
+        requires singly { TakeSingly (masked_setting masked.now)
+            (HoldsIn (store_of self.now.fronts) front) (skip_of masked.now.text.now at) }
+        ensures { IfSome result (LeadOnlyTo (masked_setting masked.now) (store_of self.now.fronts)
             (HoldsIn (store_of self.now.fronts) front) at) }
     {
         if let Some(next) = self.transitions.next(front, number, kind) {
@@ -310,23 +311,23 @@ impl Kept {
     }
 
     /// Notes, where walks begin, that nothing begins with the token at a start, if that is known.
-    fn note(&mut self, given: &Given, front: usize, start: usize) -> Mem<()>
-        requires right { AreRight (setting_in given.now) self.now }
-        requires belongs { BelongIn given.now }
-        ensures right { OnOk result (AreRight (setting_in given.now) self.new) }
+    fn note(&mut self, masked: &MaskedText, front: usize, start: usize) -> Mem<()>
+        requires right { AreRight (masked_setting masked.now) self.now }
+        requires table { HasTable masked.now }
+        ensures right { OnOk result (AreRight (masked_setting masked.now) self.new) }
         ensures same { OnOk result (self.new.fronts ≡ self.old.fronts) }
     {
         if front != self.first {
             return Ok(());
         }
-        if given.text.len() <= start {
+        if masked.text.len() <= start {
             return Ok(());
         }
         let Some(closed) = self.closures.get(self.first, false) else {
             return Ok(());
         };
-        let number = given.text.number(start);
-        let kind = given.text.kind(start);
+        let number = masked.text.number(start);
+        let kind = masked.text.kind(start);
         let Some(next) = self.transitions.next(closed.front, number, kind) else {
             return Ok(());
         };
@@ -354,85 +355,65 @@ impl Kept {
     }
 
     /// How walks from the front go on at the position.
-    pub fn step<'t, L: Ledger>(
+    pub fn step<'t>(
         &mut self,
         alloc: Global,
-        given: &Given<'t>,
+        masked: &MaskedText<'t>,
         look_ups: &mut LookUps<'t>,
         front_indexes: &mut FrontIndexes<'t>,
         marks: &[bool],
         front: usize,
         at: usize,
-        steps: &mut Steps<L>,
     ) -> Mem<Step>
-        requires right { AreRight (setting_in given.now) self.now }
-        requires belongs { BelongIn given.now }
-        requires indexed { AreIndexed given.now look_ups.now }
-        requires fronts { AreFrontsIndexed given.now (store_of self.now.fronts) front_indexes.now }
-        requires marked { AreMarked (setting_in given.now) marks.now }
+        requires right { AreRight (masked_setting masked.now) self.now }
+        requires table { HasTable masked.now }
+        requires indexed { AreIndexed masked.now look_ups.now }
+        requires fronts { AreFrontsIndexed masked.now (store_of self.now.fronts) front_indexes.now }
+        requires marked { AreMarked (masked_setting masked.now) marks.now }
         requires there { IsFrontIn (store_of self.now.fronts) front }
-        requires inside { at ≤ length given.now.text.now }
-        ensures indexed { OnOk result (AreIndexed given.now look_ups.new) }
+        requires inside { at ≤ length masked.now.text.now }
+        ensures indexed { OnOk result (AreIndexed masked.now look_ups.new) }
         ensures fronts { OnOk result
-            (AreFrontsIndexed given.now (store_of self.new.fronts) front_indexes.new) }
-        ensures right { OnOk result (AreRight (setting_in given.now) self.new) }
+            (AreFrontsIndexed masked.now (store_of self.new.fronts) front_indexes.new) }
+        ensures right { OnOk result (AreRight (masked_setting masked.now) self.new) }
         ensures grows { OnOk result (Grows (store_of self.old.fronts) (store_of self.new.fronts)) }
-        ensures step { IfOk result (IsStep (known_in given.now self.old) (known_in given.now self.new)
-            front at) }
+        ensures step { IfOk result (IsStep (known_in masked.now self.old)
+            (known_in masked.now self.new) front at) }
     {
-        let step = self.go_on(
-            alloc,
-            given,
-            look_ups,
-            front_indexes,
-            marks,
-            front,
-            at,
-            steps,
-        )?;
-        self.note(given, front, at)?;
+        let step = self.go_on(alloc, masked, look_ups, front_indexes, marks, front, at)?;
+        self.note(masked, front, at)?;
         Ok(step)
     }
 
     /// The same, with nothing noted of the token with which a walk begins.
-    fn go_on<'t, L: Ledger>(
+    fn go_on<'t>(
         &mut self,
         alloc: Global,
-        given: &Given<'t>,
+        masked: &MaskedText<'t>,
         look_ups: &mut LookUps<'t>,
         front_indexes: &mut FrontIndexes<'t>,
         marks: &[bool],
         front: usize,
         at: usize,
-        steps: &mut Steps<L>,
     ) -> Mem<Step>
-        requires right { AreRight (setting_in given.now) self.now }
-        requires belongs { BelongIn given.now }
-        requires indexed { AreIndexed given.now look_ups.now }
-        requires fronts { AreFrontsIndexed given.now (store_of self.now.fronts) front_indexes.now }
-        requires marked { AreMarked (setting_in given.now) marks.now }
+        requires right { AreRight (masked_setting masked.now) self.now }
+        requires table { HasTable masked.now }
+        requires indexed { AreIndexed masked.now look_ups.now }
+        requires fronts { AreFrontsIndexed masked.now (store_of self.now.fronts) front_indexes.now }
+        requires marked { AreMarked (masked_setting masked.now) marks.now }
         requires there { IsFrontIn (store_of self.now.fronts) front }
-        requires inside { at ≤ length given.now.text.now }
-        ensures indexed { OnOk result (AreIndexed given.now look_ups.new) }
+        requires inside { at ≤ length masked.now.text.now }
+        ensures indexed { OnOk result (AreIndexed masked.now look_ups.new) }
         ensures fronts { OnOk result
-            (AreFrontsIndexed given.now (store_of self.new.fronts) front_indexes.new) }
-        ensures right { OnOk result (AreRight (setting_in given.now) self.new) }
+            (AreFrontsIndexed masked.now (store_of self.new.fronts) front_indexes.new) }
+        ensures right { OnOk result (AreRight (masked_setting masked.now) self.new) }
         ensures grows { OnOk result (Grows (store_of self.old.fronts) (store_of self.new.fronts)) }
-        ensures step { IfOk result (IsStep (known_in given.now self.old) (known_in given.now self.new)
-            front at) }
+        ensures step { IfOk result (IsStep (known_in masked.now self.old)
+            (known_in masked.now self.new) front at) }
     {
-        let is_spaced = is_space(given.text, at);
-        let closed = self.closed(alloc, given, look_ups, front, is_spaced, at, steps)?;
-        let onward = self.onward(
-            alloc,
-            given,
-            look_ups,
-            front_indexes,
-            marks,
-            closed,
-            at,
-            steps,
-        )?;
+        let is_spaced = is_space(masked.text, at);
+        let closed = self.closed(alloc, masked, look_ups, front, is_spaced, at)?;
+        let onward = self.onward(alloc, masked, look_ups, front_indexes, marks, closed, at)?;
         Ok(Step {
             ends: closed.ends,
             over_space: closed.over_space,
@@ -442,26 +423,25 @@ impl Kept {
     }
 
     /// What is known of a front, where a space stands at a position, or where none does.
-    fn closed<'t, L: Ledger>(
+    fn closed<'t>(
         &mut self,
         alloc: Global,
-        given: &Given<'t>,
+        masked: &MaskedText<'t>,
         look_ups: &mut LookUps<'t>,
         front: usize,
         is_spaced: bool,
         at: usize,
-        steps: &mut Steps<L>,
     ) -> Mem<Closed>
-        requires right { AreRight (setting_in given.now) self.now }
-        requires belongs { BelongIn given.now }
-        requires indexed { AreIndexed given.now look_ups.now }
+        requires right { AreRight (masked_setting masked.now) self.now }
+        requires table { HasTable masked.now }
+        requires indexed { AreIndexed masked.now look_ups.now }
         requires there { IsFrontIn (store_of self.now.fronts) front }
-        requires tells { TellsSpace (setting_in given.now) at is_spaced }
-        ensures indexed { OnOk result (AreIndexed given.now look_ups.new) }
-        ensures right { OnOk result (AreRight (setting_in given.now) self.new) }
+        requires tells { TellsSpace (masked_setting masked.now) at is_spaced }
+        ensures indexed { OnOk result (AreIndexed masked.now look_ups.new) }
+        ensures right { OnOk result (AreRight (masked_setting masked.now) self.new) }
         ensures grows { OnOk result (Grows (store_of self.old.fronts) (store_of self.new.fronts)) }
         ensures closed { IfOk result
-            (IsClosed (setting_in given.now) (store_of self.new.fronts) front is_spaced) }
+            (IsClosed (masked_setting masked.now) (store_of self.new.fronts) front is_spaced) }
     {
         if let Some(closed) = self.closures.get(front, is_spaced) {
             return Ok(closed);
@@ -469,45 +449,43 @@ impl Kept {
         let closed = close(
             alloc,
             &mut self.fronts,
-            given,
+            masked,
             look_ups,
             front,
             is_spaced,
             at,
-            steps,
         )?;
         self.closures.put(front, is_spaced, closed)?;
         Ok(closed)
     }
 
     /// Where walks go on from a closed front behind tokens.
-    fn onward<'t, L: Ledger>(
+    fn onward<'t>(
         &mut self,
         alloc: Global,
-        given: &Given<'t>,
+        masked: &MaskedText<'t>,
         look_ups: &mut LookUps<'t>,
         front_indexes: &mut FrontIndexes<'t>,
         marks: &[bool],
         closed: Closed,
         at: usize,
-        steps: &mut Steps<L>,
     ) -> Mem<Onward>
-        requires right { AreRight (setting_in given.now) self.now }
-        requires belongs { BelongIn given.now }
-        requires indexed { AreIndexed given.now look_ups.now }
-        requires fronts { AreFrontsIndexed given.now (store_of self.now.fronts) front_indexes.now }
-        requires marked { AreMarked (setting_in given.now) marks.now }
+        requires right { AreRight (masked_setting masked.now) self.now }
+        requires table { HasTable masked.now }
+        requires indexed { AreIndexed masked.now look_ups.now }
+        requires fronts { AreFrontsIndexed masked.now (store_of self.now.fronts) front_indexes.now }
+        requires marked { AreMarked (masked_setting masked.now) marks.now }
         requires there { IsFrontIn (store_of self.now.fronts) closed.front }
         requires masks { closed.has_masks ≡ false →
-            HaveNoMask given.now.net.now (HoldsIn (store_of self.now.fronts) closed.front) }
+            HaveNoMask masked.now.net.now (HoldsIn (store_of self.now.fronts) closed.front) }
         requires tokens { closed.takes_tokens ≡ false →
-            TakeNoToken given.now.net.now (HoldsIn (store_of self.now.fronts) closed.front) }
-        ensures indexed { OnOk result (AreIndexed given.now look_ups.new) }
+            TakeNoToken masked.now.net.now (HoldsIn (store_of self.now.fronts) closed.front) }
+        ensures indexed { OnOk result (AreIndexed masked.now look_ups.new) }
         ensures fronts { OnOk result
-            (AreFrontsIndexed given.now (store_of self.new.fronts) front_indexes.new) }
-        ensures right { OnOk result (AreRight (setting_in given.now) self.new) }
+            (AreFrontsIndexed masked.now (store_of self.new.fronts) front_indexes.new) }
+        ensures right { OnOk result (AreRight (masked_setting masked.now) self.new) }
         ensures grows { OnOk result (Grows (store_of self.old.fronts) (store_of self.new.fronts)) }
-        ensures onward { IfOk result (IsOnward (setting_in given.now) (store_of self.new.fronts)
+        ensures onward { IfOk result (IsOnward (masked_setting masked.now) (store_of self.new.fronts)
             (HoldsIn (store_of self.old.fronts) closed.front) at) }
     {
         if !closed.takes_tokens {
@@ -516,79 +494,69 @@ impl Kept {
                 landings: Vec::new(alloc),
             });
         }
-        let place = skip(given.text, at);
-        if given.text.len() <= place {
+        let place = skip(masked.text, at);
+        if masked.text.len() <= place {
             return Ok(Onward {
                 over_token: 0,
                 landings: Vec::new(alloc),
             });
         }
         if may_land(closed, marks, place) {
-            return onward_anew(
-                alloc,
-                &mut self.fronts,
-                given,
-                look_ups,
-                closed.front,
-                at,
-                steps,
-            );
+            return onward_anew(alloc, &mut self.fronts, masked, look_ups, closed.front, at);
         }
-        let number = given.text.number(place);
-        let kind = given.text.kind(place);
+        let number = masked.text.number(place);
+        let kind = masked.text.kind(place);
         self.onward_singly(
             alloc,
-            given,
+            masked,
             look_ups,
             front_indexes,
             closed.front,
             number,
             kind,
             at,
-            steps,
         )
     }
 
     /// Where walks go on from a closed front behind a token of this number and kind, where no mask
     /// there accepts a span of several.
-    fn onward_singly<'t, L: Ledger>(
+    fn onward_singly<'t>(
         &mut self,
         alloc: Global,
-        given: &Given<'t>,
+        masked: &MaskedText<'t>,
         look_ups: &mut LookUps<'t>,
         front_indexes: &mut FrontIndexes<'t>,
         front: usize,
         number: u32,
         kind: Kind,
         at: usize,
-        steps: &mut Steps<L>,
     ) -> Mem<Onward>
-        requires right { AreRight (setting_in given.now) self.now }
-        requires belongs { BelongIn given.now }
-        requires indexed { AreIndexed given.now look_ups.now }
-        requires fronts { AreFrontsIndexed given.now (store_of self.now.fronts) front_indexes.now }
+        requires right { AreRight (masked_setting masked.now) self.now }
+        requires table { HasTable masked.now }
+        requires indexed { AreIndexed masked.now look_ups.now }
+        requires fronts { AreFrontsIndexed masked.now (store_of self.now.fronts) front_indexes.now }
         requires there { IsFrontIn (store_of self.now.fronts) front }
-        requires numbered { IsNumbered given.now.text.now (skip_of given.now.text.now at) number kind }
-        requires singly { TakeSingly (setting_in given.now) (HoldsIn (store_of self.now.fronts) front)
-            (skip_of given.now.text.now at) }
-        ensures indexed { OnOk result (AreIndexed given.now look_ups.new) }
+        requires numbered { IsNumbered masked.now.text.now (skip_of masked.now.text.now at)
+            number kind }
+        requires singly { TakeSingly (masked_setting masked.now)
+            (HoldsIn (store_of self.now.fronts) front) (skip_of masked.now.text.now at) }
+        ensures indexed { OnOk result (AreIndexed masked.now look_ups.new) }
         ensures fronts { OnOk result
-            (AreFrontsIndexed given.now (store_of self.new.fronts) front_indexes.new) }
-        ensures right { OnOk result (AreRight (setting_in given.now) self.new) }
+            (AreFrontsIndexed masked.now (store_of self.new.fronts) front_indexes.new) }
+        ensures right { OnOk result (AreRight (masked_setting masked.now) self.new) }
         ensures grows { OnOk result (Grows (store_of self.old.fronts) (store_of self.new.fronts)) }
-        ensures onward { IfOk result (IsOnward (setting_in given.now) (store_of self.new.fronts)
+        ensures onward { IfOk result (IsOnward (masked_setting masked.now) (store_of self.new.fronts)
             (HoldsIn (store_of self.old.fronts) front) at) }
     {
         let over_token = self.transition(
             alloc,
-            given,
+            masked,
             look_ups,
             front_indexes,
             front,
             number,
             kind,
             at,
-            steps,
         )?;
         Ok(Onward {
             over_token,
@@ -597,32 +565,32 @@ impl Kept {
     }
 
     /// The front to which a token of this number and kind leads from a closed front.
-    fn transition<'t, L: Ledger>(
+    fn transition<'t>(
         &mut self,
         alloc: Global,
-        given: &Given<'t>,
+        masked: &MaskedText<'t>,
         look_ups: &mut LookUps<'t>,
         front_indexes: &mut FrontIndexes<'t>,
         front: usize,
         number: u32,
         kind: Kind,
         at: usize,
-        steps: &mut Steps<L>,
     ) -> Mem<usize>
-        requires right { AreRight (setting_in given.now) self.now }
-        requires belongs { BelongIn given.now }
-        requires indexed { AreIndexed given.now look_ups.now }
-        requires fronts { AreFrontsIndexed given.now (store_of self.now.fronts) front_indexes.now }
+        requires right { AreRight (masked_setting masked.now) self.now }
+        requires table { HasTable masked.now }
+        requires indexed { AreIndexed masked.now look_ups.now }
+        requires fronts { AreFrontsIndexed masked.now (store_of self.now.fronts) front_indexes.now }
         requires there { IsFrontIn (store_of self.now.fronts) front }
-        requires numbered { IsNumbered given.now.text.now (skip_of given.now.text.now at) number kind }
-        requires singly { TakeSingly (setting_in given.now) (HoldsIn (store_of self.now.fronts) front)
-            (skip_of given.now.text.now at) }
-        ensures indexed { OnOk result (AreIndexed given.now look_ups.new) }
+        requires numbered { IsNumbered masked.now.text.now (skip_of masked.now.text.now at)
+            number kind }
+        requires singly { TakeSingly (masked_setting masked.now)
+            (HoldsIn (store_of self.now.fronts) front) (skip_of masked.now.text.now at) }
+        ensures indexed { OnOk result (AreIndexed masked.now look_ups.new) }
         ensures fronts { OnOk result
-            (AreFrontsIndexed given.now (store_of self.new.fronts) front_indexes.new) }
-        ensures right { OnOk result (AreRight (setting_in given.now) self.new) }
+            (AreFrontsIndexed masked.now (store_of self.new.fronts) front_indexes.new) }
+        ensures right { OnOk result (AreRight (masked_setting masked.now) self.new) }
         ensures grows { OnOk result (Grows (store_of self.old.fronts) (store_of self.new.fronts)) }
-        ensures transition { IfOk result (λ next. IsTransition (setting_in given.now)
+        ensures transition { IfOk result (λ next. IsTransition (masked_setting masked.now)
             (store_of self.new.fronts)
             (record { front = front; number = number; kind = kind; next = next })) }
     {
@@ -632,12 +600,11 @@ impl Kept {
         let next = over_token(
             alloc,
             &mut self.fronts,
-            given,
+            masked,
             look_ups,
             front_indexes,
             front,
             at,
-            steps,
         )?;
         self.transitions.put(Transition {
             front,

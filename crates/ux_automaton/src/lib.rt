@@ -13,15 +13,16 @@
 //! ```
 //!
 //! A transition is kept by the closed front and the token's number and kind. What masks accept is
-//! told by the number too, but where a span of several tokens may begin: there it is worked out
-//! anew. A state of many edges gets an index by its literals when it is first met, so that few of
-//! them are tried at a token. So does a front of many stands, as `front_index` says. Begin with
-//! `automaton`; `kept` says what is kept, and `targets` where edges lead.
+//! read from the text's table. It is told by the number too, but where a span of several tokens may
+//! begin: there it is worked out anew. A state of many edges gets an index by its literals when it is
+//! first met, so that few of them are tried at a token. So does a front of many stands, as
+//! `front_index` says. Begin with `automaton`; `kept` says what is kept, and `targets` where edges
+//! lead.
 //!
 //! ```text
-//! let mut automaton = Automaton::of(alloc, &net, &text, &alphabet, &applied)?;
+//! let mut automaton = Automaton::of(alloc, &masked)?;
 //! let front = automaton.begin(alloc)?;
-//! let step = automaton.step(alloc, front, start, steps)?;
+//! let step = automaton.step(alloc, front, start)?;
 //! // Walks go on at start + 1 from step.over_space, and behind the token from step.over_token.
 //! ```
 #![tactic(auto)]
@@ -32,7 +33,6 @@ mod edges;
 mod front_index;
 mod front_indexes;
 mod fronts;
-mod given;
 mod kept;
 mod marks;
 mod onward;

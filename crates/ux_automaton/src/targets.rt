@@ -5,68 +5,67 @@ ghost use Rattle.ux_closure.specs.declared.stand.Stand.{Stand as TheStand};
 ghost use Rattle.ux_masks.specs.declared.mask.Mask as masks;
 ghost use Rattle.ux_net.specs.declared.label.Label.TheVariants as label;
 ghost use Rattle.ux_net.specs.declared.state.Edge.{Edge as TheEdge};
+ghost use Rattle.ux_mask_table.specs.MaskedTexts.{HasTable};
 ghost use Rattle.ux_automaton.specs.declared.target.Target.{Target as TheTarget};
 ghost use Rattle.ux_automaton.specs.Fronts.{HasStand, IsFrontIn};
-ghost use Rattle.ux_automaton.specs.Kept.{AreIndexed, BelongIn, Grows, IsSound, IsStand, setting_in, store_of};
+ghost use Rattle.ux_automaton.specs.Kept.{AreIndexed, Grows, IsSound, IsStand, store_of};
+ghost use Rattle.ux_walk.specs.Settings.{masked_setting};
 ghost use Rattle.ux_automaton.specs.Landings.{AreLandings};
 ghost use Rattle.ux_automaton.specs.Targets.{IsEdgeOf, IsTarget, IsTargetOver};
 
 use crate::edges::add_state;
 use crate::fronts::Fronts;
-use crate::given::Given;
 use crate::step::Landing;
 use crate::target::Target;
 use indexmap::IndexSet;
 use std::alloc::Global;
-use std::sync::ledger::Ledger;
-use ux_base::{Mem, Steps};
+use ux_base::Mem;
 use ux_closure::stand::Stand;
+use ux_mask_table::MaskedText;
 use ux_net::{Edge, Label, Net};
 use ux_walk::look_ups::LookUps;
 use ux_walk::sets::put;
 
 /// Where the edges of the stands lead that take tokens from a position on.
-pub fn targets_of<'t, L: Ledger>(
+pub fn targets_of<'t>(
     alloc: Global,
-    given: &Given<'t>,
+    masked: &MaskedText<'t>,
     look_ups: &mut LookUps<'t>,
     stands: &[Stand],
     at: usize,
-    steps: &mut Steps<L>,
 ) -> Mem<Vec<Target>>
-    requires belongs { BelongIn given.now }
-    requires indexed { AreIndexed given.now look_ups.now }
-    ensures indexed { OnOk result (AreIndexed given.now look_ups.new) }
+    requires table { HasTable masked.now }
+    requires indexed { AreIndexed masked.now look_ups.now }
+    ensures indexed { OnOk result (AreIndexed masked.now look_ups.new) }
     ensures targets { IfOk result (λ targets. (target : TheTarget) → Contains targets.items target
-        ↔ IsTarget (setting_in given.now) at (Contains stands.now) target) }
+        ↔ IsTarget (masked_setting masked.now) at (Contains stands.now) target) }
 {
     let mut targets = Vec::new(alloc);
     for stand in stands {
-        add_stand(alloc, given, look_ups, *stand, at, steps, &mut targets)?;
+        add_stand(alloc, masked, look_ups, *stand, at, &mut targets)?;
     }
     Ok(targets)
 }
 
 /// Adds the targets of a stand.
-fn add_stand<'t, L: Ledger>(
+fn add_stand<'t>(
     alloc: Global,
-    given: &Given<'t>,
+    masked: &MaskedText<'t>,
     look_ups: &mut LookUps<'t>,
     stand: Stand,
     at: usize,
-    steps: &mut Steps<L>,
     targets: &mut Vec<Target>,
 ) -> Mem<()>
-    requires belongs { BelongIn given.now }
-    requires indexed { AreIndexed given.now look_ups.now }
-    ensures indexed { OnOk result (AreIndexed given.now look_ups.new) }
+    requires table { HasTable masked.now }
+    requires indexed { AreIndexed masked.now look_ups.now }
+    ensures indexed { OnOk result (AreIndexed masked.now look_ups.new) }
     ensures targets { OnOk result ((target : TheTarget) → Contains targets.new.items target
         ↔ (Contains targets.old.items target
-        ⊎ ((edge : TheEdge) × IsEdgeOf given.now.net.now stand.here edge
-        × IsTargetOver (setting_in given.now) at stand edge target))) }
+        ⊎ ((edge : TheEdge) × IsEdgeOf masked.now.net.now stand.here edge
+        × IsTargetOver (masked_setting masked.now) at stand edge target))) }
 {
-    match given.net.state(stand.here.graph, stand.here.state) {
-        Some(state) => add_state(alloc, given, look_ups, stand, state, at, steps, targets),
+    match masked.net.state(stand.here.graph, stand.here.state) {
+        Some(state) => add_state(alloc, masked, look_ups, stand, state, at, targets),
         None => Ok(()),
     }
 }

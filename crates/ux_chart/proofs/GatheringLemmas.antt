@@ -1,7 +1,8 @@
 -- Numbers that are gathered from what was seen.
-use Rattle.std.proofs.Common.{◌≡◌, ℕ, ◌≤◌, List, [], ◌∷◌, ◌⊎◌, ◌↔◌, inl, inr, refl, sym, ap, subst, ◌∙◌, length, take}
+use Rattle.std.proofs.Common.{◌≡◌, ℕ, ◌≤◌, List, [], ◌∷◌, ◌++◌, ◌⊎◌, ◌↔◌, inl, inr, refl, sym, ap, subst, ◌∙◌, length, take}
 use Rattle.std.specs.Prelude.{Contains, Some, slice_get}
 use Rattle.std.proofs.lemmas.Option.{same_Some}
+use Rattle.std.proofs.lemmas.List.Elements.{Contains-append_left, Contains-push, Contains-push_cases}
 use Rattle.std.specs.List.Sorted.{IsStrictlyIncreasing}
 use Rattle.ux_net.specs.declared.label.Label.TheVariants.{ContextEnd}
 use Rattle.ux_net.specs.declared.label.Label.{Label}
@@ -21,30 +22,33 @@ use Rattle.ux_chart.specs.Search.{IsReached, EndsAt, ClosesInto}
 use Rattle.ux_chart.proofs.Collecting.{IsCollected, collected_whole, collected_all}
 use Rattle.ux_chart.proofs.Entering.{step_of, is_step}
 
--- all of a list was looked at
-pub gathered : {S E : Type 0} (P : S → E → Type 0) (old now : List E) (all : List S) (i : ℕ) →
-    old ≡ [] → length all ≤ i →
-    IsCollected (λ j. (w : S) × Contains all w × P w j) P old now (take i all) →
-    (j : E) → Contains now j ↔ ((w : S) × Contains all w × P w j)
-gathered {S} {E} P old now all i none past c j =
-    let whole = collected_all (λ j. (w : S) × Contains all w × P w j) P old now now all
-    (λ (e : E). ⊥) (collected_whole _ _ old now all all i past refl c)
-    (λ e t. inr t) (λ e h. absurd h)
-    (λ e. (λ h. inl h, λ h. elim h [ inl x ↦ x | inr x ↦ absurd x ])) j in (
-      λ h. elim (whole.0 h) [
-        | inl n ↦ absurd (nothing_in (subst (λ (l : List E). Contains l j) none n))
-        | inr t ↦ t
-      ],
-      λ t. whole.1 (inr t),
-    )
-
-pub one_more : (P : ℕ → Type 0) (old new : List ℕ) (number : ℕ) →
-    ((e : ℕ) → Contains new e ↔ (Contains old e ⊎ (e ≡ number))) → P number →
-    ((e : ℕ) → P e → e ≡ number) → (e : ℕ) → Contains new e ↔ (Contains old e ⊎ P e)
-one_more P old new number told here only e = (
-  λ h. elim ((told e).0 h) [ inl o ↦ inl o | inr m ↦ inr (subst P (sym m) here) ],
-  λ h. elim h [ inl o ↦ (told e).1 (inl o) | inr p ↦ (told e).1 (inr (only e p)) ],
+-- what was gathered in an empty list, and ordered
+pub gathered : {E : Type 0} (P : E → Type 0) (old now ordered : List E) → old ≡ [] →
+    ((e : E) → Contains now e ↔ (Contains old e ⊎ P e)) →
+    ((e : E) → Contains ordered e ↔ Contains now e) → (e : E) → Contains ordered e ↔ P e
+gathered {E} P old now ordered none all same e = (
+  λ h. elim ((all e).0 ((same e).0 h)) [
+    | inl n ↦ absurd (nothing_in (subst (λ (l : List E). Contains l e) none n))
+    | inr p ↦ p
+  ],
+  λ p. (same e).1 ((all e).1 (inr p)),
 )
+
+-- a number is added behind the others
+pub one_more : (P : ℕ → Type 0) (old new : List ℕ) (number : ℕ) → new ≡ old ++ number ∷ [] →
+    P number → ((e : ℕ) → P e → e ≡ number) → (e : ℕ) → Contains new e ↔ (Contains old e ⊎ P e)
+one_more P old new number is here only e =
+    subst (λ (l : List ℕ). Contains l e ↔ (Contains old e ⊎ P e)) (sym is) (
+      λ h. elim (Contains-push_cases old number e h) [
+        | inl o ↦ inl o
+        | inr m ↦ inr (subst P m here)
+      ],
+      λ h. elim h [
+        | inl o ↦ Contains-append_left old (number ∷ []) e o
+        | inr p ↦ subst (λ q. Contains (old ++ number ∷ []) q) (sym (only e p))
+            (Contains-push old number)
+      ],
+    )
 
 -- all edges of the state were looked at
 pub closed_all : (net : List NetGraph) (g : ℕ) (v : Config) (state : State) →
@@ -117,12 +121,10 @@ module _ (input : Input) (net : List NetGraph) (parts : Parts) (g first at : ℕ
   )
 
   pub answered : IsStrictlyIncreasing ends → IsStrictlyIncreasing closers →
-      (js cs : List ℕ) → js ≡ ends → cs ≡ closers → IsAnswer input net parts g first at js cs
-  answered ends_ascend closers_ascend js cs same_js same_cs =
-      subst (λ (l : List ℕ). IsAnswer input net parts g first at l cs) (sym same_js)
-      (subst (λ (l : List ℕ). IsAnswer input net parts g first at ends l) (sym same_cs) (record {
-        ends = ends_of;
-        closers = closers_of;
-        ends_ascend = ends_ascend;
-        closers_ascend = closers_ascend;
-      }))
+      IsAnswer input net parts g first at ends closers
+  answered ends_ascend closers_ascend = record {
+    ends = ends_of;
+    closers = closers_of;
+    ends_ascend = ends_ascend;
+    closers_ascend = closers_ascend;
+  }

@@ -5,8 +5,10 @@ pub mod Entering
 pub mod FollowingLemmas
 pub mod Searching
 pub mod ReachingLemmas
-pub mod Sets
+pub mod ClosingStateLemmas
 pub mod GatheringLemmas
+pub mod OrderingLemmas
+pub mod SeenLemmas
 pub mod Rising
 pub mod Growing
 pub mod FillingLemmas

@@ -1,7 +1,7 @@
 -- A search of the states that a part reaches: where it goes on, and what it may ask. Inner: the
 -- crate's own functions alone speak of it.
-use Rattle.std.specs.Prelude.{◌≡◌, ℕ, ◌≤◌, List, [], ◌∷◌, ◌⊎◌, Some, slice_get, Contains, map}
-use Rattle.std.specs.List.{flat_map}
+use Rattle.std.specs.Prelude.{◌≡◌, ◌≢◌, ℕ, ◌≤◌, List, [], ◌∷◌, ◌⊎◌, Some, slice_get, Contains, map}
+use Rattle.std.specs.List.{flat_map, AllPairs}
 use Rattle.ux_net.specs.declared.label.Label.TheVariants.{ContextEnd}
 use Rattle.ux_net.specs.declared.state.Edge.{Edge}
 use Rattle.ux_net.specs.declared.state.State.{State}
@@ -44,6 +44,15 @@ pub record Adds {T : Type 0} (old found new : List T) : Type 0 where
   pub only : (x : T) → Contains new x → Contains old x ⊎ Contains found x
   pub each : (x : T) → Contains found x → Contains new x
   pub kept : (place : ℕ) (x : T) → slice_get old place ≡ Some x → slice_get new place ≡ Some x
+
+-- no item stands twice
+abbrev pub HasNoDoubles : {T : Type 0} → List T → Type 0
+HasNoDoubles items = AllPairs (λ x y. x ≢ y) items
+
+-- what was seen: the few, until there are many
+abbrev pub seen_in : {T : Type 0} → (few many : List T) → List T
+seen_in few [] = few
+seen_in few (x ∷ xs) = x ∷ xs
 
 -- where a negative context goes on, from the states that close it: where none is reached
 abbrev pub refused_in : (closing closers : List ℕ) → List ℕ

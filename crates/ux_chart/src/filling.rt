@@ -4,24 +4,25 @@ ghost use Rattle.std.specs.Prelude.{◌≡◌, ◌+◌, [], length, Some, slice_
 ghost use Rattle.std.specs.List.Sorted.{IsStrictlyIncreasing};
 ghost use Rattle.ux_parts.specs.Ordered.{GoesAhead};
 ghost use Rattle.ux_parts.specs.Parts.{ArePartsOf};
+ghost use Rattle.ux_chart.specs.ClosingStates.{AreClosing};
 ghost use Rattle.ux_chart.specs.Likely.{AreKnown, AreLikely};
 ghost use Rattle.ux_chart.specs.Rows.{IsAnswer, IsFilled, IsChart, IsWholeRow, AreBegun, begun_at};
 ghost use Rattle.ux_chart.specs.Tables.{IsPut};
 
 use crate::basis::Basis;
 use crate::chart::{Begun, Chart};
+use crate::closing_states::ClosingStates;
 use crate::config::Config;
-use crate::gathering::{closers_in, ends_in, listed, listed_states};
+use crate::gathering::{closers_in, ends_in};
 use crate::reaching::reach;
+use crate::seen::Seen;
 use crate::table::{Stretch, Table, between};
-use indexmap::IndexSet;
 use std::alloc::Global;
-use std::collections::BTreeSet;
 use ux_base::Mem;
 use ux_net::Net;
 use ux_parts::{Part, Parts};
 
-/// What a part reaches from a position.
+/// What a part reaches from a position. The lists are kept from search to search.
 #[derive(Drop)]
 struct Lists {
     ends: Vec<usize>,
@@ -32,7 +33,8 @@ impl Chart {
     /// The chart of a net over an input.
     ///
     /// It holds what is found, and a stretch of two numbers of 32 bits a position. Each part that
-    /// is likely at a position is searched there once.
+    /// is likely at a position is searched there once. Besides, each edge of the net is looked at
+    /// once.
     pub fn fill<B: Basis>(alloc: Global, basis: &B, net: &Net, parts: &Parts) -> Mem<Chart>
         requires parts { ArePartsOf net.now parts.now }
         requires ahead { GoesAhead (B.input basis.now) (B.last basis.now) }
@@ -42,7 +44,8 @@ impl Chart {
             IsChart (B.input basis.now) net.now parts.now (B.last basis.now) chart) }
     {
         let mut chart = empty_chart(alloc, basis.last());
-        fill_rows(alloc, basis, net, parts, &mut chart)?;
+        let closing = ClosingStates::of(alloc, net)?;
+        fill_rows(alloc, basis, net, parts, &closing, &mut chart)?;
         Ok(chart)
     }
 }
@@ -66,22 +69,25 @@ fn fill_rows<B: Basis>(
     basis: &B,
     net: &Net,
     parts: &Parts,
+    closing: &ClosingStates,
     chart: &mut Chart,
 ) -> Mem<()>
     requires parts { ArePartsOf net.now parts.now }
     requires ahead { GoesAhead (B.input basis.now) (B.last basis.now) }
     requires serves { B.serves basis.now net.now parts.now }
     requires known { AreKnown (B.knows basis.now) net.now }
+    requires closing { AreClosing net.now closing.now }
     requires last { chart.old.last ≡ B.last basis.now }
     requires rows { chart.old.rows.items ≡ [] }
     requires table { chart.old.table.answers.items ≡ [] }
     ensures { OnOk result
         (IsChart (B.input basis.now) net.now parts.now (B.last basis.now) chart.new) }
 {
-    let mut seen = IndexSet::new(alloc);
+    let mut seen = Seen::new(alloc);
     let mut found = Vec::new(alloc);
     let mut positions = Vec::new(alloc);
     let mut likely = Vec::new(alloc);
+    let mut lists = no_lists(alloc);
     'rows: while chart.rows.len() <= chart.last {
         let done = chart.rows.len();
         let at = chart.last - done;
@@ -90,12 +96,14 @@ fn fill_rows<B: Basis>(
             basis,
             net,
             parts,
+            closing,
             chart,
             at,
             &mut likely,
             &mut seen,
             &mut found,
             &mut positions,
+            &mut lists,
         )?;
         chart.rows.push(row)?;
     }
@@ -108,17 +116,20 @@ fn fill_row<B: Basis>(
     basis: &B,
     net: &Net,
     parts: &Parts,
+    closing: &ClosingStates,
     chart: &mut Chart,
     at: usize,
     likely: &mut Vec<u32>,
-    seen: &mut IndexSet<Config>,
+    seen: &mut Seen,
     found: &mut Vec<Config>,
     positions: &mut Vec<usize>,
+    lists: &mut Lists,
 ) -> Mem<Stretch>
     requires parts { ArePartsOf net.now parts.now }
     requires ahead { GoesAhead (B.input basis.now) (B.last basis.now) }
     requires serves { B.serves basis.now net.now parts.now }
     requires known { AreKnown (B.knows basis.now) net.now }
+    requires closing { AreClosing net.now closing.now }
     requires last { chart.old.last ≡ B.last basis.now }
     requires begun { AreBegun (B.input basis.now) net.now parts.now chart.old }
     requires count { length chart.old.rows.items + at ≡ chart.old.last }
@@ -130,7 +141,7 @@ fn fill_row<B: Basis>(
 {
     basis.likely(net, parts, at, likely)?;
     fill_listed(
-        alloc, basis, net, parts, chart, at, likely, seen, found, positions,
+        alloc, basis, net, parts, closing, chart, at, likely, seen, found, positions, lists,
     )
 }
 
@@ -140,18 +151,21 @@ fn fill_listed<B: Basis>(
     basis: &B,
     net: &Net,
     parts: &Parts,
+    closing: &ClosingStates,
     chart: &mut Chart,
     at: usize,
     listed: &[u32],
-    seen: &mut IndexSet<Config>,
+    seen: &mut Seen,
     found: &mut Vec<Config>,
     positions: &mut Vec<usize>,
+    lists: &mut Lists,
 ) -> Mem<Stretch>
     requires parts { ArePartsOf net.now parts.now }
     requires ahead { GoesAhead (B.input basis.now) (B.last basis.now) }
     requires likely { AreLikely (B.input basis.now) net.now parts.now at listed.now }
     requires serves { B.serves basis.now net.now parts.now }
     requires known { AreKnown (B.knows basis.now) net.now }
+    requires closing { AreClosing net.now closing.now }
     requires last { chart.old.last ≡ B.last basis.now }
     requires begun { AreBegun (B.input basis.now) net.now parts.now chart.old }
     requires count { length chart.old.rows.items + at ≡ chart.old.last }
@@ -170,7 +184,7 @@ fn fill_listed<B: Basis>(
             row,
         };
         fill_part(
-            alloc, basis, net, parts, chart, begun, seen, found, positions,
+            alloc, basis, net, parts, closing, chart, begun, seen, found, positions, lists,
         )?;
     }
     let row = between(from, chart.table.answers.len())?;
@@ -183,16 +197,19 @@ fn fill_part<B: Basis>(
     basis: &B,
     net: &Net,
     parts: &Parts,
+    closing: &ClosingStates,
     chart: &mut Chart,
     begun: Begun,
-    seen: &mut IndexSet<Config>,
+    seen: &mut Seen,
     found: &mut Vec<Config>,
     positions: &mut Vec<usize>,
+    lists: &mut Lists,
 ) -> Mem<()>
     requires parts { ArePartsOf net.now parts.now }
     requires ahead { GoesAhead (B.input basis.now) chart.old.last }
     requires serves { B.serves basis.now net.now parts.now }
     requires known { AreKnown (B.knows basis.now) net.now }
+    requires closing { AreClosing net.now closing.now }
     requires last { B.last basis.now ≡ chart.old.last }
     requires filled { IsFilled (B.input basis.now) net.now parts.now chart.old begun }
     requires end { begun.row.to ≡ length chart.old.table.answers.items }
@@ -205,10 +222,10 @@ fn fill_part<B: Basis>(
     let Some(part) = parts.part(begun.number) else {
         return Ok(());
     };
-    let lists = search(
-        alloc, basis, net, parts, chart, begun, part, seen, found, positions,
+    search(
+        alloc, basis, net, parts, closing, chart, begun, part, seen, found, positions, lists,
     )?;
-    put(chart, begun.number, &lists)?;
+    put(chart, begun.number, lists)?;
     Ok(())
 }
 
@@ -226,46 +243,45 @@ fn put(chart: &mut Chart, number: u32, lists: &Lists) -> Mem<()>
     Ok(())
 }
 
-/// What the part whose turn it is reaches.
+/// Puts what the part whose turn it is reaches into the lists, in place of what they have.
 fn search<B: Basis>(
     alloc: Global,
     basis: &B,
     net: &Net,
     parts: &Parts,
+    closing: &ClosingStates,
     chart: &Chart,
     begun: Begun,
     part: &Part,
-    seen: &mut IndexSet<Config>,
+    seen: &mut Seen,
     found: &mut Vec<Config>,
     positions: &mut Vec<usize>,
-) -> Mem<Lists>
+    lists: &mut Lists,
+) -> Mem<()>
     requires parts { ArePartsOf net.now parts.now }
     requires ahead { GoesAhead (B.input basis.now) chart.now.last }
     requires serves { B.serves basis.now net.now parts.now }
     requires known { AreKnown (B.knows basis.now) net.now }
+    requires closing { AreClosing net.now closing.now }
     requires last { B.last basis.now ≡ chart.now.last }
     requires filled { IsFilled (B.input basis.now) net.now parts.now chart.now begun }
     requires part { slice_get parts.now.list begun.number ≡ Some part.now }
-    ensures { IfOk result (λ lists. IsAnswer (B.input basis.now) net.now parts.now
-        part.now.graph part.now.first begun.at lists.ends.items lists.closers.items) }
+    ensures { OnOk result (IsAnswer (B.input basis.now) net.now parts.now part.now.graph
+        part.now.first begun.at lists.new.ends.items lists.new.closers.items) }
 {
     reach(
         alloc, basis, net, parts, chart, begun, part, seen, found, positions,
     )?;
-    let ends = ends_in(alloc, net, part.graph, seen.as_slice())?;
-    let closers = closers_in(alloc, net, part.graph, seen.as_slice())?;
-    let lists = lists_of(alloc, &ends, &closers)?;
-    Ok(lists)
+    ends_in(net, part.graph, seen.as_slice(), &mut lists.ends)?;
+    let marks = closing.marks(part.graph);
+    closers_in(net, part.graph, marks, seen.as_slice(), &mut lists.closers)?;
+    Ok(())
 }
 
-/// The sets as lists.
-fn lists_of(alloc: Global, ends: &BTreeSet<usize>, closers: &BTreeSet<u32>) -> Mem<Lists>
-    ensures ends { IfOk result (λ lists. lists.ends.items ≡ ends.now.keys) }
-    ensures closers { IfOk result (λ lists. lists.closers.items ≡ closers.now.keys) }
-    ensures ends_ascend { OnOk result (IsStrictlyIncreasing ends.now.keys) }
-    ensures closers_ascend { OnOk result (IsStrictlyIncreasing closers.now.keys) }
-{
-    let ends = listed(alloc, ends)?;
-    let closers = listed_states(alloc, closers)?;
-    Ok(Lists { ends, closers })
+/// Empty lists. Takes no memory.
+fn no_lists(alloc: Global) -> Lists {
+    Lists {
+        ends: Vec::new(alloc),
+        closers: Vec::new(alloc),
+    }
 }

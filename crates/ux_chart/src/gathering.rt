@@ -1,65 +1,83 @@
 //! The ends and the closers among what a search has seen.
 
-ghost use Rattle.std.specs.Prelude.{◌≡◌, ℕ, ◌↔◌, ◌⊎◌, List, Contains, IfOk, OnOk};
+ghost use Rattle.std.specs.Prelude.{◌≡◌, ℕ, ◌↔◌, ◌⊎◌, List, Contains, OnOk};
 ghost use Rattle.std.specs.List.Sorted.{IsStrictlyIncreasing};
 ghost use Rattle.ux_net.specs.declared.label.Label.TheVariants.{ContextEnd};
+ghost use Rattle.ux_chart.specs.ClosingStates.{AreMarks};
 ghost use Rattle.ux_chart.specs.Search.{EndsAt, ClosesInto};
 ghost use Rattle.ux_chart.specs.declared.config.Config.{Config};
 
+use crate::closing_states::is_marked;
 use crate::config::Config;
-use std::alloc::Global;
-use std::collections::BTreeSet;
+use crate::ordering::{order_positions, order_states};
 use ux_base::Mem;
 use ux_net::{Edge, Label, Net};
 
-/// The positions at which an end is seen.
-pub fn ends_in(alloc: Global, net: &Net, graph: u32, seen: &[Config]) -> Mem<BTreeSet<usize>>
-    ensures { IfOk result (λ ends. (j : ℕ) → Contains ends.keys j
+/// Puts the positions at which an end is seen into the list, in place of what it has, ascending.
+pub fn ends_in(net: &Net, graph: u32, seen: &[Config], ends: &mut Vec<usize>) -> Mem<()>
+    ensures all { OnOk result ((j : ℕ) → Contains ends.new.items j
         ↔ ((here : Config) × Contains seen.now here × EndsAt net.now graph here j)) }
+    ensures ascending { OnOk result (IsStrictlyIncreasing ends.new.items) }
 {
-    let mut ends = BTreeSet::new(alloc);
-    for config in seen {
-        end_at(net, graph, *config, &mut ends)?;
-    }
-    Ok(ends)
+    ends.clear();
+    gather_ends(net, graph, seen, ends)?;
+    order_positions(ends);
+    Ok(())
 }
 
-/// The states into which edges close from what is seen.
-pub fn closers_in(alloc: Global, net: &Net, graph: u32, seen: &[Config]) -> Mem<BTreeSet<u32>>
-    ensures { IfOk result (λ closers. (c : ℕ) → Contains closers.keys c
+/// Puts the states into which edges close from what is seen into the list, in place of what it has,
+/// ascending. Looks at the edges of marked states alone.
+pub fn closers_in(
+    net: &Net,
+    graph: u32,
+    marks: &[bool],
+    seen: &[Config],
+    closers: &mut Vec<u32>,
+) -> Mem<()>
+    requires { AreMarks net.now graph marks.now }
+    ensures all { OnOk result ((c : ℕ) → Contains closers.new.items c
         ↔ ((here : Config) × Contains seen.now here × ClosesInto net.now graph here c)) }
+    ensures ascending { OnOk result (IsStrictlyIncreasing closers.new.items) }
 {
-    let mut closers = BTreeSet::new(alloc);
+    closers.clear();
+    gather_closers(net, graph, marks, seen, closers)?;
+    order_states(closers);
+    Ok(())
+}
+
+/// Adds the positions at which an end is seen.
+fn gather_ends(net: &Net, graph: u32, seen: &[Config], ends: &mut Vec<usize>) -> Mem<()>
+    ensures { OnOk result ((j : ℕ) → Contains ends.new.items j ↔ (Contains ends.old.items j
+        ⊎ ((here : Config) × Contains seen.now here × EndsAt net.now graph here j))) }
+{
     for config in seen {
-        close_from(net, graph, *config, &mut closers)?;
+        end_at(net, graph, *config, ends)?;
     }
-    Ok(closers)
+    Ok(())
 }
 
-/// Positions, ascending.
-pub fn listed(alloc: Global, found: &BTreeSet<usize>) -> Mem<Vec<usize>>
-    ensures all { IfOk result (λ list. list.items ≡ found.now.keys) }
-    ensures ascending { IsStrictlyIncreasing found.now.keys }
+/// Adds the states into which edges close from what is seen.
+fn gather_closers(
+    net: &Net,
+    graph: u32,
+    marks: &[bool],
+    seen: &[Config],
+    closers: &mut Vec<u32>,
+) -> Mem<()>
+    requires { AreMarks net.now graph marks.now }
+    ensures { OnOk result ((c : ℕ) → Contains closers.new.items c ↔ (Contains closers.old.items c
+        ⊎ ((here : Config) × Contains seen.now here × ClosesInto net.now graph here c))) }
 {
-    let _ascending = found.len();
-    let list = found.iter().copied().collect(alloc)?;
-    Ok(list)
-}
-
-/// States, ascending.
-pub fn listed_states(alloc: Global, found: &BTreeSet<u32>) -> Mem<Vec<u32>>
-    ensures all { IfOk result (λ list. list.items ≡ found.now.keys) }
-    ensures ascending { IsStrictlyIncreasing found.now.keys }
-{
-    let _ascending = found.len();
-    let list = found.iter().copied().collect(alloc)?;
-    Ok(list)
+    for config in seen {
+        close_marked(net, graph, marks, *config, closers)?;
+    }
+    Ok(())
 }
 
 /// Adds the position, if the state is final.
-fn end_at(net: &Net, graph: u32, config: Config, ends: &mut BTreeSet<usize>) -> Mem<()>
-    ensures { OnOk result ((j : ℕ) → Contains ends.new.keys j
-        ↔ (Contains ends.old.keys j ⊎ EndsAt net.now graph config j)) }
+fn end_at(net: &Net, graph: u32, config: Config, ends: &mut Vec<usize>) -> Mem<()>
+    ensures { OnOk result ((j : ℕ) → Contains ends.new.items j
+        ↔ (Contains ends.old.items j ⊎ EndsAt net.now graph config j)) }
 {
     let Some(state) = net.state(graph, config.state) else {
         return Ok(());
@@ -67,14 +85,32 @@ fn end_at(net: &Net, graph: u32, config: Config, ends: &mut BTreeSet<usize>) -> 
     if !state.is_final {
         return Ok(());
     }
-    add_position(ends, config.at)?;
+    ends.push(config.at)?;
+    Ok(())
+}
+
+/// Adds the states into which edges close from the configuration, if its state is marked.
+fn close_marked(
+    net: &Net,
+    graph: u32,
+    marks: &[bool],
+    config: Config,
+    closers: &mut Vec<u32>,
+) -> Mem<()>
+    requires { AreMarks net.now graph marks.now }
+    ensures { OnOk result ((c : ℕ) → Contains closers.new.items c
+        ↔ (Contains closers.old.items c ⊎ ClosesInto net.now graph config c)) }
+{
+    if is_marked(marks, config.state) {
+        return close_from(net, graph, config, closers);
+    }
     Ok(())
 }
 
 /// Adds the states into which edges close from the configuration.
-fn close_from(net: &Net, graph: u32, config: Config, closers: &mut BTreeSet<u32>) -> Mem<()>
-    ensures { OnOk result ((c : ℕ) → Contains closers.new.keys c
-        ↔ (Contains closers.old.keys c ⊎ ClosesInto net.now graph config c)) }
+fn close_from(net: &Net, graph: u32, config: Config, closers: &mut Vec<u32>) -> Mem<()>
+    ensures { OnOk result ((c : ℕ) → Contains closers.new.items c
+        ↔ (Contains closers.old.items c ⊎ ClosesInto net.now graph config c)) }
 {
     let Some(state) = net.state(graph, config.state) else {
         return Ok(());
@@ -86,34 +122,16 @@ fn close_from(net: &Net, graph: u32, config: Config, closers: &mut BTreeSet<u32>
 }
 
 /// Adds the state into which the edge closes, if it does.
-fn close_by(edge: &Edge, closers: &mut BTreeSet<u32>) -> Mem<()>
-    ensures { OnOk result ((c : ℕ) → Contains closers.new.keys c
-        ↔ (Contains closers.old.keys c
+fn close_by(edge: &Edge, closers: &mut Vec<u32>) -> Mem<()>
+    ensures { OnOk result ((c : ℕ) → Contains closers.new.items c
+        ↔ (Contains closers.old.items c
         ⊎ ((edge.now.label ≡ ContextEnd) × (edge.now.target ≡ c)))) }
 {
     match &edge.label {
         Label::ContextEnd => {
-            add_state(closers, edge.target)?;
+            closers.push(edge.target)?;
             return Ok(());
         },
         _ => return Ok(()),
     }
-}
-
-/// Adds a position.
-fn add_position(found: &mut BTreeSet<usize>, position: usize) -> Mem<()>
-    ensures { OnOk result ((e : ℕ) → Contains found.new.keys e
-        ↔ (Contains found.old.keys e ⊎ (e ≡ position))) }
-{
-    found.insert(position)?;
-    Ok(())
-}
-
-/// Adds a state.
-fn add_state(found: &mut BTreeSet<u32>, state: u32) -> Mem<()>
-    ensures { OnOk result ((e : ℕ) → Contains found.new.keys e
-        ↔ (Contains found.old.keys e ⊎ (e ≡ state))) }
-{
-    found.insert(state)?;
-    Ok(())
 }

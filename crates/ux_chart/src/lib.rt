@@ -7,16 +7,19 @@
 //!
 //! ```text
 //! Basis: what labels take, which parts are likely      Net, Parts
-//!         \                                             /
-//!          following: one edge --> reaching: a whole search --> gathering: ends and closers
-//!                                                                       |
+//!         \                                             /        \
+//!          following: one edge --> reaching: a whole search       closing_states: where closers are
+//!                                                   |            /
+//!                                           gathering: ends and closers
+//!                                                        |
 //!                          filling: part by part, position by position --> Chart: ends, closers
 //! ```
 //!
 //! An *end* of a part is a position at which a final state is reached, a *closer* the target of an
-//! edge that closes a context. One search gives both. The answers stand in flat lists (`table`): a
-//! part that reaches nothing has none, and a position without answers takes a stretch of two
-//! numbers, however many parts there are.
+//! edge that closes a context. One search gives both. Most searches are small: their lists are kept
+//! from one to the next, and what one has seen is hashed only where it is much (`seen`). The answers
+//! stand in flat lists (`table`): a part that reaches nothing has none, and a position without
+//! answers takes a stretch of two numbers, however many parts there are.
 //!
 //! Nothing here knows of tokens: what is matched is a `Basis`. It also tells which parts are worth
 //! a search at a position; `EmptyText` is the least one. Begin with `filling`, and with
@@ -25,12 +28,15 @@
 
 pub mod basis;
 pub mod chart;
+pub mod closing_states;
 pub mod config;
 pub mod empty_text;
 pub mod filling;
 pub mod following;
 pub mod gathering;
+pub mod ordering;
 pub mod reaching;
+pub mod seen;
 pub mod table;
 
 pub use basis::Basis;

@@ -10,9 +10,9 @@ ghost use Rattle.ux_chart.specs.declared.config.Config.{Config};
 
 use crate::basis::Basis;
 use crate::chart::{Begun, Chart};
-use crate::config::{Config, add_all, empty, is_bounded};
+use crate::config::Config;
 use crate::following::expand;
-use indexmap::IndexSet;
+use crate::seen::Seen;
 use std::alloc::Global;
 use ux_base::Mem;
 use ux_net::Net;
@@ -30,7 +30,7 @@ pub fn reach<B: Basis>(
     chart: &Chart,
     begun: Begun,
     part: &Part,
-    seen: &mut IndexSet<Config>,
+    seen: &mut Seen,
     found: &mut Vec<Config>,
     positions: &mut Vec<usize>,
 ) -> Mem<()>
@@ -41,24 +41,24 @@ pub fn reach<B: Basis>(
     requires last { B.last basis.now ≡ chart.now.last }
     requires filled { IsFilled (B.input basis.now) net.now parts.now chart.now begun }
     requires part { slice_get parts.now.list begun.number ≡ Some part.now }
-    ensures { OnOk result ((config : Config) → Contains seen.new.keys config
+    ensures { OnOk result ((config : Config) → Contains seen.new config
         ↔ IsReached (B.input basis.now) net.now parts.now.levels part.now.graph part.now.first
         begun.at config) }
 {
-    empty(alloc, seen);
+    seen.clear(alloc);
     let first = [Config {
         state: part.first,
         at: begun.at,
     }];
-    add_all(seen, &first)?;
+    seen.add_all(&first)?;
     let mut next = 0;
     while next < seen.len() {
-        is_bounded(seen);
+        seen.is_bounded();
         let from = seen.as_slice()[next];
         expand(
             alloc, basis, net, parts, chart, begun, part.graph, from, found, positions,
         )?;
-        add_all(seen, found.as_slice())?;
+        seen.add_all(found.as_slice())?;
         next += 1;
     }
     Ok(())

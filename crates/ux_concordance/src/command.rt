@@ -4,6 +4,7 @@ ghost use Rattle.std.specs.Prelude.{IfErr, IfOk};
 ghost use Rattle.ux_base.specs.Outside.{IsLater};
 ghost use Rattle.ux_net.specs.Nets.{net_grammar};
 ghost use Rattle.ux_plan.specs.Plans.{Answers, Halts};
+ghost use Rattle.ux_dictionaries.specs.Dictionaries.{contents_of};
 ghost use Rattle.ux_locate.specs.Searchable.{IsSearchable};
 ghost use Rattle.ux_concordance.specs.Applied.{IsAppliedConcordance};
 ghost use Rattle.ux_concordance.specs.Concord.{concord as concord_command};
@@ -60,7 +61,8 @@ fn concordance_of(
 ) -> Mem<Vec<u8>>
     requires { IsSearchable files.net }
     ensures { IfOk result (λ answer. IsAppliedConcordance files.alphabet files.text
-        files.dics.items (net_grammar files.net) mode policy novar layout answer.items) }
+        (contents_of files.dics.items) (net_grammar files.net) mode policy novar layout
+        answer.items) }
 {
     let Files {
         alphabet,

@@ -3,6 +3,7 @@
 ghost use Rattle.std.specs.Prelude.{IfErr, IfOk, string_bytes};
 ghost use Rattle.ux_base.specs.Outside.{IsLater};
 ghost use Rattle.ux_plan.specs.Plans.{Answers, Halts};
+ghost use Rattle.ux_dictionaries.specs.Dictionaries.{contents_of};
 ghost use Rattle.ux_dico.specs.Dico.{IsReportOf, dico as dico_command};
 
 use crate::reason::Reason;
@@ -10,8 +11,8 @@ use std::alloc::Global;
 use ux_alphabet::Alphabet;
 use ux_apply::{Applied, Priority};
 use ux_base::{Folder, Mem, Txt};
-use ux_dict::ListLexicon;
 use ux_dictionaries::read_dictionaries;
+use ux_lexicon::AnyLexicon;
 use ux_plan::Stop;
 use ux_report::report;
 use ux_texts::read_letters_and_text;
@@ -46,10 +47,10 @@ fn applied_report(
     alloc: Global,
     text: &Text,
     alphabet: &Alphabet,
-    dics: Vec<(Priority, ListLexicon)>,
+    dics: Vec<(Priority, AnyLexicon)>,
 ) -> Mem<String>
     ensures { IfOk result (λ report.
-        IsReportOf alphabet.now text.now dics.items (string_bytes report)) }
+        IsReportOf alphabet.now text.now (contents_of dics.items) (string_bytes report)) }
 {
     let applied = Applied::of(alloc, text, alphabet, &dics)?;
     drop(dics);

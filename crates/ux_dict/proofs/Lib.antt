@@ -1,6 +1,7 @@
 pub mod LetterLemmas
 pub mod PairLemmas
 pub mod ContentLemmas
+pub mod ItselfLemmas
 pub mod ChosenLemmas
 pub mod CutLemmas
 pub mod TextOrder
@@ -13,5 +14,4 @@ pub mod KeyLemmas
 pub mod NearLemmas
 pub mod RunLemmas
 pub mod CodesLemmas
-pub mod ReachedLemmas
 pub mod ReadLemmas

@@ -5,6 +5,5 @@ pub mod Forms
 pub mod Keys
 pub mod Kept
 pub mod Parts
-pub mod Reached
-pub mod Any
+pub mod Places
 pub mod Stored

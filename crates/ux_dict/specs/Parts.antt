@@ -1,5 +1,5 @@
 -- Parts of a dictionary: entries whose forms begin with the same characters, which fit the front of
--- a text. Inner: the crate's own functions alone speak of it, and `Reached`, which says by it where
+-- a text. Inner: the crate's own functions alone speak of it, and `Places`, which says by it where
 -- a text leads.
 use Rattle.std.specs.Prelude.{◌≡◌, ◌==◌, ℕ, List, [], ◌∷◌, ◌++◌, Bool, nat_le, All, AllPairs, Contains, IsUtf8, length, take, drop, map, filter, flat_map, encode_utf8_all}
 use Rattle.std.specs.List.{AllZip}

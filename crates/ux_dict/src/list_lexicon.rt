@@ -3,20 +3,20 @@
 //! The entries stand in order of form, so that those of a form, and those whose forms begin alike,
 //! are found by binary searches.
 
-ghost use Rattle.std.specs.Prelude.{◌≡◌, ◌++◌, ℕ, List, All, IfOk, []};
+ghost use Rattle.std.specs.Prelude.{◌≡◌, ◌↔◌, ◌<◌, ◌++◌, ℕ, List, All, IfOk, IsTrue, MatchOption, [], length};
 ghost use Rattle.std.specs.Str.{chars};
+ghost use Rattle.ux_alphabet.specs.Letters.{Letters};
 ghost use Rattle.ux_dela.specs.Sound.{IsSound};
 ghost use Rattle.ux_dict.specs.Content.{IsContent, IsDictionary};
+ghost use Rattle.ux_dict.specs.Forms.{IsFitting, MayBegin, count_of, longest_of};
 ghost use Rattle.ux_dict.specs.Parts.{AreFittingParts, IsPart};
-ghost use Rattle.ux_dict.specs.Reached.{IsReachedBy};
+ghost use Rattle.ux_dict.specs.Places.{IsReachedInList};
 
 use crate::continuing::{gone_on, one};
 use crate::keys::keys_of;
-use crate::lexicon::Lexicon;
 use crate::list_reached::ListReached;
 use crate::measures::{letters_of, longest_form};
 use crate::parts::{Part, of_form};
-use crate::reached::Reached;
 use crate::sorting::sort_by_form;
 use crate::stored::Stored;
 use crate::stored_table::first_stored;
@@ -95,12 +95,72 @@ impl ListLexicon {
         gone_on(alloc, parts, &self.letters, text, alphabet)
     }
 
+    /// Where the empty text leads: to all entries.
+    pub fn begin(&self, alloc: Global) -> Mem<ListReached<'_>>
+        ensures { IfOk result (λ reached. (alphabet : Letters) →
+            IsReachedInList alphabet self.now [] reached) }
+    {
+        let parts = one(alloc, self.whole())?;
+        Ok(ListReached {
+            lexicon: self,
+            parts,
+        })
+    }
+
     /// Where the text leads.
-    fn reached(&self, alloc: Global, text: &str, alphabet: &Alphabet) -> Mem<Reached<'_>>
-        ensures { IfOk result (λ reached. IsReachedBy alphabet.now self.now text.now reached) }
+    fn reached(&self, alloc: Global, text: &str, alphabet: &Alphabet) -> Mem<ListReached<'_>>
+        ensures { IfOk result (λ reached.
+            IsReachedInList alphabet.now self.now text.now reached) }
     {
         let start = self.begin(alloc)?;
         start.go_on(alloc, text, alphabet)
+    }
+
+    /// The entries whose form fits the text character by character, in the order of the content.
+    /// Takes a copy of each, and a few binary searches for each character and each way to write the
+    /// text with lower-case letters.
+    pub fn fitting(&self, alloc: Global, text: &str, alphabet: &Alphabet) -> Mem<Vec<Entry>>
+        ensures found { IfOk result (λ found.
+            IsFitting alphabet.now text.now self.now found.items) }
+        ensures sound { IfOk result (λ found. All IsSound found.items) }
+    {
+        self.reached(alloc, text, alphabet)?.ending(alloc)
+    }
+
+    /// Whether some form begins with characters that fit the text, one by one. Where none does, no
+    /// longer text has a fitting form. Takes a few binary searches for each character and each way
+    /// to write the text with lower-case letters.
+    pub fn may_begin(&self, alloc: Global, text: &str, alphabet: &Alphabet) -> Mem<bool>
+        ensures { IfOk result (λ may. IsTrue may ↔ MayBegin alphabet.now text.now self.now) }
+    {
+        let reached = self.reached(alloc, text, alphabet)?;
+        Ok(reached.may_go_on())
+    }
+
+    /// The number of entries of exactly this form, if there is one. Takes two binary searches.
+    pub fn exact(&self, form: &str) -> Option<usize>
+        ensures { MatchOption result (count_of form.now self.now ≡ 0)
+            (λ count. (count ≡ count_of form.now self.now) × (0 < count)) }
+    {
+        match of_form(&self.whole(), form).len() {
+            0 => None,
+            count => Some(count),
+        }
+    }
+
+    /// The length in characters of the longest form, 0 where there is none. Is kept.
+    pub fn longest(&self) -> usize
+        ensures { result ≡ longest_of self.now }
+    {
+        self.longest
+    }
+
+    /// The number of entries. Is kept.
+    pub fn count(&self) -> usize
+        ensures number { result ≡ length self.now }
+        ensures kept { IsDictionary self.now }
+    {
+        self.entries.len()
     }
 
     /// All entries as one part, whose forms begin with no character.
@@ -124,48 +184,4 @@ fn content_of(alloc: Global, entries: Vec<Entry>) -> Result<Vec<Stored>, AllocEr
     let mut content = first_stored(alloc, entries)?;
     sort_by_form(&mut content)?;
     Ok(content)
-}
-
-impl Lexicon for ListLexicon {
-    ghost content = { λ lexicon. lexicon };
-
-    /// Where the empty text leads: to all entries.
-    fn begin(&self, alloc: Global) -> Mem<Reached<'_>> {
-        let parts = one(alloc, self.whole())?;
-        Ok(Reached::List(ListReached {
-            lexicon: self,
-            parts,
-        }))
-    }
-
-    /// The entries whose form fits the text. Takes a copy of each, and a few binary searches for
-    /// each character and each way to write the text with lower-case letters.
-    fn fitting(&self, alloc: Global, text: &str, alphabet: &Alphabet) -> Mem<Vec<Entry>> {
-        self.reached(alloc, text, alphabet)?.ending(alloc)
-    }
-
-    /// Whether some form begins with characters that fit the text. Takes a few binary searches for
-    /// each character and each way to write the text with lower-case letters.
-    fn may_begin(&self, alloc: Global, text: &str, alphabet: &Alphabet) -> Mem<bool> {
-        let reached = self.reached(alloc, text, alphabet)?;
-        Ok(reached.may_go_on())
-    }
-
-    /// The number of entries of exactly this form. Takes two binary searches.
-    fn exact(&self, form: &str) -> Option<usize> {
-        match of_form(&self.whole(), form).len() {
-            0 => None,
-            count => Some(count),
-        }
-    }
-
-    /// The length in characters of the longest form. Is kept.
-    fn longest(&self) -> usize {
-        self.longest
-    }
-
-    /// The number of entries. Is kept.
-    fn count(&self) -> usize {
-        self.entries.len()
-    }
 }

@@ -9,7 +9,7 @@ ghost use Rattle.ux_dela.specs.Sound.{IsSound};
 ghost use Rattle.ux_dela.specs.declared.entry.Entry.{Entry};
 ghost use Rattle.ux_dict.specs.Forms.{IsFitting, MayBegin};
 ghost use Rattle.ux_dict.specs.Parts.{AreWhole, entries_of};
-ghost use Rattle.ux_dict.specs.Reached.{IsReachedInList};
+ghost use Rattle.ux_dict.specs.Places.{IsReachedInList};
 
 use crate::list_lexicon::ListLexicon;
 use crate::parts::{Part, ending};
@@ -30,12 +30,7 @@ pub struct ListReached<'a> {
 impl<'a> ListReached<'a> {
     /// Where the text so far leads with this one behind it. Takes a few binary searches for each
     /// part, and for each character that others fit as well.
-    pub(crate) fn go_on(
-        &self,
-        alloc: Global,
-        text: &str,
-        alphabet: &Alphabet,
-    ) -> Result<ListReached<'a>, AllocError>
+    pub fn go_on(&self, alloc: Global, text: &str, alphabet: &Alphabet) -> Mem<ListReached<'a>>
         ensures { IfOk result (λ next. (content : List Entry) (front : List ℕ) →
             IsReachedInList alphabet.now content front self.now →
             IsReachedInList alphabet.now content (front ++ text.now) next) }
@@ -47,8 +42,9 @@ impl<'a> ListReached<'a> {
         })
     }
 
-    /// Whether some form begins with characters that fit the text so far.
-    pub(crate) fn may_go_on(&self) -> bool
+    /// Whether some form begins with characters that fit the text so far, one by one. Where none
+    /// does, no longer text has a fitting form. Takes a step a part.
+    pub fn may_go_on(&self) -> bool
         ensures { (alphabet : Letters) (content : List Entry) (text : List ℕ) →
             IsReachedInList alphabet content text self.now →
             (IsTrue result ↔ MayBegin alphabet text content) }
@@ -56,8 +52,9 @@ impl<'a> ListReached<'a> {
         has_entry(&self.parts)
     }
 
-    /// The entries whose form fits the text so far.
-    pub(crate) fn ending(&self, alloc: Global) -> Mem<Vec<Entry>>
+    /// The entries whose form fits the text so far character by character, in the order of the
+    /// content. Takes a copy of each.
+    pub fn ending(&self, alloc: Global) -> Mem<Vec<Entry>>
         ensures found { IfOk result (λ found. (alphabet : Letters) (content : List Entry)
             (text : List ℕ) → IsReachedInList alphabet content text self.now →
             IsFitting alphabet text content found.items) }

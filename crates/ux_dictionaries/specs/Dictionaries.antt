@@ -1,5 +1,6 @@
 -- Which files are the dictionaries of a command. This file carries public meaning.
 use Rattle.std.specs.Prelude.{ℕ, List}
+use Rattle.ux_apply.specs.Applying.{contents}
 use Rattle.ux_apply.specs.Names.{IsPriorityOf}
 use Rattle.ux_apply.specs.declared.priority.Priority.{Priority}
 use Rattle.ux_decode.specs.declared.error.DecodeError.{DecodeError}
@@ -10,6 +11,8 @@ use Rattle.ux_dict.specs.Content.{IsContent}
 use Rattle.ux_dict.specs.FileContent.{IsFileContent}
 use Rattle.ux_image_files.specs.ImageFiles.{either, image_format, is_image, made}
 use Rattle.ux_image_reader.specs.declared.error.ImageError.{ImageError}
+use Rattle.ux_lexicon.specs.Any.{content_of}
+use Rattle.ux_lexicon.specs.declared.any_lexicon.AnyLexicon.{AnyLexicon}
 use Rattle.ux_plan.specs.FileNames.{base_of}
 use Rattle.ux_plan.specs.Plans.{Format, decoded, said_as}
 
@@ -41,3 +44,11 @@ abbrev pub dictionary_format : {R : Type 0} → (DecodeError → R) → (DelaErr
     (ImageError → R) → (name : List ℕ) → Format R (Priority × List Entry)
 dictionary_format decode_as dela_as image_as name =
     either (is_image name) (imaged_format image_as name) (text_format decode_as dela_as name)
+
+-- a dictionary of either kind, as its priority and its content
+abbrev pub seen_as : Priority × AnyLexicon → Priority × List Entry
+seen_as dic = (dic.0, content_of dic.1)
+
+-- several of them
+abbrev pub contents_of : List (Priority × AnyLexicon) → List (Priority × List Entry)
+contents_of dics = contents content_of dics

@@ -3,14 +3,15 @@
 ghost use Rattle.std.specs.Prelude.{◌≡◌, IfErr, IfOk};
 ghost use Rattle.ux_base.specs.Outside.{IsLater};
 ghost use Rattle.ux_plan.specs.Plans.{Comes, Halts, Reads, StopsFile, each};
-ghost use Rattle.ux_dictionaries.specs.Dictionaries.{dictionary_format, imaged_format, text_format};
+ghost use Rattle.ux_dictionaries.specs.Dictionaries.{contents_of, dictionary_format, imaged_format, seen_as, text_format};
 
 use std::alloc::Global;
 use ux_apply::Priority;
 use ux_base::{Folder, Txt};
 use ux_dela::DelaError;
 use ux_dict::ListLexicon;
-use ux_image_files::{OfImage, is_image, read_image};
+use ux_image_files::{OfImage, is_image, read_lexicon};
+use ux_lexicon::AnyLexicon;
 use ux_plan::{OfDecode, Stop, base_of, read_decoded, refused};
 
 /// A command's reasons, where refused dictionaries have one among them.
@@ -32,10 +33,10 @@ pub fn read_dictionaries<F: Folder, R: OfDecode + OfDela + OfImage>(
     alloc: Global,
     names: &[Txt],
     folder: &mut F,
-) -> Result<Vec<(Priority, ListLexicon)>, Stop<R>>
+) -> Result<Vec<(Priority, AnyLexicon)>, Stop<R>>
     ensures later { IsLater (F.seen folder.old) (F.seen folder.new) }
     ensures ok { IfOk result (λ dics. Comes (each (dictionary_format R.decode_as R.dela_as R.image_as) names.now)
-        (F.seen folder.old).files dics.items) }
+        (F.seen folder.old).files (contents_of dics.items)) }
     ensures err { IfErr result (Halts (each (dictionary_format R.decode_as R.dela_as R.image_as) names.now)
         (F.seen folder.old) (F.seen folder.new)) }
 {
@@ -52,11 +53,11 @@ fn read_dictionary<F: Folder, R: OfDecode + OfDela + OfImage>(
     alloc: Global,
     name: &str,
     folder: &mut F,
-) -> Result<(Priority, ListLexicon), Stop<R>>
+) -> Result<(Priority, AnyLexicon), Stop<R>>
     ensures later { IsLater (F.seen folder.old) (F.seen folder.new) }
-    ensures ok { IfOk result (Reads
+    ensures ok { IfOk result (λ dic. Reads
         (dictionary_format R.decode_as R.dela_as R.image_as name.now) name.now
-        (F.seen folder.old).files) }
+        (F.seen folder.old).files (seen_as dic)) }
     ensures err { IfErr result (StopsFile
         (dictionary_format R.decode_as R.dela_as R.image_as name.now) name.now
         (F.seen folder.old) (F.seen folder.new)) }
@@ -68,21 +69,20 @@ fn read_dictionary<F: Folder, R: OfDecode + OfDela + OfImage>(
     }
 }
 
-/// Reads an image as a dictionary.
+/// Reads an image as a dictionary, and makes none of its entries.
 fn read_imaged<F: Folder, R: OfImage>(
     alloc: Global,
     name: &str,
     folder: &mut F,
-) -> Result<(Priority, ListLexicon), Stop<R>>
+) -> Result<(Priority, AnyLexicon), Stop<R>>
     ensures later { IsLater (F.seen folder.old) (F.seen folder.new) }
-    ensures ok { IfOk result (Reads (imaged_format R.image_as name.now) name.now
-        (F.seen folder.old).files) }
+    ensures ok { IfOk result (λ dic. Reads (imaged_format R.image_as name.now) name.now
+        (F.seen folder.old).files (seen_as dic)) }
     ensures err { IfErr result (StopsFile (imaged_format R.image_as name.now) name.now
         (F.seen folder.old) (F.seen folder.new)) }
 {
-    let entries = read_image(alloc, name, folder)?;
-    let lexicon = ListLexicon::new(alloc, entries)?;
-    Ok((Priority::of(base_of(name)), lexicon))
+    let lexicon = read_lexicon(alloc, name, folder)?;
+    Ok((Priority::of(base_of(name)), AnyLexicon::Image(lexicon)))
 }
 
 /// Reads a file of forms as a dictionary.
@@ -91,16 +91,16 @@ fn read_text<F: Folder, R: OfDecode + OfDela>(
     alloc: Global,
     name: &str,
     folder: &mut F,
-) -> Result<(Priority, ListLexicon), Stop<R>>
+) -> Result<(Priority, AnyLexicon), Stop<R>>
     ensures later { IsLater (F.seen folder.old) (F.seen folder.new) }
-    ensures ok { IfOk result (Reads (text_format R.decode_as R.dela_as name.now) name.now
-        (F.seen folder.old).files) }
+    ensures ok { IfOk result (λ dic. Reads (text_format R.decode_as R.dela_as name.now) name.now
+        (F.seen folder.old).files (seen_as dic)) }
     ensures err { IfErr result (StopsFile (text_format R.decode_as R.dela_as name.now)
         name.now (F.seen folder.old) (F.seen folder.new)) }
 {
     let text = read_decoded(alloc, name, folder)?;
     match ListLexicon::read(alloc, text.as_str()) {
-        Ok(lexicon) => Ok((Priority::of(base_of(name)), lexicon)),
+        Ok(lexicon) => Ok((Priority::of(base_of(name)), AnyLexicon::List(lexicon))),
         Err(DelaError::NoMemory) => Err(Stop::NoMemory),
         Err(error) => Err(refused(alloc, name, R::of_dela(error))),
     }

@@ -3,6 +3,7 @@
 ghost use Rattle.std.specs.Prelude.{◌≡◌, ◌≢◌, ◌⊎◌, All, IfErr, IfOk};
 ghost use Rattle.ux_base.specs.Outside.{IsLater};
 ghost use Rattle.ux_dela.specs.Sound.{IsSound};
+ghost use Rattle.ux_dict.specs.Content.{IsDictionary};
 ghost use Rattle.ux_image_reader.specs.declared.error.ImageError.TheVariants.{NoMemory};
 ghost use Rattle.ux_plan.specs.Plans.{Reads, StopsFile};
 ghost use Rattle.ux_image_files.specs.ImageFiles.{image_format, is_image as is_image_name};
@@ -56,7 +57,8 @@ pub fn read_image<F: Folder, R: OfImage>(
     }
 }
 
-/// Reads an image as the dictionary that it is, and makes none of its entries.
+/// Reads an image as the dictionary that it is, and makes none of its entries. Its content is sound,
+/// in order of form, and has each entry once.
 #[tactic(auto, using(crate::proofs::ByteSteps::byte_steps))]
 pub fn read_lexicon<F: Folder, R: OfImage>(
     alloc: Global,
@@ -65,6 +67,7 @@ pub fn read_lexicon<F: Folder, R: OfImage>(
 ) -> Result<ImageLexicon, Stop<R>>
     ensures later { IsLater (F.seen folder.old) (F.seen folder.new) }
     ensures ok { IfOk result (Reads (image_format R.image_as) name.now (F.seen folder.old).files) }
+    ensures kept { IfOk result IsDictionary }
     ensures err { IfErr result (StopsFile (image_format R.image_as) name.now
         (F.seen folder.old) (F.seen folder.new)) }
 {

@@ -64,6 +64,7 @@ impl Model for ImageLexicon {
 pub fn read_image(alloc: Global, bytes: &[u8]) -> Result<ImageLexicon, ImageError>
     requires { length bytes.now < 2 ^ 32 }
     ensures ok { IfOk result (IsImageContent bytes.now) }
+    ensures kept { IfOk result IsDictionary }
     ensures exact { IfOk result (λ _. (error : ErrorData) → RefusesImage bytes.now error → ⊥) }
     ensures err { IfErr result (λ error. (error ≡ NoMemory) ⊎ RefusesImage bytes.now error) }
 {
@@ -76,7 +77,8 @@ impl ImageLexicon {
     fn of(alloc: Global, image: Image) -> Mem<ImageLexicon>
         requires file { (bytes : List ℕ) × IsImageFile bytes image }
         requires automaton { MakeAutomaton image.states }
-        ensures { IfOk result (IsContentOf image) }
+        ensures content { IfOk result (IsContentOf image) }
+        ensures kept { IfOk result IsDictionary }
     {
         let lists = read_lists(alloc, &image.lists)?;
         ImageLexicon::of_coded(alloc, Coded::new(image.states, lists))
@@ -84,7 +86,8 @@ impl ImageLexicon {
 
     /// The dictionary of an automaton and its lists.
     fn of_coded(alloc: Global, coded: Coded) -> Mem<ImageLexicon>
-        ensures { IfOk result (λ lexicon. lexicon ≡ content_in coded) }
+        ensures content { IfOk result (λ lexicon. lexicon ≡ content_in coded) }
+        ensures kept { IfOk result IsDictionary }
     {
         let longest = longest(alloc, coded.states())?;
         let counts = count(alloc, &coded)?;

@@ -45,7 +45,7 @@ module _ (search : Search) where
   pub hits_next : (start : ℕ) (old new : List Hit) → AreHitsBefore search start old →
       Includes (IsHitAt search start) old new → AreHitsBefore search (start + 1) new
   hits_next start old new are more hit =
-      let splits = found_splits search.text.now (IsHitFrom search) start hit in (
+      let splits = found_splits search.masked.now.text.now (IsHitFrom search) start hit in (
         λ c. elim (more.only hit c) [
           | inl before ↦ splits.1 (inl ((are hit).0 before))
           | inr here ↦ splits.1 (inr here)
@@ -57,15 +57,15 @@ module _ (search : Search) where
       )
 
   -- after the last position there are all
-  pub hits_all : (count : ℕ) (hits : List Hit) → length search.text.now ≤ count →
+  pub hits_all : (count : ℕ) (hits : List Hit) → length search.masked.now.text.now ≤ count →
       AreHitsBefore search count hits → AreAllHits search hits
   hits_all count hits past are hit =
-      let same = found_all search.text.now (IsHitFrom search) count past hit in
+      let same = found_all search.masked.now.text.now (IsHitFrom search) count past hit in
       (λ c. same.0 ((are hit).0 c), λ f. (are hit).1 (same.1 f))
 
   module _ (start : ℕ) (old : List Hit) where
     -- where no search begins there is none
-    pub hits_of_no_start : (IsStart search.text.now start → ⊥) →
+    pub hits_of_no_start : (IsStart search.masked.now.text.now start → ⊥) →
         Includes (IsHitAt search start) old old
     hits_of_no_start never =
         includes_nothing (IsHitAt search start) old (λ hit here. never here.0)
@@ -78,7 +78,7 @@ module _ (search : Search) where
         (λ hit here. never here.1.0 here.1.1 here.1.2)
 
     -- all that come from a start are added
-    pub hits_added : (found new : List Hit) → IsStart search.text.now start →
+    pub hits_added : (found new : List Hit) → IsStart search.masked.now.text.now start →
         AreBest All last_of (IsHitFrom search start) found → new ≡ old ++ found →
         Includes (IsHitAt search start) old new
     hits_added found new starts are is =

@@ -12,7 +12,7 @@ use Rattle.ux_walk.specs.Ends.{AreEnds}
 use Rattle.ux_walk.specs.Noting.{Includes}
 use Rattle.ux_walk.specs.Settings.{Derives}
 use Rattle.ux_locate.specs.declared.search.Search.{Search}
-use Rattle.ux_locate.specs.Finding.{BelongIn, IsFound, IsHitFrom, IsRendered, setting_in}
+use Rattle.ux_locate.specs.Finding.{HasMasks, IsFound, IsHitFrom, IsRendered, setting_in}
 use Rattle.ux_locate.specs.Hits.{IsHit, IsStart}
 use Rattle.ux_locate.specs.Keeping.{AreBest, first_of, last_of}
 use Rattle.ux_locate.proofs.BeginLemmas.{renders_from_start}
@@ -39,7 +39,7 @@ module _ (search : Search) (start : ℕ) where
         })
 
     -- where nothing is rendered, nothing is added
-    pub none_pushed : render search.text.now search.mode search.novar start derivation.1 ≡ None →
+    pub none_pushed : render search.masked.now.text.now search.mode search.novar start derivation.1 ≡ None →
         (old : List Hit) → Includes (IsRendered search start derivation) old old
     none_pushed none old = record {
       kept = λ hit c. c;
@@ -63,23 +63,23 @@ module _ (search : Search) (start : ℕ) where
       )) best are
 
   -- a hit from a start begins there
-  pub hit_begins : BelongIn search → CutNothing search.net.now → IsStart search.text.now start →
+  pub hit_begins : HasMasks search → CutNothing search.masked.now.net.now → IsStart search.masked.now.text.now start →
       (hit : Hit) → IsHitFrom search start hit → first_of hit ≡ start
-  hit_begins belongs uncut starts hit (end, events, derives, rendered) =
-      let follow = followed (setting_in search) belongs start end events starts derives in
-      renders_from_start search.text.now search.novar start starts search.mode end events hit
+  hit_begins masks uncut starts hit (end, events, derives, rendered) =
+      let follow = followed (setting_in search) masks.belongs start end events starts derives in
+      renders_from_start search.masked.now.text.now search.novar start starts search.mode end events hit
       follow.0 (derivation_uncut (setting_in search) uncut start end events derives) rendered
 
   -- where no derivation ends after the start, no hit comes from it
-  pub no_hits : BelongIn search → AreEnds (setting_in search) start [] →
-      IsStart search.text.now start → (hit : Hit) → IsHitFrom search start hit → ⊥
-  no_hits belongs are starts hit (end, events, derives, rendered) =
-      no_ends_no_hit (setting_in search) belongs start end events starts derives search.mode
+  pub no_hits : HasMasks search → AreEnds (setting_in search) start [] →
+      IsStart search.masked.now.text.now start → (hit : Hit) → IsHitFrom search start hit → ⊥
+  no_hits masks are starts hit (end, events, derives, rendered) =
+      no_ends_no_hit (setting_in search) masks.belongs start end events starts derives search.mode
       search.novar hit rendered are
 
 -- what comes from all starts is every hit
-pub found_hit : (search : Search) (hit : Hit) → IsFound search.text.now (IsHitFrom search) hit
-    ↔ IsHit search.alphabet.now search.text.now search.applied.now (net_grammar search.net.now)
+pub found_hit : (search : Search) (hit : Hit) → IsFound search.masked.now.text.now (IsHitFrom search) hit
+    ↔ IsHit search.masked.now.alphabet.now search.masked.now.text.now search.masked.now.applied.now (net_grammar search.masked.now.net.now)
     search.mode search.novar hit
 found_hit search hit = (
   λ f. record {

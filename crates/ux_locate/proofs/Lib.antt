@@ -12,6 +12,7 @@ pub mod IndexLemmas
 pub mod KeepingLemmas
 pub mod KeptLemmas
 pub mod OrderLemmas
+pub mod OverLemmas
 pub mod PassLemmas
 mod PolicyExamples
 pub mod PolicyLaws

@@ -5,7 +5,7 @@ use Rattle.ux_net.specs.declared.state.Edge.{Edge}
 use Rattle.ux_net.specs.Nets.{net_grammar}
 use Rattle.ux_meaning.specs.Contexts.{Applies, IsOpening}
 use Rattle.ux_text_chart.specs.declared.text_chart.TextChart.{TextChart}
-use Rattle.ux_text_chart.specs.MaskedTexts.{input_of}
+use Rattle.ux_text_chart.specs.Leading.{input_of}
 use Rattle.ux_text_chart.specs.TextCharts.{IsTextChart, chart_setting}
 use Rattle.ux_walk.specs.Contexts.{Applying}
 

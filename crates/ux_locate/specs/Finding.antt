@@ -1,6 +1,6 @@
 -- What a search finds, start by start. Inner: the crate's own functions alone speak of it.
 use Rattle.std.specs.Prelude.{◌≡◌, ◌↔◌, ℕ, ◌-◌, ◌<◌, List, Some, Contains}
-use Rattle.ux_apply.specs.Belonging.{Belongs}
+use Rattle.ux_mask_table.specs.MaskedTexts.{HasTable}
 use Rattle.ux_tokens.specs.Numbers.{different_texts}
 use Rattle.ux_tokens.specs.Tokens.{Token}
 use Rattle.ux_outputs.specs.declared.event.Event.{Event}
@@ -9,7 +9,7 @@ use Rattle.ux_outputs.specs.declared.span.Span.{Span}
 use Rattle.ux_outputs.specs.Rendering.{render}
 use Rattle.ux_walk.specs.declared.look_ups.LookUps.{LookUps}
 use Rattle.ux_walk.specs.LookUps.{AreSound}
-use Rattle.ux_walk.specs.Settings.{Derives, Setting, setting_of}
+use Rattle.ux_walk.specs.Settings.{Derives, Setting, masked_setting}
 use Rattle.ux_locate.specs.declared.search.Search.{Search}
 use Rattle.ux_locate.specs.Hits.{IsStart}
 
@@ -30,21 +30,26 @@ IsSpanFrom setting start span =
 -- the setting of a search
 abbrev pub setting_in : Search → Setting
 setting_in search =
-    setting_of search.net.now search.text.now search.alphabet.now search.applied.now
+    masked_setting search.masked.now
 
--- the entries belong to the text
-abbrev pub BelongIn : Search → Type 0
-BelongIn search = Belongs search.alphabet.now search.text.now search.applied.now
+-- the table of masks is that of the grammar over the text
+abbrev pub HasMasks : Search → Type 0
+HasMasks search = HasTable search.masked.now
+
+-- the tokens of the text that is searched
+abbrev pub tokens_in : Search → List Token
+tokens_in search = search.masked.now.text.now
 
 -- the look-ups are those of the search
 abbrev pub AreKeptFor : Search → LookUps → Type 0
 AreKeptFor search look_ups =
-    AreSound search.alphabet.now search.net.now (different_texts search.text.now) look_ups
+    AreSound search.masked.now.alphabet.now search.masked.now.net.now
+    (different_texts (tokens_in search)) look_ups
 
 -- a derivation from the start, an end and its events, renders the hit
 abbrev pub IsRendered : Search → (start : ℕ) → ℕ × List Event → Hit → Type 0
 IsRendered search start derivation hit =
-    render search.text.now search.mode search.novar start derivation.1 ≡ Some hit
+    render (tokens_in search) search.mode search.novar start derivation.1 ≡ Some hit
 
 -- some derivation from the start does
 abbrev pub IsHitFrom : Search → (start : ℕ) → Hit → Type 0
@@ -63,13 +68,13 @@ IsFoundBefore tokens From count x =
 -- these are all that come from the starts
 abbrev pub AreAllHits : Search → List Hit → Type 0
 AreAllHits search hits = (hit : Hit) → Contains hits hit
-    ↔ IsFound search.text.now (IsHitFrom search) hit
+    ↔ IsFound (tokens_in search) (IsHitFrom search) hit
 
 -- those from the starts before this one
 abbrev pub AreHitsBefore : Search → ℕ → List Hit → Type 0
 AreHitsBefore search count hits = (hit : Hit) → Contains hits hit
-    ↔ IsFoundBefore search.text.now (IsHitFrom search) count hit
+    ↔ IsFoundBefore (tokens_in search) (IsHitFrom search) count hit
 
 -- the position is a start, and the hit comes from it
 abbrev pub IsHitAt : Search → ℕ → Hit → Type 0
-IsHitAt search start hit = IsStart search.text.now start × IsHitFrom search start hit
+IsHitAt search start hit = IsStart (tokens_in search) start × IsHitFrom search start hit

@@ -12,14 +12,13 @@ ghost use Rattle.ux_text_chart.specs.TextCharts.{IsTextChart, chart_setting};
 ghost use Rattle.ux_walk.specs.Noting.{Includes};
 ghost use Rattle.ux_walk.specs.Settings.{Derives};
 ghost use Rattle.ux_locate.specs.ByChart.{AsksChart, tells_in};
-ghost use Rattle.ux_locate.specs.Finding.{AreAllHits, AreKeptFor, BelongIn, IsHitAt, setting_in};
+ghost use Rattle.ux_locate.specs.Finding.{AreAllHits, AreKeptFor, HasMasks, IsHitAt, setting_in, tokens_in};
 
 use crate::from_start::best_hits;
 use crate::search::Search;
 use crate::walks::is_start;
 use std::alloc::Global;
-use std::sync::ledger::Ledger;
-use ux_base::{Mem, Policy, Steps};
+use ux_base::{Mem, Policy};
 use ux_net::Edge;
 use ux_outputs::Hit;
 use ux_parts::Parts;
@@ -45,92 +44,75 @@ impl<'a> Contexts for ChartContexts<'a> {
 }
 
 /// The hits from all starts, in no order. Equal ones may stand there twice.
-pub fn all_hits<L: Ledger>(alloc: Global, search: &Search, steps: &mut Steps<L>) -> Mem<Vec<Hit>>
-    requires belongs { BelongIn search.now }
-    requires marked { IsMarked search.now.net.now }
-    requires told { TellsClosings search.now.net.now }
+pub fn all_hits(alloc: Global, search: &Search) -> Mem<Vec<Hit>>
+    requires masks { HasMasks search.now }
+    requires marked { IsMarked search.now.masked.now.net.now }
+    requires told { TellsClosings search.now.masked.now.net.now }
     ensures { IfOk result (λ hits. AreAllHits search.now hits.items) }
 {
     // The chart is let go at one place alone: each costs the prover a look at all of its parts.
-    let net = search.net;
-    let parts = Parts::of(alloc, net)?;
-    let (text, alphabet, applied) = (search.text, search.alphabet, search.applied);
-    let chart = TextChart::fill(alloc, net, parts, text, alphabet, applied, steps)?;
-    hits_by_chart(alloc, search, &chart, steps)
+    let parts = Parts::of(alloc, search.masked.net)?;
+    let chart = TextChart::fill(alloc, search.masked, parts)?;
+    hits_by_chart(alloc, search, &chart)
 }
 
 /// The same, by this chart.
-fn hits_by_chart<L: Ledger>(
-    alloc: Global,
-    search: &Search,
-    chart: &TextChart,
-    steps: &mut Steps<L>,
-) -> Mem<Vec<Hit>>
-    requires belongs { BelongIn search.now }
+fn hits_by_chart(alloc: Global, search: &Search, chart: &TextChart) -> Mem<Vec<Hit>>
+    requires masks { HasMasks search.now }
     requires chart { IsTextChart chart.now }
     requires made { chart_setting chart.now ≡ setting_in search.now }
     ensures { IfOk result (λ hits. AreAllHits search.now hits.items) }
 {
     let mut look_ups = LookUps::new(alloc);
-    hits_from_all(alloc, search, chart, &mut look_ups, steps)
+    hits_from_all(alloc, search, chart, &mut look_ups)
 }
 
 /// The same, by this chart and these look-ups.
-fn hits_from_all<'t, L: Ledger>(
+fn hits_from_all<'t>(
     alloc: Global,
     search: &Search<'t>,
     chart: &TextChart,
     look_ups: &mut LookUps<'t>,
-    steps: &mut Steps<L>,
 ) -> Mem<Vec<Hit>>
-    requires belongs { BelongIn search.now }
+    requires masks { HasMasks search.now }
     requires chart { IsTextChart chart.now }
     requires made { chart_setting chart.now ≡ setting_in search.now }
     requires kept { AreKeptFor search.now look_ups.old }
     ensures { IfOk result (λ hits. AreAllHits search.now hits.items) }
 {
     let mut hits = Vec::new(alloc);
-    for start in 0..search.text.len() {
-        add_hits(alloc, search, chart, look_ups, start, &mut hits, steps)?;
+    for start in 0..search.masked.text.len() {
+        add_hits(alloc, search, chart, look_ups, start, &mut hits)?;
     }
     Ok(hits)
 }
 
 /// Adds the hits from a position, if it is a start.
-fn add_hits<'t, L: Ledger>(
+fn add_hits<'t>(
     alloc: Global,
     search: &Search<'t>,
     chart: &TextChart,
     look_ups: &mut LookUps<'t>,
     start: usize,
     hits: &mut Vec<Hit>,
-    steps: &mut Steps<L>,
 ) -> Mem<()>
-    requires belongs { BelongIn search.now }
+    requires masks { HasMasks search.now }
     requires chart { IsTextChart chart.now }
     requires made { chart_setting chart.now ≡ setting_in search.now }
     requires kept { AreKeptFor search.now look_ups.old }
-    requires within { start < length search.now.text.now }
+    requires within { start < length (tokens_in search.now) }
     ensures kept { AreKeptFor search.now look_ups.new }
     ensures hits { OnOk result
         (Includes (IsHitAt search.now start) hits.old.items hits.new.items) }
 {
-    if !is_start(search.text, start) {
+    if !is_start(search.masked.text, start) {
         return Ok(());
     }
     if !may_derive(chart, start) {
         return Ok(());
     }
     let contexts = ChartContexts { chart };
-    let mut found = best_hits(
-        alloc,
-        search,
-        Policy::All,
-        &contexts,
-        look_ups,
-        start,
-        steps,
-    )?;
+    let mut found = best_hits(alloc, search, Policy::All, &contexts, look_ups, start)?;
     hits.append(&mut found)?;
     Ok(())
 }

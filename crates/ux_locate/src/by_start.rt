@@ -9,7 +9,7 @@ ghost use Rattle.std.specs.Prelude.{◌≡◌, IfOk};
 ghost use Rattle.ux_net.specs.Nets.{ArePlain, CutNothing};
 ghost use Rattle.ux_text_chart.specs.TextCharts.{IsTextChart, chart_setting};
 ghost use Rattle.ux_walk.specs.Contexts.{ContextsTold};
-ghost use Rattle.ux_locate.specs.Finding.{AreKeptFor, BelongIn, IsFound, IsHitFrom, setting_in};
+ghost use Rattle.ux_locate.specs.Finding.{AreKeptFor, HasMasks, IsFound, IsHitFrom, setting_in, tokens_in};
 ghost use Rattle.ux_locate.specs.Keeping.{AreKept, first_of, last_of};
 ghost use Rattle.ux_locate.specs.Searchable.{IsSearchable};
 
@@ -21,8 +21,7 @@ use crate::keeping::{hits_reach, is_reached};
 use crate::search::Search;
 use crate::walks::{find_ends, may_find};
 use std::alloc::Global;
-use std::sync::ledger::Ledger;
-use ux_base::{Mem, Steps};
+use ux_base::Mem;
 use ux_outputs::Hit;
 use ux_parts::Parts;
 use ux_text_chart::TextChart;
@@ -32,111 +31,100 @@ use ux_walker::Walker;
 
 /// The hits that are kept, in the order in which they are found. Walks tell the ends, where they suit the
 /// net, otherwise a chart does.
-pub fn kept_hits<L: Ledger>(alloc: Global, search: &Search, steps: &mut Steps<L>) -> Mem<Vec<Hit>>
-    requires belongs { BelongIn search.now }
-    requires uncut { CutNothing search.now.net.now }
-    requires searchable { IsSearchable search.now.net.now }
+pub fn kept_hits(alloc: Global, search: &Search) -> Mem<Vec<Hit>>
+    requires masks { HasMasks search.now }
+    requires uncut { CutNothing search.now.masked.now.net.now }
+    requires searchable { IsSearchable search.now.masked.now.net.now }
     ensures { IfOk result (λ hits. AreKept search.now.policy first_of last_of
-        (IsFound search.now.text.now (IsHitFrom search.now)) hits.items) }
+        (IsFound (tokens_in search.now) (IsHitFrom search.now)) hits.items) }
 {
-    if suits_walks(alloc, search.net)? {
-        return hits_by_walker(alloc, search, steps);
+    if suits_walks(alloc, search.masked.net)? {
+        return hits_by_walker(alloc, search);
     }
-    hits_by_chart(alloc, search, steps)
+    hits_by_chart(alloc, search)
 }
 
 /// The same, by a walker.
-fn hits_by_walker<L: Ledger>(alloc: Global, search: &Search, steps: &mut Steps<L>) -> Mem<Vec<Hit>>
-    requires belongs { BelongIn search.now }
-    requires uncut { CutNothing search.now.net.now }
-    requires plain { ArePlain search.now.net.now }
+fn hits_by_walker(alloc: Global, search: &Search) -> Mem<Vec<Hit>>
+    requires masks { HasMasks search.now }
+    requires uncut { CutNothing search.now.masked.now.net.now }
+    requires plain { ArePlain search.now.masked.now.net.now }
     ensures { IfOk result (λ hits. AreKept search.now.policy first_of last_of
-        (IsFound search.now.text.now (IsHitFrom search.now)) hits.items) }
+        (IsFound (tokens_in search.now) (IsHitFrom search.now)) hits.items) }
 {
     // The walker is let go at one place alone: each costs the prover a look at all of its parts.
-    let text = search.text;
-    let mut walker = Walker::of(alloc, search.net, text, search.alphabet, search.applied)?;
-    hits_by_ends(alloc, search, &mut walker, &NoContexts, steps)
+    let mut walker = Walker::of(alloc, search.masked)?;
+    hits_by_ends(alloc, search, &mut walker, &NoContexts)
 }
 
 /// The same, by a chart.
-fn hits_by_chart<L: Ledger>(alloc: Global, search: &Search, steps: &mut Steps<L>) -> Mem<Vec<Hit>>
-    requires belongs { BelongIn search.now }
-    requires uncut { CutNothing search.now.net.now }
-    requires searchable { IsSearchable search.now.net.now }
+fn hits_by_chart(alloc: Global, search: &Search) -> Mem<Vec<Hit>>
+    requires masks { HasMasks search.now }
+    requires uncut { CutNothing search.now.masked.now.net.now }
+    requires searchable { IsSearchable search.now.masked.now.net.now }
     ensures { IfOk result (λ hits. AreKept search.now.policy first_of last_of
-        (IsFound search.now.text.now (IsHitFrom search.now)) hits.items) }
+        (IsFound (tokens_in search.now) (IsHitFrom search.now)) hits.items) }
 {
     // So is the chart.
-    let net = search.net;
-    let parts = Parts::of(alloc, net)?;
-    let (text, alphabet, applied) = (search.text, search.alphabet, search.applied);
-    let chart = TextChart::fill(alloc, net, parts, text, alphabet, applied, steps)?;
-    hits_in_chart(alloc, search, &chart, steps)
+    let parts = Parts::of(alloc, search.masked.net)?;
+    let chart = TextChart::fill(alloc, search.masked, parts)?;
+    hits_in_chart(alloc, search, &chart)
 }
 
 /// The same, by this chart.
-fn hits_in_chart<L: Ledger>(
-    alloc: Global,
-    search: &Search,
-    chart: &TextChart,
-    steps: &mut Steps<L>,
-) -> Mem<Vec<Hit>>
-    requires belongs { BelongIn search.now }
-    requires uncut { CutNothing search.now.net.now }
+fn hits_in_chart(alloc: Global, search: &Search, chart: &TextChart) -> Mem<Vec<Hit>>
+    requires masks { HasMasks search.now }
+    requires uncut { CutNothing search.now.masked.now.net.now }
     requires chart { IsTextChart chart.now }
     requires made { chart_setting chart.now ≡ setting_in search.now }
     ensures { IfOk result (λ hits. AreKept search.now.policy first_of last_of
-        (IsFound search.now.text.now (IsHitFrom search.now)) hits.items) }
+        (IsFound (tokens_in search.now) (IsHitFrom search.now)) hits.items) }
 {
     hits_by_ends(
         alloc,
         search,
         &mut ChartEnds::of(chart),
         &ChartContexts { chart },
-        steps,
     )
 }
 
 /// The same, by what tells the ends and the contexts.
-fn hits_by_ends<E: Ends, C: Contexts, L: Ledger>(
+fn hits_by_ends<E: Ends, C: Contexts>(
     alloc: Global,
     search: &Search,
     finder: &mut E,
     contexts: &C,
-    steps: &mut Steps<L>,
 ) -> Mem<Vec<Hit>>
-    requires belongs { BelongIn search.now }
-    requires uncut { CutNothing search.now.net.now }
+    requires masks { HasMasks search.now }
+    requires uncut { CutNothing search.now.masked.now.net.now }
     requires told { ContextsTold (setting_in search.now) (C.asks contexts.now)
         (C.applies contexts.now) }
     requires made { E.setting finder.old ≡ setting_in search.now }
     ensures { IfOk result (λ hits. AreKept search.now.policy first_of last_of
-        (IsFound search.now.text.now (IsHitFrom search.now)) hits.items) }
+        (IsFound (tokens_in search.now) (IsHitFrom search.now)) hits.items) }
 {
     let mut look_ups = LookUps::new(alloc);
-    hits_from_starts(alloc, search, finder, contexts, &mut look_ups, steps)
+    hits_from_starts(alloc, search, finder, contexts, &mut look_ups)
 }
 
 /// The same, with these look-ups.
-fn hits_from_starts<'t, E: Ends, C: Contexts, L: Ledger>(
+fn hits_from_starts<'t, E: Ends, C: Contexts>(
     alloc: Global,
     search: &Search<'t>,
     finder: &mut E,
     contexts: &C,
     look_ups: &mut LookUps<'t>,
-    steps: &mut Steps<L>,
 ) -> Mem<Vec<Hit>>
-    requires belongs { BelongIn search.now }
-    requires uncut { CutNothing search.now.net.now }
+    requires masks { HasMasks search.now }
+    requires uncut { CutNothing search.now.masked.now.net.now }
     requires told { ContextsTold (setting_in search.now) (C.asks contexts.now)
         (C.applies contexts.now) }
     requires made { E.setting finder.old ≡ setting_in search.now }
     requires kept { AreKeptFor search.now look_ups.old }
     ensures { IfOk result (λ hits. AreKept search.now.policy first_of last_of
-        (IsFound search.now.text.now (IsHitFrom search.now)) hits.items) }
+        (IsFound (tokens_in search.now) (IsHitFrom search.now)) hits.items) }
 {
-    let text = search.text;
+    let text = search.masked.text;
     let mut ends = Vec::new(alloc);
     let mut hits = Vec::new(alloc);
     for start in 0..text.len() {
@@ -146,19 +134,11 @@ fn hits_from_starts<'t, E: Ends, C: Contexts, L: Ledger>(
         if !may_find(finder, text, start) {
             continue;
         }
-        find_ends(alloc, finder, start, &mut ends, steps)?;
+        find_ends(alloc, finder, start, &mut ends)?;
         if ends.is_empty() {
             continue;
         }
-        let mut best = best_hits(
-            alloc,
-            search,
-            search.policy,
-            contexts,
-            look_ups,
-            start,
-            steps,
-        )?;
+        let mut best = best_hits(alloc, search, search.policy, contexts, look_ups, start)?;
         hits.append(&mut best)?;
     }
     Ok(hits)

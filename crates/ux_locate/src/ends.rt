@@ -10,8 +10,7 @@ ghost use Rattle.ux_outputs.specs.declared.event.Event.{Event};
 
 use std::alloc::Global;
 use std::marker::Model;
-use std::sync::ledger::Ledger;
-use ux_base::{Mem, Steps};
+use ux_base::Mem;
 use ux_text_chart::TextChart;
 use ux_walker::Walker;
 
@@ -26,13 +25,7 @@ pub trait Ends {
             AreEnds (setting self.now) start [] };
 
     /// Lets `ends` be the positions after the start at which a derivation from it ends, in order.
-    fn list<L: Ledger>(
-        &mut self,
-        alloc: Global,
-        start: usize,
-        ends: &mut Vec<usize>,
-        steps: &mut Steps<L>,
-    ) -> Mem<()>
+    fn list(&mut self, alloc: Global, start: usize, ends: &mut Vec<usize>) -> Mem<()>
         requires inside { start ≤ length (setting self.now).tokens }
         ensures same { setting self.new ≡ setting self.old }
         ensures ends { OnOk result (AreEnds (setting self.old) start ends.new.items) };
@@ -45,14 +38,8 @@ impl<'a> Ends for Walker<'a> {
         self.may_begin(start)
     }
 
-    fn list<L: Ledger>(
-        &mut self,
-        alloc: Global,
-        start: usize,
-        ends: &mut Vec<usize>,
-        steps: &mut Steps<L>,
-    ) -> Mem<()> {
-        self.ends_from(alloc, start, ends, steps)
+    fn list(&mut self, alloc: Global, start: usize, ends: &mut Vec<usize>) -> Mem<()> {
+        self.ends_from(alloc, start, ends)
     }
 }
 
@@ -104,13 +91,7 @@ impl<'a> Ends for ChartEnds<'a> {
         !self.at(start).is_empty()
     }
 
-    fn list<L: Ledger>(
-        &mut self,
-        alloc: Global,
-        start: usize,
-        ends: &mut Vec<usize>,
-        steps: &mut Steps<L>,
-    ) -> Mem<()> {
+    fn list(&mut self, alloc: Global, start: usize, ends: &mut Vec<usize>) -> Mem<()> {
         ends.clear();
         ends.extend_from_slice(self.at(start))?;
         keep_after(ends, start);

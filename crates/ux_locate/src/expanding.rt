@@ -1,9 +1,9 @@
 //! How many states the calls of a grammar stand for.
 //!
 //! A walk follows a call as if the states of the called graph stood in its place. Thirty graphs that
-//! each call the next twice stand for a thousand million states. A graph that calls itself at one of its
-//! edges alone has one stack for each depth, as a list that grows at its end; at two of them the stacks
-//! double with each depth. No answer rests on this count: it tells alone which search costs less.
+//! each call the next twice stand for a thousand million states. A graph that calls itself stands for
+//! more than any number: the walk from each start goes down as deep as the one before, and a text of such
+//! starts costs its square. No answer rests on this count: it tells alone which search costs less.
 
 ghost use Rattle.std.specs.Prelude.{IfOk, IsTrue};
 ghost use Rattle.ux_net.specs.Nets.{ArePlain};
@@ -16,9 +16,9 @@ use ux_net::{Edge, Label, Net};
 /// As many states a walk may meet.
 const MOST: usize = 65_536;
 
-/// Whether walks suit a net: it has neither contexts nor cuts, each graph has at most 65,536 states, those of
-/// the graphs that it calls counted with each call, and none has two calls by which it comes back to
-/// itself, in however many turns. Linear in the edges, but for a sorting of the graphs.
+/// Whether walks suit a net: it has neither contexts nor cuts, no graph comes back to itself by its calls, in
+/// however many turns, and each has at most 65,536 states, those of the graphs that it calls counted with each
+/// call. Linear in the edges, but for a sorting of the graphs.
 pub fn suits_walks(alloc: Global, net: &Net) -> Mem<bool>
     ensures { IfOk result (λ suits. IsTrue suits → ArePlain net.now) }
 {
@@ -29,7 +29,7 @@ pub fn suits_walks(alloc: Global, net: &Net) -> Mem<bool>
     Ok(suits)
 }
 
-/// Whether each graph has so few states, and none comes back to itself by two calls.
+/// Whether each graph has so few states, and none comes back to itself.
 fn is_small(alloc: Global, net: &Net) -> Mem<bool> {
     let calls = calls_of(alloc, net)?;
     if !are_edges_inside(&calls) {
@@ -67,8 +67,8 @@ fn are_small(
     true
 }
 
-/// The states of the called graphs, each counted as often as it is called, but for one call of a graph of
-/// this number, which calls the caller in its turn; none, where there are two such calls.
+/// The states of the called graphs, each counted as often as it is called; none, where one of them has this
+/// number and so calls the caller in its turn.
 fn called_size(
     called: &[usize],
     numbers: &[usize],
@@ -76,15 +76,11 @@ fn called_size(
     sizes: &[usize],
 ) -> Option<usize> {
     let mut size: usize = 0;
-    let mut returns = false;
     for graph in called {
-        if *numbers.get(*graph)? != number {
-            size = size.saturating_add(*sizes.get(*graph)?);
-        } else if returns {
+        if *numbers.get(*graph)? == number {
             return None;
-        } else {
-            returns = true;
         }
+        size = size.saturating_add(*sizes.get(*graph)?);
     }
     Some(size)
 }

@@ -4,10 +4,12 @@
 //! (`by_chart`). The hits are put in order at the end, each once: several derivations may render the
 //! same one.
 
-ghost use Rattle.std.specs.Prelude.{IfOk};
+ghost use Rattle.std.specs.Prelude.{ℕ, ◌+◌, ◌*◌, ◌≤◌, IfOk, length};
 ghost use Rattle.ux_apply.specs.Belonging.{Belongs};
+ghost use Rattle.ux_mask_table.specs.MaskedTexts.{HasTable};
+ghost use Rattle.ux_net.specs.Masks.{IsMaskCount};
 ghost use Rattle.ux_net.specs.Nets.{net_grammar};
-ghost use Rattle.ux_locate.specs.Finding.{BelongIn, IsFound, IsHitFrom};
+ghost use Rattle.ux_locate.specs.Finding.{HasMasks, IsFound, IsHitFrom, tokens_in};
 ghost use Rattle.ux_locate.specs.Hits.{IsHit};
 ghost use Rattle.ux_locate.specs.Index.{IsKeptListing};
 ghost use Rattle.ux_locate.specs.Searchable.{IsSearchable};
@@ -22,6 +24,7 @@ use std::sync::ledger::Ledger;
 use ux_alphabet::Alphabet;
 use ux_apply::Applied;
 use ux_base::{Mem, Mode, NoVar, Policy, Steps};
+use ux_mask_table::MaskedText;
 use ux_net::Net;
 use ux_outputs::Hit;
 use ux_tokens::Text;
@@ -32,8 +35,9 @@ use ux_tokens::Text;
 /// all hits. From a start at which no derivation ends after it, it takes no more than a walk that lists no
 /// events; or a look into a chart of the text, which is filled first where the grammar has contexts or its
 /// calls multiply. Where outputs are ignored `locate_spans` gives the same hits without their texts, and
-/// goes by these alone. A grammar with cuts costs a chart of the
-/// text, and all hits are listed before some are kept.
+/// goes by these alone. A grammar with cuts costs a chart of the text, and all hits are listed before some
+/// are kept. Each different mask of the grammar is tried at most once at a place of the text, which is a
+/// step.
 pub fn locate<L: Ledger>(
     alloc: Global,
     net: &Net,
@@ -47,34 +51,51 @@ pub fn locate<L: Ledger>(
 ) -> Mem<Vec<Hit>>
     requires belongs { Belongs alphabet.now text.now applied.now }
     requires searchable { IsSearchable net.now }
-    ensures { IfOk result (λ hits. IsKeptListing policy
+    ensures hits { IfOk result (λ hits. IsKeptListing policy
         (IsHit alphabet.now text.now applied.now (net_grammar net.now) mode novar)
         hits.items) }
+    ensures steps { (count : ℕ) → IsMaskCount net.now count →
+        steps.new ≤ steps.old + count * (length text.now + 1) }
+{
+    let masked = MaskedText::of(alloc, net, text, alphabet, applied, steps)?;
+    hits_in(alloc, &masked, mode, novar, policy)
+}
+
+/// The same, in a text with what the masks accept in it.
+fn hits_in(
+    alloc: Global,
+    masked: &MaskedText,
+    mode: Mode,
+    novar: NoVar,
+    policy: Policy,
+) -> Mem<Vec<Hit>>
+    requires masks { HasTable masked.now }
+    requires searchable { IsSearchable masked.now.net.now }
+    ensures { IfOk result (λ hits. IsKeptListing policy
+        (IsHit masked.now.alphabet.now masked.now.text.now masked.now.applied.now
+        (net_grammar masked.now.net.now) mode novar) hits.items) }
 {
     let search = Search {
-        net,
-        text,
-        alphabet,
-        applied,
+        masked,
         mode,
         novar,
         policy,
     };
-    listed_hits(alloc, &search, steps)
+    listed_hits(alloc, &search)
 }
 
 /// The hits that are kept, put in order.
-fn listed_hits<L: Ledger>(alloc: Global, search: &Search, steps: &mut Steps<L>) -> Mem<Vec<Hit>>
-    requires belongs { BelongIn search.now }
-    requires searchable { IsSearchable search.now.net.now }
+fn listed_hits(alloc: Global, search: &Search) -> Mem<Vec<Hit>>
+    requires masks { HasMasks search.now }
+    requires searchable { IsSearchable search.now.masked.now.net.now }
     ensures { IfOk result (λ hits. IsKeptListing search.now.policy
-        (IsFound search.now.text.now (IsHitFrom search.now)) hits.items) }
+        (IsFound (tokens_in search.now) (IsHitFrom search.now)) hits.items) }
 {
-    if search.net.cuts_nothing() {
-        let mut hits = kept_hits(alloc, search, steps)?;
+    if search.masked.net.cuts_nothing() {
+        let mut hits = kept_hits(alloc, search)?;
         sort_hits(&mut hits);
         return Ok(hits);
     }
-    let hits = all_hits(alloc, search, steps)?;
+    let hits = all_hits(alloc, search)?;
     keep(alloc, search.policy, hits)
 }

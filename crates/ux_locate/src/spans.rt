@@ -4,13 +4,15 @@
 //! hit. Ends come in order, so the policy keeps the last or the first of them, and starts inside a kept
 //! hit are passed over. No text is copied, and none is kept.
 
-ghost use Rattle.std.specs.Prelude.{◌≡◌, ◌<◌, ◌++◌, ℕ, All, Contains, IfOk, OnOk, map};
+ghost use Rattle.std.specs.Prelude.{◌≡◌, ◌<◌, ◌≤◌, ◌+◌, ◌*◌, ◌++◌, ℕ, All, Contains, IfOk, OnOk, length, map};
 ghost use Rattle.ux_base.specs.declared.settings.Mode.TheVariants.{Ignore};
 ghost use Rattle.ux_base.specs.declared.settings.NoVar.{NoVar};
 ghost use Rattle.ux_apply.specs.Belonging.{Belongs};
+ghost use Rattle.ux_mask_table.specs.MaskedTexts.{HasTable};
+ghost use Rattle.ux_net.specs.Masks.{IsMaskCount};
 ghost use Rattle.ux_net.specs.Nets.{ArePlain, CutNothing, net_grammar};
 ghost use Rattle.ux_text_chart.specs.TextCharts.{IsTextChart, chart_setting};
-ghost use Rattle.ux_walk.specs.Settings.{setting_of};
+ghost use Rattle.ux_walk.specs.Settings.{masked_setting};
 ghost use Rattle.ux_locate.specs.Finding.{IsFound, IsSpanFrom, span_to};
 ghost use Rattle.ux_locate.specs.Hits.{IsHit};
 ghost use Rattle.ux_locate.specs.Index.{IsKeptListing};
@@ -29,6 +31,7 @@ use std::sync::ledger::Ledger;
 use ux_alphabet::Alphabet;
 use ux_apply::Applied;
 use ux_base::{Mem, Policy, Steps};
+use ux_mask_table::MaskedText;
 use ux_net::Net;
 use ux_outputs::Span;
 use ux_parts::Parts;
@@ -38,7 +41,8 @@ use ux_walker::Walker;
 
 /// The spans of the hits of a net without cuts that the policy keeps where outputs are ignored, each once
 /// and in order. The text of such a hit is that of its tokens. Takes no memory for texts, and nothing for
-/// a start inside a kept hit, but with `Policy::All`, which keeps all hits.
+/// a start inside a kept hit, but with `Policy::All`, which keeps all hits. Each different mask of the net is
+/// tried at most once at a place of the text, which is a step.
 pub fn locate_spans<L: Ledger>(
     alloc: Global,
     net: &Net,
@@ -55,98 +59,84 @@ pub fn locate_spans<L: Ledger>(
         (IsHit alphabet.now text.now applied.now (net_grammar net.now) Ignore novar)
         (map (hit_at text.now) spans.items)) }
     ensures within { IfOk result (λ spans. All (LiesIn text.now) spans.items) }
+    ensures steps { (count : ℕ) → IsMaskCount net.now count →
+        steps.new ≤ steps.old + count * (length text.now + 1) }
 {
-    let mut spans = kept_spans(alloc, net, text, alphabet, applied, policy, steps)?;
+    let masked = MaskedText::of(alloc, net, text, alphabet, applied, steps)?;
+    spans_in(alloc, &masked, policy)
+}
+
+/// The same, in a text with what the masks accept in it.
+fn spans_in(alloc: Global, masked: &MaskedText, policy: Policy) -> Mem<Vec<Span>>
+    requires table { HasTable masked.now }
+    requires uncut { CutNothing masked.now.net.now }
+    requires searchable { IsSearchable masked.now.net.now }
+    ensures listing { IfOk result (λ spans. (novar : NoVar) → IsKeptListing policy
+        (IsHit masked.now.alphabet.now masked.now.text.now masked.now.applied.now
+        (net_grammar masked.now.net.now) Ignore novar)
+        (map (hit_at masked.now.text.now) spans.items)) }
+    ensures within { IfOk result (λ spans. All (LiesIn masked.now.text.now) spans.items) }
+{
+    let mut spans = kept_spans(alloc, masked, policy)?;
     sort_spans(&mut spans);
     Ok(spans)
 }
 
 /// The spans that are kept, in the order in which they are found. Walks tell the ends,
 /// where they suit the net, otherwise a chart does.
-fn kept_spans<L: Ledger>(
-    alloc: Global,
-    net: &Net,
-    text: &Text,
-    alphabet: &Alphabet,
-    applied: &Applied,
-    policy: Policy,
-    steps: &mut Steps<L>,
-) -> Mem<Vec<Span>>
-    requires belongs { Belongs alphabet.now text.now applied.now }
-    requires searchable { IsSearchable net.now }
-    ensures { IfOk result (λ spans. AreKept policy first_in last_in (IsFound text.now
-        (IsSpanFrom (setting_of net.now text.now alphabet.now applied.now))) spans.items) }
+fn kept_spans(alloc: Global, masked: &MaskedText, policy: Policy) -> Mem<Vec<Span>>
+    requires table { HasTable masked.now }
+    requires searchable { IsSearchable masked.now.net.now }
+    ensures { IfOk result (λ spans. AreKept policy first_in last_in
+        (IsFound masked.now.text.now (IsSpanFrom (masked_setting masked.now))) spans.items) }
 {
-    if suits_walks(alloc, net)? {
-        return spans_by_walker(alloc, net, text, alphabet, applied, policy, steps);
+    if suits_walks(alloc, masked.net)? {
+        return spans_by_walker(alloc, masked, policy);
     }
-    spans_by_chart(alloc, net, text, alphabet, applied, policy, steps)
+    spans_by_chart(alloc, masked, policy)
 }
 
 /// The same, by a walker.
-fn spans_by_walker<L: Ledger>(
-    alloc: Global,
-    net: &Net,
-    text: &Text,
-    alphabet: &Alphabet,
-    applied: &Applied,
-    policy: Policy,
-    steps: &mut Steps<L>,
-) -> Mem<Vec<Span>>
-    requires belongs { Belongs alphabet.now text.now applied.now }
-    requires plain { ArePlain net.now }
-    ensures { IfOk result (λ spans. AreKept policy first_in last_in (IsFound text.now
-        (IsSpanFrom (setting_of net.now text.now alphabet.now applied.now))) spans.items) }
+fn spans_by_walker(alloc: Global, masked: &MaskedText, policy: Policy) -> Mem<Vec<Span>>
+    requires table { HasTable masked.now }
+    requires plain { ArePlain masked.now.net.now }
+    ensures { IfOk result (λ spans. AreKept policy first_in last_in
+        (IsFound masked.now.text.now (IsSpanFrom (masked_setting masked.now))) spans.items) }
 {
     // The walker is let go at one place alone: each costs the prover a look at all of its parts.
-    let mut walker = Walker::of(alloc, net, text, alphabet, applied)?;
-    spans_from_starts(alloc, policy, text, &mut walker, steps)
+    let mut walker = Walker::of(alloc, masked)?;
+    spans_from_starts(alloc, policy, masked.text, &mut walker)
 }
 
 /// The same, by a chart.
-fn spans_by_chart<L: Ledger>(
-    alloc: Global,
-    net: &Net,
-    text: &Text,
-    alphabet: &Alphabet,
-    applied: &Applied,
-    policy: Policy,
-    steps: &mut Steps<L>,
-) -> Mem<Vec<Span>>
-    requires belongs { Belongs alphabet.now text.now applied.now }
-    requires searchable { IsSearchable net.now }
-    ensures { IfOk result (λ spans. AreKept policy first_in last_in (IsFound text.now
-        (IsSpanFrom (setting_of net.now text.now alphabet.now applied.now))) spans.items) }
+fn spans_by_chart(alloc: Global, masked: &MaskedText, policy: Policy) -> Mem<Vec<Span>>
+    requires table { HasTable masked.now }
+    requires searchable { IsSearchable masked.now.net.now }
+    ensures { IfOk result (λ spans. AreKept policy first_in last_in
+        (IsFound masked.now.text.now (IsSpanFrom (masked_setting masked.now))) spans.items) }
 {
     // So is the chart.
-    let parts = Parts::of(alloc, net)?;
-    let chart = TextChart::fill(alloc, net, parts, text, alphabet, applied, steps)?;
-    spans_in_chart(alloc, policy, text, &chart, steps)
+    let parts = Parts::of(alloc, masked.net)?;
+    let chart = TextChart::fill(alloc, masked, parts)?;
+    spans_in_chart(alloc, policy, masked.text, &chart)
 }
 
 /// The same, by this chart.
-fn spans_in_chart<L: Ledger>(
-    alloc: Global,
-    policy: Policy,
-    text: &Text,
-    chart: &TextChart,
-    steps: &mut Steps<L>,
-) -> Mem<Vec<Span>>
+fn spans_in_chart(alloc: Global, policy: Policy, text: &Text, chart: &TextChart) -> Mem<Vec<Span>>
     requires chart { IsTextChart chart.now }
     requires made { (chart_setting chart.now).tokens ≡ text.now }
     ensures { IfOk result (λ spans. AreKept policy first_in last_in
         (IsFound text.now (IsSpanFrom (chart_setting chart.now))) spans.items) }
 {
-    spans_from_starts(alloc, policy, text, &mut ChartEnds::of(chart), steps)
+    spans_from_starts(alloc, policy, text, &mut ChartEnds::of(chart))
 }
 
 /// The same, by what tells the ends.
-fn spans_from_starts<E: Ends, L: Ledger>(
+fn spans_from_starts<E: Ends>(
     alloc: Global,
     policy: Policy,
     text: &Text,
     finder: &mut E,
-    steps: &mut Steps<L>,
 ) -> Mem<Vec<Span>>
     requires { (E.setting finder.now).tokens ≡ text.now }
     ensures { IfOk result (λ spans. AreKept policy first_in last_in
@@ -161,7 +151,7 @@ fn spans_from_starts<E: Ends, L: Ledger>(
         if !may_find(finder, text, start) {
             continue;
         }
-        find_ends(alloc, finder, start, &mut ends, steps)?;
+        find_ends(alloc, finder, start, &mut ends)?;
         push_spans(start, best_ends(policy, ends.as_slice()), &mut spans)?;
     }
     Ok(spans)

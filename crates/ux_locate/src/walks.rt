@@ -6,8 +6,7 @@ ghost use Rattle.ux_locate.specs.Hits.{IsStart};
 
 use crate::ends::Ends;
 use std::alloc::Global;
-use std::sync::ledger::Ledger;
-use ux_base::{Mem, Steps};
+use ux_base::Mem;
 use ux_tokens::{Kind, Text};
 
 /// Whether a search begins at the position, and a derivation from there may end.
@@ -33,16 +32,15 @@ pub fn is_start(text: &Text, position: usize) -> bool
 }
 
 /// Lets `ends` be the positions after the start at which a derivation from it ends, in order.
-pub fn find_ends<E: Ends, L: Ledger>(
+pub fn find_ends<E: Ends>(
     alloc: Global,
     finder: &mut E,
     start: usize,
     ends: &mut Vec<usize>,
-    steps: &mut Steps<L>,
 ) -> Mem<()>
     requires { IsStart (E.setting finder.now).tokens start }
     ensures same { E.setting finder.new ≡ E.setting finder.old }
     ensures ends { OnOk result (AreEnds (E.setting finder.old) start ends.new.items) }
 {
-    finder.list(alloc, start, ends, steps)
+    finder.list(alloc, start, ends)
 }

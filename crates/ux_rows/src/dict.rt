@@ -1,12 +1,14 @@
-//! What dictionaries find, by rows.
+//! What dictionaries find, by rows: the list of the entries, and their image.
 
 use crate::comparing::compare;
+use crate::image_lexicon::image_lexicon;
 use std::alloc::{AllocError, Global};
 use std::process::Abort;
 use std::test::Fail;
 use ux_alphabet::Alphabet;
 use ux_dela::{DelaError, Entry, print_delaf, read_delaf};
-use ux_dict::{AnyLexicon, Lexicon, ListLexicon, different};
+use ux_dict::{ListLexicon, different};
+use ux_lexicon::{AnyLexicon, Lexicon};
 
 /// The pairs of letters in all rows: `X` has none.
 pub(crate) const PAIRS: &str = "Tt\nHh\nEe\nCc\nAa\nÉé\n";
@@ -28,8 +30,11 @@ type Counts = (
     usize,
 );
 
-fn lexicon(alloc: Global, lines: &str) -> Result<AnyLexicon, Fail> {
-    Ok(AnyLexicon::List(ListLexicon::read(alloc, lines)?))
+/// The dictionaries of the lines: the list of their entries, and their image.
+fn lexicons(alloc: Global, lines: &str) -> Result<[AnyLexicon; 2], Fail> {
+    let list = AnyLexicon::List(ListLexicon::read(alloc, lines)?);
+    let image = AnyLexicon::Image(image_lexicon(alloc, lines)?);
+    Ok([list, image])
 }
 
 /// The entries as lines, each between brackets.
@@ -56,13 +61,16 @@ fn fitting(
 }
 
 /// The entries of the row that are found, as lines.
-fn found(alloc: Global, pairs: &str, row: &Fitting) -> Result<String, Fail> {
-    let entries = fitting(alloc, &lexicon(alloc, row.1)?, row.2, pairs)?;
+fn found(alloc: Global, lexicon: &AnyLexicon, pairs: &str, row: &Fitting) -> Result<String, Fail> {
+    let entries = fitting(alloc, lexicon, row.2, pairs)?;
     printed(alloc, &entries)
 }
 
 fn check_fitting(rt: &impl Abort, alloc: Global, pairs: &str, row: &Fitting) -> Result<(), Fail> {
-    compare(rt, row.0, found(alloc, pairs, row)?.as_str(), row.3);
+    for lexicon in &lexicons(alloc, row.1)? {
+        let lines = found(alloc, lexicon, pairs, row)?;
+        compare(rt, row.0, lines.as_str(), row.3);
+    }
     Ok(())
 }
 
@@ -73,16 +81,18 @@ fn may_begin(alloc: Global, lexicon: &AnyLexicon, text: &str) -> Result<bool, Fa
 }
 
 fn check_begun(rt: &impl Abort, alloc: Global, row: &Begun) -> Result<(), Fail> {
-    let may = may_begin(alloc, &lexicon(alloc, row.1)?, row.2)?;
-    compare(rt, row.0, may, row.3);
+    for lexicon in &lexicons(alloc, row.1)? {
+        compare(rt, row.0, may_begin(alloc, lexicon, row.2)?, row.3);
+    }
     Ok(())
 }
 
 fn check_counts(rt: &impl Abort, alloc: Global, row: &Counts) -> Result<(), Fail> {
-    let lexicon = lexicon(alloc, row.1)?;
-    compare(rt, row.0, lexicon.exact(row.2), row.3);
-    compare(rt, row.0, lexicon.longest(), row.4);
-    compare(rt, row.0, lexicon.count(), row.5);
+    for lexicon in &lexicons(alloc, row.1)? {
+        compare(rt, row.0, lexicon.exact(row.2), row.3);
+        compare(rt, row.0, lexicon.longest(), row.4);
+        compare(rt, row.0, lexicon.count(), row.5);
+    }
     Ok(())
 }
 
@@ -171,11 +181,11 @@ fn entries_are_counted(rt: HostRuntime) -> Result<(), Fail> {
     Ok(())
 }
 
-/// The dictionary of one entry, whose form is 10,000 times `a`.
-fn long_lexicon(alloc: Global) -> Result<AnyLexicon, Fail> {
+/// The dictionaries of one entry, whose form is 10,000 times `a`.
+fn long_lexicons(alloc: Global) -> Result<[AnyLexicon; 2], Fail> {
     let mut line = "a".repeat(alloc, 10000)?;
     line.push_str(",.N")?;
-    lexicon(alloc, line.as_str())
+    lexicons(alloc, line.as_str())
 }
 
 /// The number of entries whose form is 10,000 times the letter.
@@ -205,7 +215,10 @@ fn check_long(rt: &impl Abort, alloc: Global, lexicon: &AnyLexicon) -> Result<()
 
 #[test]
 fn a_long_form_is_found(rt: HostRuntime) -> Result<(), Fail> {
-    check_long(&rt, rt.alloc(), &long_lexicon(rt.alloc())?)
+    for lexicon in &long_lexicons(rt.alloc())? {
+        check_long(&rt, rt.alloc(), lexicon)?;
+    }
+    Ok(())
 }
 
 #[test]

@@ -8,11 +8,11 @@ use std::process::Abort;
 use std::test::Fail;
 use ux_alphabet::Alphabet;
 use ux_dela::{Entry, read_delaf};
-use ux_dict::{Lexicon, ListLexicon};
+use ux_dict::{ListLexicon, different};
 use ux_image::{image_of, is_content};
 use ux_image_lexicon::{ImageLexicon, read_image};
 
-/// A name, a dictionary's lines in order of form, a text, the entries whose forms fit it, each between
+/// A name, a dictionary's lines, a text, the entries whose forms fit it, each between
 /// brackets, whether a form may begin with it, the longest form's length, and how many entries have
 /// exactly this form, and how many there are.
 type Found = (
@@ -43,15 +43,16 @@ fn image(alloc: Global, entries: &[Entry]) -> Result<Vec<u8>, Fail> {
 
 /// The dictionary of an image that isn't too long.
 fn lexicon(alloc: Global, bytes: &[u8]) -> Result<ImageLexicon, Fail> {
-    if bytes.len() < 1000 {
+    if bytes.len() < 1_000_000 {
         return Ok(read_image(alloc, bytes)?);
     }
     Ok(read_image(alloc, &[])?)
 }
 
 /// The dictionary of the lines, as an image.
-fn image_lexicon(alloc: Global, lines: &str) -> Result<ImageLexicon, Fail> {
-    let entries = read_delaf(alloc, lines)?;
+pub(crate) fn image_lexicon(alloc: Global, lines: &str) -> Result<ImageLexicon, Fail> {
+    let mut entries = different(alloc, read_delaf(alloc, lines)?)?;
+    entries.sort_by(|entry, other| entry.form.as_str().cmp(&other.form.as_str()))?;
     let bytes = image(alloc, &entries)?;
     lexicon(alloc, &bytes)
 }

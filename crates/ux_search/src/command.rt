@@ -5,6 +5,7 @@ ghost use Rattle.ux_base.specs.Outside.{IsLater};
 ghost use Rattle.ux_net.specs.Nets.{net_grammar};
 ghost use Rattle.ux_plan.specs.Plans.{Answers, Halts};
 ghost use Rattle.ux_apply.specs.Belonging.{Belongs};
+ghost use Rattle.ux_dictionaries.specs.Dictionaries.{contents_of};
 ghost use Rattle.ux_locate.specs.Hits.{IsHit};
 ghost use Rattle.ux_locate.specs.Index.{IsIndex};
 ghost use Rattle.ux_locate.specs.Searchable.{IsSearchable};
@@ -56,8 +57,8 @@ pub fn locate<F: Folder>(
 /// are freed before it is searched.
 fn index_of(alloc: Global, files: Files, mode: Mode, policy: Policy, novar: NoVar) -> Mem<Vec<u8>>
     requires { IsSearchable files.net }
-    ensures { IfOk result (λ index. IsAppliedIndex files.alphabet files.text files.dics.items
-        (net_grammar files.net) mode policy novar index.items) }
+    ensures { IfOk result (λ index. IsAppliedIndex files.alphabet files.text
+        (contents_of files.dics.items) (net_grammar files.net) mode policy novar index.items) }
 {
     let Files {
         alphabet,

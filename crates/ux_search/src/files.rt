@@ -7,6 +7,7 @@
 ghost use Rattle.std.specs.Prelude.{IfErr, IfOk};
 ghost use Rattle.ux_base.specs.Outside.{IsLater};
 ghost use Rattle.ux_plan.specs.Plans.{Halts};
+ghost use Rattle.ux_dictionaries.specs.Dictionaries.{contents_of};
 ghost use Rattle.ux_search.specs.Locate.{AreFiles, search_plan};
 
 use crate::reason::Reason;
@@ -14,9 +15,9 @@ use std::alloc::Global;
 use ux_alphabet::Alphabet;
 use ux_apply::Priority;
 use ux_base::{Folder, Txt};
-use ux_dict::ListLexicon;
 use ux_dictionaries::read_dictionaries;
 use ux_grammars::read_net;
+use ux_lexicon::AnyLexicon;
 use ux_net::Net;
 use ux_plan::Stop;
 use ux_texts::{read_alphabet, read_text};
@@ -32,7 +33,7 @@ pub struct Files {
     /// The tokens.
     pub text: Text,
     /// The dictionaries, each with its priority.
-    pub dics: Vec<(Priority, ListLexicon)>,
+    pub dics: Vec<(Priority, AnyLexicon)>,
 }
 
 /// Reads the files of a search.
@@ -49,7 +50,7 @@ pub fn read_files<F: Folder>(
     ensures later { IsLater (F.seen folder.old) (F.seen folder.new) }
     ensures ok { IfOk result (λ files. AreFiles
         (search_plan graph.now text.now alphabet.now dics.now chars) (F.seen folder.old).files
-        files.alphabet files.net files.text files.dics.items) }
+        files.alphabet files.net files.text (contents_of files.dics.items)) }
     ensures err { IfErr result
         (Halts (search_plan graph.now text.now alphabet.now dics.now chars) (F.seen folder.old)
         (F.seen folder.new)) }

@@ -2,8 +2,9 @@
 //!
 //! The text is `The`, a space, `cat`, a comma, a space, `x`.
 
-ghost use Rattle.std.specs.Prelude.{◌≡◌, ◌≤◌, ◌<◌, IfOk, length};
+ghost use Rattle.std.specs.Prelude.{◌≡◌, ◌<◌, IfOk};
 ghost use Rattle.ux_apply.specs.Belonging.{Belongs};
+ghost use Rattle.ux_mask_table.specs.MaskedTexts.{HasTable};
 
 use crate::comparing::compare;
 use crate::graphs::compiled;
@@ -16,6 +17,7 @@ use ux_alphabet::Alphabet;
 use ux_apply::{Applied, Priority};
 use ux_base::{Lst, Mem, Steps};
 use ux_dict::ListLexicon;
+use ux_mask_table::MaskedText;
 use ux_net::Net;
 use ux_outputs::Event;
 use ux_tokens::Text;
@@ -39,16 +41,13 @@ pub fn without_dictionaries(alloc: Global, text: &Text, alphabet: &Alphabet) -> 
     Applied::of(alloc, text, alphabet, &dics)
 }
 
-/// The ends of the walks from a position, or `outside`.
+/// The ends of the walks from a position, `outside`, or `contexts`.
 fn walked(alloc: Global, net: &Net, text: &Text, alphabet: &Alphabet, start: usize) -> Mem<String> {
-    if start > text.len() {
-        return Ok(String::from_str(alloc, "outside")?);
-    }
     let applied = without_dictionaries(alloc, text, alphabet)?;
     walked_by::<Brand>(alloc, net, text, alphabet, &applied, start, Blank::new(1))
 }
 
-/// The ends of the walks from a position, with no step taken before, or `contexts`.
+/// The same, with no step taken before.
 fn walked_by<L: Ledger>(
     alloc: Global,
     net: &Net,
@@ -62,21 +61,22 @@ fn walked_by<L: Ledger>(
     requires parts { blank.parts ≡ L.parts }
     requires some { 0 < blank.parts }
     requires belongs { Belongs alphabet.now text.now applied.now }
-    requires inside { start ≤ length text.now }
 {
     let mut steps = Steps::<L>::new(blank);
-    net.is_measured();
-    if net.is_plain() {
-        let found = walk(
-            alloc,
-            net,
-            &NoContexts,
-            text,
-            alphabet,
-            applied,
-            start,
-            &mut steps,
-        )?;
+    let masked = MaskedText::of(alloc, net, text, alphabet, applied, &mut steps)?;
+    walked_in(alloc, &masked, start)
+}
+
+/// The same, in a text with what its masks accept.
+fn walked_in(alloc: Global, masked: &MaskedText, start: usize) -> Mem<String>
+    requires { HasTable masked.now }
+{
+    if start > masked.text.len() {
+        return Ok(String::from_str(alloc, "outside")?);
+    }
+    masked.net.is_measured();
+    if masked.net.is_plain() {
+        let found = walk(alloc, masked, &NoContexts, start)?;
         return Ok(ends(alloc, &found)?);
     }
     Ok(String::from_str(alloc, "contexts")?)

@@ -3,8 +3,9 @@
 //!
 //! The text is that of `walk`: `The`, a space, `cat`, a comma, a space, `x`.
 
-ghost use Rattle.std.specs.Prelude.{◌≡◌, ◌<◌, length};
+ghost use Rattle.std.specs.Prelude.{◌≡◌, ◌<◌};
 ghost use Rattle.ux_apply.specs.Belonging.{Belongs};
+ghost use Rattle.ux_mask_table.specs.MaskedTexts.{HasTable};
 
 use crate::comparing::compare;
 use crate::walk::{letters, one_box, read, without_dictionaries};
@@ -16,6 +17,7 @@ use std::test::Fail;
 use ux_alphabet::Alphabet;
 use ux_apply::Applied;
 use ux_base::{Mem, Steps};
+use ux_mask_table::MaskedText;
 use ux_net::Net;
 use ux_tokens::Text;
 use ux_walker::Walker;
@@ -23,16 +25,13 @@ use ux_walker::Walker;
 /// A name, the content of the box or the boxes, the position, and the ends.
 type Row = (&'static str, &'static str, usize, &'static str);
 
-/// The ends from a position, or `outside`.
+/// The ends from a position, `outside`, or `contexts`.
 fn way(alloc: Global, net: &Net, text: &Text, alphabet: &Alphabet, start: usize) -> Mem<String> {
-    if start >= text.len() {
-        return Ok(String::from_str(alloc, "outside")?);
-    }
     let applied = without_dictionaries(alloc, text, alphabet)?;
     way_by::<Brand>(alloc, net, text, alphabet, &applied, start, Blank::new(1))
 }
 
-/// The ends from a position, with no step taken before, or `contexts`.
+/// The same, with no step taken before.
 fn way_by<L: Ledger>(
     alloc: Global,
     net: &Net,
@@ -46,13 +45,23 @@ fn way_by<L: Ledger>(
     requires parts { blank.parts ≡ L.parts }
     requires some { 0 < blank.parts }
     requires belongs { Belongs alphabet.now text.now applied.now }
-    requires inside { start < length text.now }
 {
     let mut steps = Steps::<L>::new(blank);
-    if net.is_plain() {
-        let mut walker = Walker::of(alloc, net, text, alphabet, applied)?;
+    let masked = MaskedText::of(alloc, net, text, alphabet, applied, &mut steps)?;
+    way_in(alloc, &masked, start)
+}
+
+/// The same, in a text with what its masks accept.
+fn way_in(alloc: Global, masked: &MaskedText, start: usize) -> Mem<String>
+    requires { HasTable masked.now }
+{
+    if start >= masked.text.len() {
+        return Ok(String::from_str(alloc, "outside")?);
+    }
+    if masked.net.is_plain() {
+        let mut walker = Walker::of(alloc, masked)?;
         let mut ends = Vec::new(alloc);
-        walker.ends_from(alloc, start, &mut ends, &mut steps)?;
+        walker.ends_from(alloc, start, &mut ends)?;
         return Ok(told(alloc, ends.as_slice(), walker.may_begin(start))?);
     }
     Ok(String::from_str(alloc, "contexts")?)

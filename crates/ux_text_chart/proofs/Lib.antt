@@ -1,7 +1,4 @@
-pub mod SpansLemmas
-pub mod NetMasksLemmas
-pub mod MaskTableLemmas
-pub mod MaskedTextLemmas
+pub mod LeadingLemmas
 pub mod PartIndexLemmas
 pub mod StateIndexLemmas
 pub mod LikelyLemmas

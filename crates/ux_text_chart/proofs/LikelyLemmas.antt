@@ -35,7 +35,7 @@ use Rattle.ux_walk.specs.Literals.{IsFitted, IsLiteral}
 use Rattle.ux_walk.specs.Settings.{applied_text}
 use Rattle.ux_chart.specs.Likely.{AreLikely, ReachesSome}
 use Rattle.ux_chart.proofs.Entering.{single}
-use Rattle.ux_text_chart.specs.MaskedTexts.{MayLead}
+use Rattle.ux_text_chart.specs.Leading.{MayLead}
 use Rattle.ux_text_chart.specs.Likely.{IsLikelyRow, IsTokenAt, MayBegin, MayLeadTo, SomeLeads}
 use Rattle.ux_text_chart.specs.PartIndexes.{IsNoLater, IsPartIndex, IsTried, begins_at}
 use Rattle.ux_text_chart.specs.declared.part_index.PartIndex.{PartIndex}

@@ -1,6 +1,4 @@
-pub mod Spans
-pub mod MaskTables
-pub mod MaskedTexts
+pub mod Leading
 pub mod PartIndexes
 pub mod Likely
 pub mod TextBases

@@ -16,7 +16,7 @@ use Rattle.ux_chart.specs.Likely.{ReachesSome}
 use Rattle.ux_outputs.specs.Rendering.{skip}
 use Rattle.ux_tokens.specs.Numbers.{different_texts}
 use Rattle.ux_tokens.specs.Tokens.{Token}
-use Rattle.ux_text_chart.specs.MaskedTexts.{MayLead}
+use Rattle.ux_text_chart.specs.Leading.{MayLead}
 
 -- the part of the graph, where there is one, stands in the row
 abbrev pub IsListed : Parts → (row : List ℕ) → (graph : ℕ) → Type 0

@@ -1,18 +1,19 @@
 -- The chart of a net over a text. Public: its contracts speak of it.
 use Rattle.std.specs.Prelude.{length}
+use Rattle.ux_mask_table.specs.MaskedTexts.{HasTable}
 use Rattle.ux_parts.specs.Parts.{ArePartsOf}
 use Rattle.ux_chart.specs.Rows.{IsChart}
-use Rattle.ux_walk.specs.Settings.{Setting}
+use Rattle.ux_walk.specs.Settings.{Setting, masked_setting}
 use Rattle.ux_text_chart.specs.declared.text_chart.TextChart.{TextChart}
-use Rattle.ux_text_chart.specs.MaskedTexts.{HasTable, input_of, masked_setting}
+use Rattle.ux_text_chart.specs.Leading.{input_of}
 
 -- what a chart is made for
 abbrev pub chart_setting : TextChart → Setting
-chart_setting chart = masked_setting chart.basis.text
+chart_setting chart = masked_setting chart.basis.text.now
 
 -- the chart is that of its setting
 pub record IsTextChart (chart : TextChart) : Type 0 where
-  pub table : HasTable chart.basis.text
+  pub table : HasTable chart.basis.text.now
   pub parts : ArePartsOf (chart_setting chart).net chart.parts
   pub filled : IsChart (input_of (chart_setting chart)) (chart_setting chart).net chart.parts
       (length (chart_setting chart).tokens) chart.chart

@@ -5,7 +5,7 @@
 //! are tried first, which takes less than a search. A call leads on only where the part that it
 //! calls is worth a search, and that part comes before.
 
-ghost use Rattle.std.specs.Prelude.{◌≡◌, ◌+◌, ◌≤◌, ◌↔◌, Some, Contains, IsTrue, OnOk, length, slice_get};
+ghost use Rattle.std.specs.Prelude.{◌≡◌, ◌+◌, ◌↔◌, Some, Contains, IsTrue, OnOk, length, slice_get};
 ghost use Rattle.std.specs.List.Sorted.{IsStrictlyIncreasing};
 ghost use Rattle.ux_net.specs.declared.state.Edge.{Edge};
 ghost use Rattle.ux_parts.specs.Ordered.{GoesAhead};
@@ -13,14 +13,17 @@ ghost use Rattle.ux_parts.specs.Parts.{ArePartsOf};
 ghost use Rattle.ux_parts.specs.declared.part.Part.{Part};
 ghost use Rattle.ux_chart.specs.Likely.{AreKnown, AreLikely};
 ghost use Rattle.ux_tokens.specs.Numbers.{different_texts};
-ghost use Rattle.ux_text_chart.specs.MaskedTexts.{IsKnown, input_of, masked_setting};
+ghost use Rattle.ux_mask_table.specs.MaskedTexts.{IsKnown};
+ghost use Rattle.ux_text_chart.specs.Leading.{input_of};
+ghost use Rattle.ux_walk.specs.Settings.{masked_setting};
 ghost use Rattle.ux_text_chart.specs.PartIndexes.{IsPartIndex};
 ghost use Rattle.ux_text_chart.specs.Likely.{IsLikelyRow, IsListed, MayBegin, MayLeadTo, SomeLeads};
 
-use crate::masked_text::MaskedText;
+use crate::leading::may_lead;
 use crate::part_index::PartIndex;
 use crate::state_indexes::{has_index, token_at};
 use ux_base::Mem;
+use ux_mask_table::MaskedText;
 use ux_net::{Edge, Label};
 use ux_parts::Parts;
 
@@ -39,7 +42,6 @@ pub fn likely_parts(
     requires parts { ArePartsOf text.now.net.now parts.now }
     requires index { IsPartIndex text.now.alphabet.now (different_texts text.now.text.now)
         text.now.net.now parts.now index.now }
-    requires inside { at ≤ length text.now.text.now }
     ensures { OnOk result (AreLikely (input_of (masked_setting text.now)) text.now.net.now
         parts.now at row.new.items) }
 {
@@ -65,7 +67,6 @@ fn add_part(
     requires known { AreKnown (IsKnown text.now) text.now.net.now }
     requires ahead { GoesAhead (input_of (masked_setting text.now)) (length text.now.text.now) }
     requires parts { ArePartsOf text.now.net.now parts.now }
-    requires inside { at ≤ length text.now.text.now }
     requires row { IsLikelyRow (input_of (masked_setting text.now)) text.now.net.now parts.now
         row.old.items at number }
     ensures { OnOk result (IsLikelyRow (input_of (masked_setting text.now)) text.now.net.now
@@ -89,7 +90,6 @@ fn may_reach(
     row: &[u32],
 ) -> bool
     requires known { AreKnown (IsKnown text.now) text.now.net.now }
-    requires inside { at ≤ length text.now.text.now }
     requires row { IsStrictlyIncreasing row.now }
     ensures { (part : Part) → slice_get parts.now.list number ≡ Some part →
         MayBegin (input_of (masked_setting text.now)) text.now.net.now parts.now row.now part at →
@@ -116,7 +116,6 @@ fn has_many(text: &MaskedText<'_>, parts: &Parts, number: u32) -> bool {
 /// that may stand in the row.
 fn may_begin(text: &MaskedText<'_>, parts: &Parts, number: u32, at: usize, row: &[u32]) -> bool
     requires known { AreKnown (IsKnown text.now) text.now.net.now }
-    requires inside { at ≤ length text.now.text.now }
     requires row { IsStrictlyIncreasing row.now }
     ensures { IsTrue result ↔ ((part : Part) × (slice_get parts.now.list number ≡ Some part)
         × MayBegin (input_of (masked_setting text.now)) text.now.net.now parts.now row.now part
@@ -134,7 +133,6 @@ fn may_begin(text: &MaskedText<'_>, parts: &Parts, number: u32, at: usize, row: 
 /// Whether one of the edges may lead on from a position.
 fn some_leads(text: &MaskedText<'_>, parts: &Parts, row: &[u32], edges: &[Edge], at: usize) -> bool
     requires known { (edge : Edge) → Contains edges.now edge → IsKnown text.now edge.label }
-    requires inside { at ≤ length text.now.text.now }
     requires row { IsStrictlyIncreasing row.now }
     ensures { IsTrue result
         ↔ SomeLeads (input_of (masked_setting text.now)) parts.now row.now edges.now at }
@@ -150,7 +148,6 @@ fn some_leads(text: &MaskedText<'_>, parts: &Parts, row: &[u32], edges: &[Edge],
 /// Whether a label may lead on from a position: a call, where the part that it calls may.
 fn leads(text: &MaskedText<'_>, parts: &Parts, row: &[u32], label: &Label, at: usize) -> bool
     requires known { IsKnown text.now label.now }
-    requires inside { at ≤ length text.now.text.now }
     requires row { IsStrictlyIncreasing row.now }
     ensures { IsTrue result
         ↔ MayLeadTo (input_of (masked_setting text.now)) parts.now row.now label.now at }
@@ -158,7 +155,7 @@ fn leads(text: &MaskedText<'_>, parts: &Parts, row: &[u32], label: &Label, at: u
     if let Label::Call(graph) = label {
         return is_listed(parts, row, *graph);
     }
-    text.may_lead(label, at)
+    may_lead(text, label, at)
 }
 
 /// Whether the part of a graph, if there is one, stands in the row.

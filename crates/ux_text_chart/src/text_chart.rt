@@ -1,31 +1,29 @@
 //! The chart of a net over a text.
 
-ghost use Rattle.std.specs.Prelude.{◌≡◌, ℕ, ◌+◌, ◌*◌, ◌≤◌, ◌↔◌, List, Contains, IfOk, length};
+ghost use Rattle.std.specs.Prelude.{◌≡◌, ℕ, ◌≤◌, ◌↔◌, List, Contains, IfOk, length};
 ghost use Rattle.std.specs.List.Sorted.{IsStrictlyIncreasing};
 ghost use Rattle.ux_apply.specs.Accepting.{Accepts};
-ghost use Rattle.ux_apply.specs.Belonging.{Belongs};
-ghost use Rattle.ux_net.specs.Masks.{IsMaskCount, masks_of};
+ghost use Rattle.ux_mask_table.specs.MaskedTexts.{HasTable};
+ghost use Rattle.ux_net.specs.Masks.{masks_of};
 ghost use Rattle.ux_net.specs.Nets.{net_grammar};
-ghost use Rattle.ux_outputs.specs.Rendering.{skip};
+ghost use Rattle.ux_outputs.specs.Rendering.{skip as skip_of};
 ghost use Rattle.ux_outputs.specs.declared.event.Event.{Event};
 ghost use Rattle.ux_meaning.specs.Meaning.{Der};
 ghost use Rattle.ux_parts.specs.Parts.{ArePartsOf};
 ghost use Rattle.ux_meaning.specs.Contexts.{Applies, IsOpening};
-ghost use Rattle.ux_walk.specs.Settings.{setting_of};
-ghost use Rattle.ux_text_chart.specs.MaskedTexts.{input_of};
+ghost use Rattle.ux_text_chart.specs.Leading.{input_of};
+ghost use Rattle.ux_walk.specs.Settings.{masked_setting};
 ghost use Rattle.ux_text_chart.specs.TextCharts.{IsTextChart, chart_setting};
 
 use crate::text_basis::TextBasis;
 use std::alloc::Global;
-use std::sync::ledger::Ledger;
-use ux_alphabet::Alphabet;
-use ux_apply::Applied;
-use ux_base::{Mem, Steps};
+use ux_base::Mem;
 use ux_chart::Chart;
+use ux_mask_table::MaskedText;
 use ux_masks::Mask;
-use ux_net::{Edge, Net};
+use ux_net::Edge;
 use ux_parts::Parts;
-use ux_tokens::Text;
+use ux_walk::matching::skip;
 
 /// What the parts of a net reach from each position of a text.
 #[derive(Drop)]
@@ -39,27 +37,15 @@ pub struct TextChart<'a> {
 }
 
 impl<'a> TextChart<'a> {
-    /// The chart of a net over a text. Each different mask takes at most one step a position; all
-    /// else takes none.
-    pub fn fill<L: Ledger>(
-        alloc: Global,
-        net: &'a Net,
-        parts: Parts,
-        text: &'a Text,
-        alphabet: &'a Alphabet,
-        applied: &'a Applied,
-        steps: &mut Steps<L>,
-    ) -> Mem<TextChart<'a>>
-        requires parts { ArePartsOf net.now parts }
-        requires belongs { Belongs alphabet.now text.now applied.now }
-        ensures setting { IfOk result (λ chart.
-            chart_setting chart ≡ setting_of net.now text.now alphabet.now applied.now) }
+    /// The chart of a text and its net. No mask is tried: what masks accept is looked up.
+    pub fn fill(alloc: Global, masked: &'a MaskedText<'a>, parts: Parts) -> Mem<TextChart<'a>>
+        requires table { HasTable masked.now }
+        requires parts { ArePartsOf masked.now.net.now parts }
+        ensures setting { IfOk result (λ chart. chart_setting chart ≡ masked_setting masked.now) }
         ensures chart { IfOk result (λ chart. IsTextChart chart) }
-        ensures steps { (count : ℕ) → IsMaskCount net.now count →
-            steps.new ≤ steps.old + count * (length text.now + 1) }
     {
-        let basis = TextBasis::of(alloc, net, &parts, text, alphabet, applied, steps)?;
-        let chart = Chart::fill(alloc, &basis, net, &parts)?;
+        let basis = TextBasis::of(alloc, masked, &parts)?;
+        let chart = Chart::fill(alloc, &basis, masked.net, &parts)?;
         Ok(TextChart {
             basis,
             parts,
@@ -105,17 +91,17 @@ impl<'a> TextChart<'a> {
     }
 
     /// The positions after the spans that a mask of the net accepts from a position, after an
-    /// optional space, ascending. Takes no memory.
-    pub fn mask_ends(&self, mask: &Mask, at: usize) -> &[usize]
+    /// optional space, ascending.
+    pub fn mask_ends(&self, alloc: Global, mask: &Mask, at: usize) -> Mem<Vec<usize>>
         requires chart { IsTextChart self.now }
         requires mask { Contains (masks_of (chart_setting self.now).net) mask.now }
-        requires inside { at ≤ length (chart_setting self.now).tokens }
-        ensures exactly { (k : ℕ) → Contains result.now k ↔ Accepts
+        ensures exactly { IfOk result (λ ends. (k : ℕ) → Contains ends.items k ↔ Accepts
             (chart_setting self.now).alphabet (chart_setting self.now).tokens
             (chart_setting self.now).tables mask.now
-            (skip (chart_setting self.now).tokens at) k }
-        ensures ascending { IsStrictlyIncreasing result.now }
+            (skip_of (chart_setting self.now).tokens at) k) }
+        ensures ascending { IfOk result (λ ends. IsStrictlyIncreasing ends.items) }
     {
-        self.basis.text.mask_ends(mask, at)
+        let masked = self.basis.text;
+        masked.mask_ends(alloc, mask, skip(masked.text, at))
     }
 }

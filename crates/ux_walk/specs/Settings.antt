@@ -4,6 +4,7 @@ use Rattle.ux_alphabet.specs.Letters.{Letters}
 use Rattle.ux_tokens.specs.Tokens.{Token}
 use Rattle.ux_net.specs.declared.net_graph.NetGraph.{NetGraph}
 use Rattle.ux_net.specs.Nets.{net_grammar}
+use Rattle.ux_mask_table.specs.declared.masked_text.MaskedText.{MaskedText}
 use Rattle.ux_outputs.specs.declared.event.Event.{Event}
 use Rattle.ux_apply.specs.Accepting.{Accepts}
 use Rattle.ux_apply.specs.Tables.{Tables}
@@ -22,6 +23,10 @@ pub record Setting : Type 0 where
 abbrev pub setting_of : List NetGraph → List Token → Letters → Tables → Setting
 setting_of net tokens alphabet tables =
     record { net = net; tokens = tokens; alphabet = alphabet; tables = tables }
+
+-- what the text is read for
+abbrev pub masked_setting : MaskedText → Setting
+masked_setting text = setting_of text.net.now text.text.now text.alphabet.now text.applied.now
 
 -- a text as input, with the entries that apply to it
 abbrev pub applied_text : Letters → List Token → Tables → Input

@@ -25,7 +25,8 @@
 //! there.
 //!
 //! ```text
-//! let found = walk(alloc, &net, &NoContexts, &text, &alphabet, &applied, start, steps)?;
+//! let masked = MaskedText::of(alloc, &net, &text, &alphabet, &applied, steps)?;
+//! let found = walk(alloc, &masked, &NoContexts, start)?;
 //! ```
 #![tactic(auto)]
 

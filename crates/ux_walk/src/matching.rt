@@ -1,9 +1,9 @@
 //! How a label applies at a position of the text.
 
 ghost use Rattle.std.specs.Prelude.{◌≡◌, ◌+◌, ◌^◌, ◌<◌, ◌↔◌, ℕ, Contains, IfOk, IsTrue, IsSome, IsSomeAnd, Some, length, slice_get};
-ghost use Rattle.ux_apply.specs.Accepting.{Accepts};
-ghost use Rattle.ux_apply.specs.Belonging.{Belongs};
+ghost use Rattle.ux_mask_table.specs.MaskedTexts.{HasTable, IsKnown, accepts_in};
 ghost use Rattle.ux_net.specs.declared.label.Label.{Label};
+ghost use Rattle.ux_net.specs.Masks.{masks_of};
 ghost use Rattle.ux_outputs.specs.Rendering.{kind_of, skip as skip_of};
 ghost use Rattle.ux_meaning.specs.Texts.{Folds, FoldsTo, IsBraced, IsSpaceAt, MayStandFor, TakesOne, TakesToken};
 ghost use Rattle.ux_walk.specs.Contexts.{Opens};
@@ -11,10 +11,9 @@ ghost use Rattle.ux_walk.specs.Courses.{Passes, TakesPlainly};
 ghost use Rattle.ux_walk.specs.Passages.{TakesUpTo};
 
 use std::alloc::Global;
-use std::sync::ledger::Ledger;
 use ux_alphabet::Alphabet;
-use ux_apply::Applied;
-use ux_base::{Mem, Steps};
+use ux_base::Mem;
+use ux_mask_table::MaskedText;
 use ux_masks::Mask;
 use ux_net::Label;
 use ux_tokens::{Kind, Text};
@@ -46,32 +45,33 @@ impl Passage {
 }
 
 /// How the label applies at the position. One that closes a context doesn't apply by itself. A mask
-/// takes one step, and memory for the positions up to which it takes tokens.
-pub fn passage_at<L: Ledger>(
+/// has to stand in the net: it is looked up in the table, and takes memory for the positions up to
+/// which it takes tokens.
+pub fn passage_at(
     alloc: Global,
-    text: &Text,
-    alphabet: &Alphabet,
-    applied: &Applied,
+    masked: &MaskedText,
     label: &Label,
     position: usize,
-    steps: &mut Steps<L>,
 ) -> Mem<Passage>
-    requires belongs { Belongs alphabet.now text.now applied.now }
+    requires known { IsKnown masked.now label.now }
     ensures takes { IfOk result (λ passage. (k : ℕ) → TakesUpTo passage k
-        ↔ TakesPlainly alphabet.now text.now applied.now label.now position k) }
+        ↔ TakesPlainly masked.now.alphabet.now masked.now.text.now masked.now.applied.now
+        label.now position k) }
     ensures stays { IfOk result (λ passage.
-        (passage ≡ Passage.Stays) ↔ Passes text.now label.now position) }
+        (passage ≡ Passage.Stays) ↔ Passes masked.now.text.now label.now position) }
     ensures calls { IfOk result (λ passage. (graph : ℕ) →
         (passage ≡ Passage.Calls graph) ↔ (label.now ≡ Label.Call graph)) }
     ensures opens { IfOk result (λ passage. (passage ≡ Passage.Opens) ↔ Opens label.now) }
 {
+    let text = masked.text;
+    let alphabet = masked.alphabet;
     match label {
         Label::Empty | Label::Begin(_) | Label::End(_) | Label::Cut => Ok(Passage::Stays),
         Label::Fold(entry) => Ok(taking(after_fold(text, alphabet, entry.as_str(), position))),
         Label::Exact(exact) => Ok(taking(after_exact(text, exact.as_str(), position))),
         Label::Brace(brace) => Ok(taking(after_brace(text, brace.as_str(), position))),
         Label::Mask(mask) => {
-            let ends = after_mask(alloc, text, alphabet, applied, mask, position, steps)?;
+            let ends = after_mask(alloc, masked, mask, position)?;
             Ok(Passage::Spans(ends))
         },
         Label::Space => Ok(taking(after_space(text, position))),
@@ -110,24 +110,13 @@ fn staying(is_open: bool) -> Passage
 }
 
 /// The positions after the spans that the mask accepts, which may stand after a space.
-fn after_mask<L: Ledger>(
-    alloc: Global,
-    text: &Text,
-    alphabet: &Alphabet,
-    applied: &Applied,
-    mask: &Mask,
-    position: usize,
-    steps: &mut Steps<L>,
-) -> Mem<Vec<usize>>
-    requires belongs { Belongs alphabet.now text.now applied.now }
+fn after_mask(alloc: Global, masked: &MaskedText, mask: &Mask, position: usize) -> Mem<Vec<usize>>
+    requires table { HasTable masked.now }
+    requires mask { Contains (masks_of masked.now.net.now) mask.now }
     ensures { IfOk result (λ ends. (k : ℕ) → Contains ends.items k
-        ↔ Accepts alphabet.now text.now applied.now mask.now (skip_of text.now position) k) }
+        ↔ accepts_in masked.now mask.now (skip_of masked.now.text.now position) k) }
 {
-    let position = skip(text, position);
-    if text.len() <= position {
-        return Ok(Vec::new(alloc));
-    }
-    applied.ends(alloc, text, alphabet, mask, position, steps)
+    masked.mask_ends(alloc, mask, skip(masked.text, position))
 }
 
 /// The position after the token whose characters the entry fits, which may stand after a space.

@@ -2,8 +2,8 @@
 
 ghost use Rattle.std.specs.Prelude.{◌≡◌, ◌<◌, ◌≤◌, ◌↔◌, ℕ, List, [], ◌∷◌, ◌++◌, Contains, IfOk, IfSome, IsTrue, OnOk, length, option_copied, reverse, slice_get, Some};
 ghost use Rattle.ux_alphabet.specs.Letters.{Letters};
-ghost use Rattle.ux_apply.specs.Belonging.{Belongs};
 ghost use Rattle.ux_apply.specs.Tables.{Tables};
+ghost use Rattle.ux_mask_table.specs.MaskedTexts.{AreEdgesKnown, HasTable, IsKnown};
 ghost use Rattle.ux_net.specs.declared.net_graph.NetGraph.{NetGraph};
 ghost use Rattle.ux_net.specs.Nets.{states_of};
 ghost use Rattle.ux_outputs.specs.declared.event.Event.{Event};
@@ -19,7 +19,7 @@ ghost use Rattle.ux_walk.specs.Contexts.{ContextsTold, MayAsk, Opens};
 ghost use Rattle.ux_walk.specs.Courses.{Course, GoesOn, IsBehind, IsClosed, IsOver, IsOverAt, IsOverSome, IsOverSomeAt, at_state, passing, put_event, put_events};
 ghost use Rattle.ux_walk.specs.Noted.{StandsFor};
 ghost use Rattle.ux_walk.specs.Passages.{IsPassage};
-ghost use Rattle.ux_walk.specs.Settings.{setting_of};
+ghost use Rattle.ux_walk.specs.Settings.{masked_setting};
 
 use crate::config::{Config, Found, Frame, Return, Visit};
 use crate::contexts::Contexts;
@@ -33,14 +33,11 @@ use crate::sets::{add, number, put, stand_once};
 use crate::texts::Texts;
 use indexmap::IndexSet;
 use std::alloc::Global;
-use std::sync::ledger::Ledger;
-use ux_alphabet::Alphabet;
-use ux_apply::Applied;
-use ux_base::{Lst, Mem, Steps};
+use ux_base::{Lst, Mem};
 use ux_grf::Piece;
-use ux_net::{Edge, Label, Net, State};
+use ux_mask_table::MaskedText;
+use ux_net::{Edge, Label, State};
 use ux_outputs::Event;
-use ux_tokens::Text;
 
 /// As many edges are tried one by one: no index of them is made.
 const FEW: usize = 8;
@@ -163,34 +160,30 @@ impl<'t> Reached<'t> {
 
     /// Goes one step on from a configuration: over each edge of its state, and back where that is
     /// final.
-    pub fn step<C: Contexts, L: Ledger>(
+    pub fn step<C: Contexts>(
         &mut self,
         alloc: Global,
-        net: &'t Net,
+        masked: &MaskedText<'t>,
         contexts: &C,
-        text: &'t Text,
-        alphabet: &Alphabet,
-        applied: &Applied,
         look_ups: &mut LookUps<'t>,
         config: Config,
-        steps: &mut Steps<L>,
     ) -> Mem<()>
-        requires belongs { Belongs alphabet.now text.now applied.now }
-        requires sound { AreSound alphabet.now net.now (different_texts text.now) look_ups.now }
-        requires told { ContextsTold (setting_of net.now text.now alphabet.now applied.now)
+        requires table { HasTable masked.now }
+        requires sound { AreSound masked.now.alphabet.now masked.now.net.now
+            (different_texts masked.now.text.now) look_ups.now }
+        requires told { ContextsTold (masked_setting masked.now)
             (C.asks contexts.now) (C.applies contexts.now) }
-        requires inside { config.at ≤ length text.now }
-        ensures sound { AreSound alphabet.now net.now (different_texts text.now) look_ups.new }
+        requires inside { config.at ≤ length masked.now.text.now }
+        ensures sound { AreSound masked.now.alphabet.now masked.now.net.now
+            (different_texts masked.now.text.now) look_ups.new }
         ensures adds { OnOk result (AddsFrom self.old self.new config (λ before.
-            GoesOn alphabet.now text.now applied.now (C.applies contexts.now) net.now
-            config.here [] config.at before)) }
+            GoesOn masked.now.alphabet.now masked.now.text.now masked.now.applied.now
+            (C.applies contexts.now) masked.now.net.now config.here [] config.at before)) }
     {
-        let Some(state) = net.state(config.here.graph, config.here.state) else {
+        let Some(state) = masked.net.state(config.here.graph, config.here.state) else {
             return Ok(());
         };
-        self.follow_state(
-            alloc, contexts, text, alphabet, applied, look_ups, config, state, steps,
-        )?;
+        self.follow_state(alloc, masked, contexts, look_ups, config, state)?;
         if state.is_final {
             self.leave(alloc, config)?;
         }
@@ -198,168 +191,126 @@ impl<'t> Reached<'t> {
     }
 
     /// Goes over each edge of the state that applies: of many those that may apply at the token.
-    fn follow_state<C: Contexts, L: Ledger>(
+    fn follow_state<C: Contexts>(
         &mut self,
         alloc: Global,
+        masked: &MaskedText<'t>,
         contexts: &C,
-        text: &'t Text,
-        alphabet: &Alphabet,
-        applied: &Applied,
         look_ups: &mut LookUps<'t>,
         config: Config,
         state: &'t State,
-        steps: &mut Steps<L>,
     ) -> Mem<()>
-        requires belongs { Belongs alphabet.now text.now applied.now }
+        requires known { AreEdgesKnown masked.now state.now.edges }
         requires asked { MayAsk (C.asks contexts.now) config.here.graph state.now.edges config.at }
         ensures sound { (net : List NetGraph) →
             slice_get (states_of net config.here.graph) config.here.state ≡ Some state.now →
-            AreSound alphabet.now net (different_texts text.now) look_ups.old →
-            AreSound alphabet.now net (different_texts text.now) look_ups.new }
+            AreSound masked.now.alphabet.now net (different_texts masked.now.text.now)
+            look_ups.old →
+            AreSound masked.now.alphabet.now net (different_texts masked.now.text.now)
+            look_ups.new }
         ensures adds { OnOk result ((net : List NetGraph) →
             slice_get (states_of net config.here.graph) config.here.state ≡ Some state.now →
-            AreSound alphabet.now net (different_texts text.now) look_ups.old →
+            AreSound masked.now.alphabet.now net (different_texts masked.now.text.now)
+            look_ups.old →
             AddsFrom self.old self.new config (λ before.
-            IsOverSome alphabet.now text.now applied.now (C.applies contexts.now)
-            config.here [] config.at before state.now.edges)) }
+            IsOverSome masked.now.alphabet.now masked.now.text.now masked.now.applied.now
+            (C.applies contexts.now) config.here [] config.at before state.now.edges)) }
     {
         let edges = state.edges.as_slice();
-        let position = skip(text, config.at);
-        if !has_index(edges.len()) || text.len() <= position {
-            return self.follow_edges(
-                alloc, contexts, text, alphabet, applied, config, edges, steps,
-            );
+        let position = skip(masked.text, config.at);
+        if !has_index(edges.len()) || masked.text.len() <= position {
+            return self.follow_edges(alloc, masked, contexts, config, edges);
         }
-        look_ups.meet(alloc, text, alphabet, config.here, edges)?;
+        look_ups.meet(alloc, masked.text, masked.alphabet, config.here, edges)?;
         let Some(index) = look_ups.index(config.here) else {
-            return self.follow_edges(
-                alloc, contexts, text, alphabet, applied, config, edges, steps,
-            );
+            return self.follow_edges(alloc, masked, contexts, config, edges);
         };
-        let places = index.places(alloc, text.number(position))?;
-        self.follow_places(
-            alloc,
-            contexts,
-            text,
-            alphabet,
-            applied,
-            config,
-            edges,
-            places.as_slice(),
-            steps,
-        )
+        let places = index.places(alloc, masked.text.number(position))?;
+        self.follow_places(alloc, masked, contexts, config, edges, places.as_slice())
     }
 
     /// Goes over the edges at the places that apply.
-    fn follow_places<C: Contexts, L: Ledger>(
+    fn follow_places<C: Contexts>(
         &mut self,
         alloc: Global,
+        masked: &MaskedText,
         contexts: &C,
-        text: &Text,
-        alphabet: &Alphabet,
-        applied: &Applied,
         config: Config,
         edges: &'t [Edge],
         places: &[u32],
-        steps: &mut Steps<L>,
     ) -> Mem<()>
-        requires belongs { Belongs alphabet.now text.now applied.now }
+        requires known { AreEdgesKnown masked.now edges.now }
         requires asked { MayAsk (C.asks contexts.now) config.here.graph edges.now config.at }
         ensures { OnOk result (AddsFrom self.old self.new config (λ before.
-            IsOverSomeAt alphabet.now text.now applied.now (C.applies contexts.now)
-            config.here [] config.at before edges.now places.now)) }
+            IsOverSomeAt masked.now.alphabet.now masked.now.text.now masked.now.applied.now
+            (C.applies contexts.now) config.here [] config.at before edges.now places.now)) }
     {
         for place in places {
-            self.follow_place(
-                alloc, contexts, text, alphabet, applied, config, edges, *place, steps,
-            )?;
+            self.follow_place(alloc, masked, contexts, config, edges, *place)?;
         }
         Ok(())
     }
 
     /// Goes over the edge at a place, if it applies.
-    fn follow_place<C: Contexts, L: Ledger>(
+    fn follow_place<C: Contexts>(
         &mut self,
         alloc: Global,
+        masked: &MaskedText,
         contexts: &C,
-        text: &Text,
-        alphabet: &Alphabet,
-        applied: &Applied,
         config: Config,
         edges: &'t [Edge],
         place: u32,
-        steps: &mut Steps<L>,
     ) -> Mem<()>
-        requires belongs { Belongs alphabet.now text.now applied.now }
+        requires known { AreEdgesKnown masked.now edges.now }
         requires asked { MayAsk (C.asks contexts.now) config.here.graph edges.now config.at }
         ensures { OnOk result (AddsFrom self.old self.new config (λ before.
-            IsOverAt alphabet.now text.now applied.now (C.applies contexts.now)
-            config.here [] config.at before edges.now place)) }
+            IsOverAt masked.now.alphabet.now masked.now.text.now masked.now.applied.now
+            (C.applies contexts.now) config.here [] config.at before edges.now place)) }
     {
         match edge_at(edges, place) {
-            Some(edge) => {
-                self.follow(
-                    alloc, contexts, text, alphabet, applied, config, edge, steps,
-                )
-            },
+            Some(edge) => self.follow(alloc, masked, contexts, config, edge),
             None => Ok(()),
         }
     }
 
     /// Goes over each of the edges that applies.
-    fn follow_edges<C: Contexts, L: Ledger>(
+    fn follow_edges<C: Contexts>(
         &mut self,
         alloc: Global,
+        masked: &MaskedText,
         contexts: &C,
-        text: &Text,
-        alphabet: &Alphabet,
-        applied: &Applied,
         config: Config,
         edges: &'t [Edge],
-        steps: &mut Steps<L>,
     ) -> Mem<()>
-        requires belongs { Belongs alphabet.now text.now applied.now }
+        requires known { AreEdgesKnown masked.now edges.now }
         requires asked { MayAsk (C.asks contexts.now) config.here.graph edges.now config.at }
         ensures { OnOk result (AddsFrom self.old self.new config (λ before.
-            IsOverSome alphabet.now text.now applied.now (C.applies contexts.now)
-            config.here [] config.at before edges.now)) }
+            IsOverSome masked.now.alphabet.now masked.now.text.now masked.now.applied.now
+            (C.applies contexts.now) config.here [] config.at before edges.now)) }
     {
         for edge in edges {
-            self.follow(
-                alloc, contexts, text, alphabet, applied, config, edge, steps,
-            )?;
+            self.follow(alloc, masked, contexts, config, edge)?;
         }
         Ok(())
     }
 
     /// Goes over the edge, if it applies.
-    fn follow<C: Contexts, L: Ledger>(
+    fn follow<C: Contexts>(
         &mut self,
         alloc: Global,
+        masked: &MaskedText,
         contexts: &C,
-        text: &Text,
-        alphabet: &Alphabet,
-        applied: &Applied,
         config: Config,
         edge: &'t Edge,
-        steps: &mut Steps<L>,
     ) -> Mem<()>
-        requires belongs { Belongs alphabet.now text.now applied.now }
+        requires known { IsKnown masked.now edge.now.label }
         requires asked { Opens edge.now.label →
             C.asks contexts.now config.here.graph edge.now config.at }
         ensures { OnOk result (AddsFrom self.old self.new config (λ before.
-            IsOver alphabet.now text.now applied.now (C.applies contexts.now)
-            config.here [] config.at before edge.now)) }
+            IsOver masked.now.alphabet.now masked.now.text.now masked.now.applied.now
+            (C.applies contexts.now) config.here [] config.at before edge.now)) }
     {
-        let passage = passage_at(
-            alloc,
-            text,
-            alphabet,
-            applied,
-            &edge.label,
-            config.at,
-            steps,
-        )?;
+        let passage = passage_at(alloc, masked, &edge.label, config.at)?;
         if passage.is_closed() {
             return Ok(());
         }

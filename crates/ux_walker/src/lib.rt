@@ -6,9 +6,9 @@
 //! itself stands in `walking`, and its agenda in `agenda`.
 //!
 //! ```text
-//! let mut walker = Walker::of(alloc, &net, &text, &alphabet, &applied)?;
+//! let mut walker = Walker::of(alloc, &masked)?;
 //! if walker.may_begin(start) {
-//!     walker.ends_from(alloc, start, &mut ends, steps)?;
+//!     walker.ends_from(alloc, start, &mut ends)?;
 //! }
 //! ```
 #![tactic(auto)]

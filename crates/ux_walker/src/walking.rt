@@ -11,21 +11,19 @@ ghost use Rattle.ux_walker.specs.Walking.{AreReady, FrontLeads, IsUnderWay, Land
 
 use crate::agenda::{Agenda, Visit};
 use std::alloc::Global;
-use std::sync::ledger::Ledger;
 use ux_automaton::{Automaton, Landing, Step};
-use ux_base::{Mem, Steps};
+use ux_base::Mem;
 use ux_tokens::Text;
 use ux_walk::matching::skip;
 
 /// Lets `ends` be the positions after the start to which walks from it lead, in order.
-pub fn walk<L: Ledger>(
+pub fn walk(
     alloc: Global,
     text: &Text,
     automaton: &mut Automaton,
     agenda: &mut Agenda,
     start: usize,
     ends: &mut Vec<usize>,
-    steps: &mut Steps<L>,
 ) -> Mem<()>
     requires text { automaton.now.setting.tokens ≡ text.now }
     requires inside { start ≤ length text.now }
@@ -34,7 +32,7 @@ pub fn walk<L: Ledger>(
 {
     begin(alloc, automaton, agenda, start, ends)?;
     while let Some(visit) = agenda.take_least() {
-        go_on(alloc, text, automaton, agenda, start, visit, ends, steps)?;
+        go_on(alloc, text, automaton, agenda, start, visit, ends)?;
     }
     Ok(())
 }
@@ -59,7 +57,7 @@ fn begin(
 }
 
 /// Goes on from a visit that was taken: notes its end, and puts where it leads on the agenda.
-fn go_on<L: Ledger>(
+fn go_on(
     alloc: Global,
     text: &Text,
     automaton: &mut Automaton,
@@ -67,7 +65,6 @@ fn go_on<L: Ledger>(
     start: usize,
     visit: Visit,
     ends: &mut Vec<usize>,
-    steps: &mut Steps<L>,
 ) -> Mem<()>
     requires text { automaton.now.setting.tokens ≡ text.now }
     requires under_way { IsUnderWay automaton.now start (agenda.now ++ visit ∷ []) ends.now.items }
@@ -76,7 +73,7 @@ fn go_on<L: Ledger>(
     ensures under_way { OnOk result (IsUnderWay automaton.new start agenda.new ends.new.items) }
     ensures further { OnOk result (AreReady automaton.new (visit.at + 1) agenda.new) }
 {
-    let step = automaton.step(alloc, visit.front, visit.at, steps)?;
+    let step = automaton.step(alloc, visit.front, visit.at)?;
     note_end(start, visit.at, &step, ends)?;
     put_step(alloc, text, automaton, agenda, visit.at, &step)?;
     Ok(())

@@ -420,6 +420,17 @@ fn renders_across_calls(rt: HostRuntime) -> Result<(), Fail> {
             "#M\n0 0 [1][2][3]a\n",
         ),
         (
+            "calls fail behind two outputs at each of forty words",
+            Search {
+                options: MERGE,
+                graph: &[&["e", ":X"], &["e/[1]"]],
+                callees: &[("X.grf", &[&["a/x", ":X", "b"], &["a/y", ":X", "c"], &["d"]])],
+                text: "e a a a a a a a a a a a a a a a a a a a a a a a a a a a a a a a a a a a a a a a a",
+                dic: "",
+            },
+            "#M\n0 0 [1]e\n",
+        ),
+        (
             "a compound",
             Search {
                 options: MERGE,

@@ -3,19 +3,20 @@ use Rattle.std.specs.Prelude.{Contains}
 use Rattle.ux_closure.specs.declared.stand.Stand.{Stand}
 use Rattle.ux_automaton.specs.Fronts.{HasStand, HoldsIn, NamesStack}
 use Rattle.ux_automaton.specs.Targets.{IsOver}
-use Rattle.ux_automaton.specs.Kept.{setting_in, store_of}
+use Rattle.ux_automaton.specs.Kept.{store_of}
+use Rattle.ux_walk.specs.Settings.{masked_setting}
 use Rattle.ux_automaton.proofs.StepLemmas.{close_right}
 use Rattle.ux_automaton.proofs.StoreLemmas.{named_stand, stand_kept}
 use Rattle.ux_automaton.proofs.closed.close.Goals as goal
 
 pub front_of-requires-clause-stands : goal.front_of-requires-clause-stands
-front_of-requires-clause-stands g c = λ stand inside.
+front_of-requires-clause-stands c = λ stand inside.
     named_stand (store_of c.close.new.self).stacks (store_of c.close.new.self).fronts stand
     (c.in_ok-closure.ensures.closure.named stand
     (subst (λ (l : List Stand). Contains l stand) c.as_slice-stands.ensures.value inside))
 
 pub over_space-requires-clause-stands : goal.over_space-requires-clause-stands
-over_space-requires-clause-stands g c = λ stand inside.
+over_space-requires-clause-stands c = λ stand inside.
     stand_kept (store_of c.close.new.self) (store_of c.front_of.new.self)
     c.in_ok-closure.ensures.grows.sound c.in_ok-closed.ensures.grows stand
     (named_stand (store_of c.close.new.self).stacks (store_of c.close.new.self).fronts stand
@@ -23,7 +24,7 @@ over_space-requires-clause-stands g c = λ stand inside.
     (subst (λ (l : List Stand). Contains l stand) c.as_slice-stands.ensures.value inside)))
 
 pub returns-clause-closed : goal.returns-clause-closed
-returns-clause-closed g c = close_right (setting_in c.args.given.now) c.requires.belongs
+returns-clause-closed c = close_right (masked_setting c.args.masked.now) c.requires.table.belongs
     (store_of c.args.fronts.now) (store_of c.close.new.self) (store_of c.front_of.new.self)
     (store_of c.over_space.new.fronts) c.args.front c.args.is_spaced c.args.at c.requires.tells
     c.in_ok-closure.closure (record {
@@ -42,7 +43,7 @@ returns-clause-closed g c = close_right (setting_in c.args.given.now) c.requires
     c.in_ok-over_space.ensures.there
     (λ space stack. subst (λ (l : List Stand).
     HoldsIn (store_of c.over_space.new.fronts) c.in_ok-over_space.over_space stack
-    ↔ IsOver (setting_in c.args.given.now)
+    ↔ IsOver (masked_setting c.args.masked.now)
     (NamesStack (store_of c.front_of.new.self).stacks (Contains l)) c.args.at (c.args.at + 1) stack)
     c.as_slice-stands.ensures.value (c.in_ok-over_space.ensures.spaced space stack))
     c.in_ok-over_space.ensures.bare

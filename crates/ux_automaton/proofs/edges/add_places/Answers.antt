@@ -1,18 +1,18 @@
 use Rattle.std.proofs.Common.{get_or}
 use Rattle.std.specs.Prelude.{Contains}
-use Rattle.ux_automaton.specs.Kept.{setting_in}
+use Rattle.ux_walk.specs.Settings.{masked_setting}
 use Rattle.ux_automaton.specs.Targets.{IsTargetAt}
 use Rattle.ux_automaton.proofs.AddingLemmas.{adds_all, adds_first, adds_next, item_at}
 use Rattle.ux_automaton.proofs.edges.add_places.Goals as goal
 
 pub loop-place-init : goal.loop-place-init
-loop-place-init g c =
-    adds_first (IsTargetAt (setting_in c.args.given.now) c.args.at c.args.stand c.args.edges.now)
+loop-place-init c =
+    adds_first (IsTargetAt (masked_setting c.args.masked.now) c.args.at c.args.stand c.args.edges.now)
     (Contains c.args.targets.now.items) c.args.places.now
 
 pub loop-place-preserved : goal.loop-place-preserved
-loop-place-preserved g c =
-    adds_next (IsTargetAt (setting_in c.args.given.now) c.args.at c.args.stand c.args.edges.now)
+loop-place-preserved c =
+    adds_next (IsTargetAt (masked_setting c.args.masked.now) c.args.at c.args.stand c.args.edges.now)
     (Contains c.args.targets.now.items) (Contains c.loop-place.targets.items)
     (Contains c.add_place.new.targets.items) c.args.places.now c.loop-place.place-index
     (get_or c.args.places.now c.loop-place.place-index 0) c.loop-place-test.true
@@ -20,7 +20,7 @@ loop-place-preserved g c =
     c.loop-place.invariant c.in_ok-add_place.ensures
 
 pub returns : goal.returns
-returns g c =
-    adds_all (IsTargetAt (setting_in c.args.given.now) c.args.at c.args.stand c.args.edges.now)
+returns c =
+    adds_all (IsTargetAt (masked_setting c.args.masked.now) c.args.at c.args.stand c.args.edges.now)
     (Contains c.args.targets.now.items) (Contains c.loop-place.targets.items) c.args.places.now
     c.loop-place.place-index c.loop-place-test.false c.loop-place.invariant

@@ -27,7 +27,7 @@ loop-number-preserved c =
 
 pub returns : goal.returns
 returns c = λ fitting.
-    let texts = different_texts c.args.given.now.text.now in
+    let texts = different_texts c.args.masked.now.text.now in
     let fitted = c.in_ok-numbers.ensures texts c.requires in
     let all = adds_all
     (λ (n : ℕ) (f : Fitting). f ≡ record { number = n; stand = c.args.stand })
@@ -35,11 +35,11 @@ returns c = λ fitting.
     c.deref-number-items.result.now c.loop-number.number-index c.loop-number-test.false
     c.loop-number.invariant fitting in
     let listed = subst (λ (l : List ℕ). (n : ℕ) → Contains l n
-    ↔ IsFitted c.args.given.now.alphabet.now texts c.args.label.now n)
+    ↔ IsFitted c.args.masked.now.alphabet.now texts c.args.label.now n)
     (sym c.deref-number-items.ensures.value) fitted in
     through all (either (
       λ (n, inside, is). (
-        subst (IsFitted c.args.given.now.alphabet.now texts c.args.label.now)
+        subst (IsFitted c.args.masked.now.alphabet.now texts c.args.label.now)
             (sym (ap (λ (f : Fitting). f.number) is)) ((listed n).0 inside),
         ap (λ (f : Fitting). f.stand) is,
       ),

@@ -9,13 +9,13 @@ use Rattle.ux_automaton.proofs.front_index.add_edges.Goals as goal
 
 pub loop-edge-init : goal.loop-edge-init
 loop-edge-init c = adds_first (λ (edge : Edge) (fitting : Fitting).
-    IsFitted c.args.given.now.alphabet.now (different_texts c.args.given.now.text.now) edge.label
+    IsFitted c.args.masked.now.alphabet.now (different_texts c.args.masked.now.text.now) edge.label
     fitting.number × (fitting.stand ≡ c.args.stand)) (Contains c.args.fittings.now.items)
     c.args.edges.now
 
 pub loop-edge-preserved : goal.loop-edge-preserved
 loop-edge-preserved c = adds_next (λ (edge : Edge) (fitting : Fitting).
-    IsFitted c.args.given.now.alphabet.now (different_texts c.args.given.now.text.now) edge.label
+    IsFitted c.args.masked.now.alphabet.now (different_texts c.args.masked.now.text.now) edge.label
     fitting.number × (fitting.stand ≡ c.args.stand)) (Contains c.args.fittings.now.items)
     (Contains c.loop-edge.fittings.items) (Contains c.add_edge.new.fittings.items) c.args.edges.now
     c.loop-edge.edge-index c.edge-item.result c.loop-edge-test.true c.edge-item.is
@@ -23,7 +23,7 @@ loop-edge-preserved c = adds_next (λ (edge : Edge) (fitting : Fitting).
 
 pub returns : goal.returns
 returns c = adds_all (λ (edge : Edge) (fitting : Fitting).
-    IsFitted c.args.given.now.alphabet.now (different_texts c.args.given.now.text.now) edge.label
+    IsFitted c.args.masked.now.alphabet.now (different_texts c.args.masked.now.text.now) edge.label
     fitting.number × (fitting.stand ≡ c.args.stand)) (Contains c.args.fittings.now.items)
     (Contains c.loop-edge.fittings.items) c.args.edges.now c.loop-edge.edge-index
     c.loop-edge-test.false c.loop-edge.invariant

@@ -10,6 +10,6 @@ use Rattle.ux_automaton.proofs.front_index.add_edges.Given as goal
 -- the stand was added with the tokens of the edges so far
 abbrev pub invariant-loop-edge : goal.invariant-loop-edge
 invariant-loop-edge l = AddsSome (λ (edge : Edge) (fitting : Fitting).
-    IsFitted l.given.alphabet.now (different_texts l.given.text.now) edge.label fitting.number
+    IsFitted l.masked.alphabet.now (different_texts l.masked.text.now) edge.label fitting.number
     × (fitting.stand ≡ l.stand)) (Contains l.fn.fittings.items) (Contains l.fittings.items)
     (take l.edge-index l.edges)

@@ -9,13 +9,13 @@ returns-in-Some c = on_ok c.add_edges.result _ _ (λ adds fitting.
     through (adds fitting) (either (
       λ h. (
         h.0,
-        (edges_of c.args.given.now.net.now c.args.stand.here c.in-Some.state.now
+        (edges_of c.args.masked.now.net.now c.args.stand.here c.in-Some.state.now
             (sym c.in-Some.ensures) c.as_slice.result.now c.as_slice.ensures h.0).0 h.1,
         h.2,
       ),
       λ h. (
         h.0,
-        (edges_of c.args.given.now.net.now c.args.stand.here c.in-Some.state.now
+        (edges_of c.args.masked.now.net.now c.args.stand.here c.in-Some.state.now
             (sym c.in-Some.ensures) c.as_slice.result.now c.as_slice.ensures h.0).1 h.1,
         h.2,
       ),

@@ -13,13 +13,13 @@ loop-stand-preserved c =
     } in
     let i = c.loop-stand.stand-index in
     let inside = c.loop-stand-test.true in
-    adds_next (FitsOver c.args.given.now) (λ fitting. ⊥) (Contains c.loop-stand.fittings.items)
+    adds_next (FitsOver c.args.masked.now) (λ fitting. ⊥) (Contains c.loop-stand.fittings.items)
     (Contains c.add_stand.new.fittings.items) c.args.stands.now i (get_or c.args.stands.now i none)
     inside (item_at c.args.stands.now i none inside) c.loop-stand.invariant c.in_ok-add_stand.ensures
 
 pub returns : goal.returns
 returns c = λ fitting.
-    let all = adds_all (FitsOver c.args.given.now) (λ f. ⊥) (Contains c.loop-stand.fittings.items)
+    let all = adds_all (FitsOver c.args.masked.now) (λ f. ⊥) (Contains c.loop-stand.fittings.items)
     c.args.stands.now c.loop-stand.stand-index c.loop-stand-test.false c.loop-stand.invariant
     fitting in (
       λ h. elim (all.0 h) [ inl nowhere ↦ absurd nowhere | inr n ↦ n ],

@@ -6,5 +6,5 @@ use Rattle.ux_automaton.proofs.front_index.fittings_of.Given as goal
 
 -- the stands so far were added with their tokens
 abbrev pub invariant-loop-stand : goal.invariant-loop-stand
-invariant-loop-stand l = AddsSome (FitsOver l.given) (λ fitting. ⊥) (Contains l.fittings.items)
+invariant-loop-stand l = AddsSome (FitsOver l.masked) (λ fitting. ⊥) (Contains l.fittings.items)
     (take l.stand-index l.stands)

@@ -4,7 +4,8 @@ use Rattle.ux_closure.specs.declared.stand.Stand.{Stand}
 use Rattle.ux_outputs.specs.Rendering.{skip}
 use Rattle.ux_automaton.specs.declared.target.Target.{Target}
 use Rattle.ux_automaton.specs.Fronts.{HasStand}
-use Rattle.ux_automaton.specs.Kept.{setting_in, store_of}
+use Rattle.ux_automaton.specs.Kept.{store_of}
+use Rattle.ux_walk.specs.Settings.{masked_setting}
 use Rattle.ux_automaton.specs.Targets.{IsTarget}
 use Rattle.ux_automaton.proofs.CacheLemmas.{through}
 use Rattle.ux_automaton.proofs.FrontIndexLemmas.{indexes_kept, likely_targets}
@@ -14,18 +15,18 @@ use Rattle.ux_automaton.proofs.StoreLemmas.{has_stand}
 use Rattle.ux_automaton.proofs.onward.over_token.Goals as goal
 
 pub front_at-requires-clause-stands : goal.front_at-requires-clause-stands
-front_at-requires-clause-stands g c = λ target inside.
-    target_stand (setting_in c.args.given.now) (HasStand (store_of c.args.fronts.now) c.args.front)
+front_at-requires-clause-stands c = λ target inside.
+    target_stand (masked_setting c.args.masked.now) (HasStand (store_of c.args.fronts.now) c.args.front)
     c.as_slice-2.result.now c.args.at 0
     (λ t. through (subst (λ (l : List Target). Contains l t
-    ↔ IsTarget (setting_in c.args.given.now) c.args.at (Contains c.as_slice.result.now) t)
+    ↔ IsTarget (masked_setting c.args.masked.now) c.args.at (Contains c.as_slice.result.now) t)
     (sym c.as_slice-2.ensures.value) (c.in_ok-targets.ensures.targets t))
     (subst (λ (l : List Stand).
-    IsTarget (setting_in c.args.given.now) c.args.at (Contains l) t
-    ↔ IsTarget (setting_in c.args.given.now) c.args.at
+    IsTarget (masked_setting c.args.masked.now) c.args.at (Contains l) t
+    ↔ IsTarget (masked_setting c.args.masked.now) c.args.at
     (HasStand (store_of c.args.fronts.now) c.args.front) t)
     (sym c.as_slice.ensures.value)
-    (likely_targets c.args.given.now c.args.at
+    (likely_targets c.args.masked.now c.args.at
     (HasStand (store_of c.args.fronts.now) c.args.front) c.in_ok-few.few.items
     c.skip-place.result c.number-number.result c.skip-place.ensures c.number-number.ensures.place
     c.in_ok-few.ensures.likely t)))
@@ -33,18 +34,18 @@ front_at-requires-clause-stands g c = λ target inside.
     (has_stand (store_of c.args.fronts.now) c.requires.sound c.args.front) target inside
 
 pub returns-clause-over : goal.returns-clause-over
-returns-clause-over g c = on_both c.front_at.result _ _ _ (λ next grows has stack.
-    front_over (setting_in c.args.given.now) (HasStand (store_of c.args.fronts.now) c.args.front)
-    c.as_slice-2.result.now c.args.at (skip c.args.given.now.text.now c.args.at + 1)
+returns-clause-over c = on_both c.front_at.result _ _ _ (λ next grows has stack.
+    front_over (masked_setting c.args.masked.now) (HasStand (store_of c.args.fronts.now) c.args.front)
+    c.as_slice-2.result.now c.args.at (skip c.args.masked.now.text.now c.args.at + 1)
     (λ t. through (subst (λ (l : List Target). Contains l t
-    ↔ IsTarget (setting_in c.args.given.now) c.args.at (Contains c.as_slice.result.now) t)
+    ↔ IsTarget (masked_setting c.args.masked.now) c.args.at (Contains c.as_slice.result.now) t)
     (sym c.as_slice-2.ensures.value) (c.in_ok-targets.ensures.targets t))
     (subst (λ (l : List Stand).
-    IsTarget (setting_in c.args.given.now) c.args.at (Contains l) t
-    ↔ IsTarget (setting_in c.args.given.now) c.args.at
+    IsTarget (masked_setting c.args.masked.now) c.args.at (Contains l) t
+    ↔ IsTarget (masked_setting c.args.masked.now) c.args.at
     (HasStand (store_of c.args.fronts.now) c.args.front) t)
     (sym c.as_slice.ensures.value)
-    (likely_targets c.args.given.now c.args.at
+    (likely_targets c.args.masked.now c.args.at
     (HasStand (store_of c.args.fronts.now) c.args.front) c.in_ok-few.few.items
     c.skip-place.result c.number-number.result c.skip-place.ensures c.number-number.ensures.place
     c.in_ok-few.ensures.likely t)))
@@ -55,6 +56,6 @@ returns-clause-over g c = on_both c.front_at.result _ _ _ (λ next grows has sta
     c.skip-place.ensures (has stand)) stack) c.front_at.ensures.grows c.front_at.ensures.stands
 
 pub returns-clause-fronts : goal.returns-clause-fronts
-returns-clause-fronts g c = on_ok c.front_at.result _ _ (λ grows.
-    indexes_kept c.args.given.now (store_of c.args.fronts.now) (store_of c.front_at.new.fronts) _
+returns-clause-fronts c = on_ok c.front_at.result _ _ (λ grows.
+    indexes_kept c.args.masked.now (store_of c.args.fronts.now) (store_of c.front_at.new.fronts) _
     c.requires.sound grows c.in_ok-few.ensures.indexed) c.front_at.ensures.grows

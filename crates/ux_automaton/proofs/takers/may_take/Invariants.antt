@@ -1,4 +1,4 @@
-use Rattle.std.proofs.Common.{◌≡◌, take}
+use Rattle.std.proofs.Common.{take}
 use Rattle.std.specs.Prelude.{Contains}
 use Rattle.ux_closure.specs.declared.stand.Stand.{Stand}
 use Rattle.ux_net.specs.declared.state.Edge.{Edge}

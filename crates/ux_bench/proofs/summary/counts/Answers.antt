@@ -25,7 +25,7 @@ returns-then-cuts_nothing g c =
 pub returns : goal.returns
 returns g c = record {
   hits = c.in_ok-hits.hits.items;
-  listing = c.in_ok-hits.ensures;
+  listing = c.in_ok-hits.ensures.hits;
   counted = c.len-2.ensures ∙ (sym c.as_slice-2.ensures.len ∙ ap length c.as_slice-2.ensures.value);
   measured = c.longest_hit.ensures ∙ ap longest_of c.as_slice-2.ensures.value;
 }

@@ -13,6 +13,6 @@ pub returns-clause-filled : goal.returns-clause-filled
 returns-clause-filled g c =
     filled_more (g.B.Basis.input c.args.basis.now) c.args.net.now c.args.parts.now
     c.args.chart.now c.put.new.chart c.args.begun c.in-Some.part.now
-    c.in_ok-lists.lists.ends.items c.in_ok-lists.lists.closers.items (sym c.in-Some.ensures)
-    c.in_ok-lists.ensures c.requires.end c.put.ensures.same c.put.ensures.rows
+    c.search.new.lists.ends.items c.search.new.lists.closers.items (sym c.in-Some.ensures)
+    c.in_ok-search.ensures c.requires.end c.put.ensures.same c.put.ensures.rows
     c.in_ok-put.ensures.table c.requires.filled

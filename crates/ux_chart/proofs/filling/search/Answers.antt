@@ -9,16 +9,14 @@ pub returns : goal.returns
 returns g c =
     let net = c.args.net.now in
     let part = c.args.part.now in
-    let ends = c.in_ok-ends.ends.keys in
-    let closers = c.in_ok-closers.closers.keys in
+    let ends = c.ends_in.new.ends.items in
+    let closers = c.closers_in.new.closers.items in
     answered (g.B.Basis.input c.args.basis.now) net c.args.parts.now part.graph part.first
-    c.args.begun.at c.reach.new.seen.keys c.in_ok-reach.ensures ends closers
+    c.args.begun.at c.reach.new.seen c.in_ok-reach.ensures ends closers
     (subst (λ (l : List Config). (j : ℕ) →
     Contains ends j ↔ ((w : Config) × Contains l w × EndsAt net part.graph w j))
-    c.as_slice.ensures.keys c.in_ok-ends.ensures)
+    c.as_slice.ensures c.in_ok-ends_in.ensures.all)
     (subst (λ (l : List Config). (j : ℕ) →
     Contains closers j ↔ ((w : Config) × Contains l w × ClosesInto net part.graph w j))
-    c.as_slice-2.ensures.keys c.in_ok-closers.ensures)
-    c.in_ok-lists.ensures.ends_ascend c.in_ok-lists.ensures.closers_ascend
-    c.in_ok-lists.lists.ends.items c.in_ok-lists.lists.closers.items
-    c.in_ok-lists.ensures.ends c.in_ok-lists.ensures.closers
+    c.as_slice-2.ensures c.in_ok-closers_in.ensures.all)
+    c.in_ok-ends_in.ensures.ascending c.in_ok-closers_in.ensures.ascending

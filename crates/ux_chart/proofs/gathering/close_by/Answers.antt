@@ -6,5 +6,5 @@ use Rattle.ux_chart.proofs.gathering.close_by.Goals as goal
 pub returns-in-ContextEnd : goal.returns-in-ContextEnd
 returns-in-ContextEnd c =
     one_more (λ j. (c.args.edge.now.label ≡ ContextEnd) × (c.args.edge.now.target ≡ j))
-    c.args.closers.now.keys c.add_state.new.found.keys c.args.edge.now.target
-    c.in_ok-add_state-in-ContextEnd.ensures (c.in-ContextEnd.is, refl) (λ e t. sym t.1)
+    c.args.closers.now.items c.push.new.self.items c.args.edge.now.target
+    c.in_ok-push-in-ContextEnd.ensures.items (c.in-ContextEnd.is, refl) (λ e t. sym t.1)

@@ -12,7 +12,7 @@ loop-edge-preserved c =
     let inside : Contains c.in-Some.state.now.edges edge =
     subst (λ (xs : List Edge). Contains xs edge) c.as_slice-edge-items.ensures
     (c.loop-edge.edge-index, c.loop-edge-test.true, sym c.edge-item.is) in
-    collected_more _ _ c.args.closers.now.keys c.loop-edge.closers.keys c.close_by.new.closers.keys
+    collected_more _ _ c.args.closers.now.items c.loop-edge.closers.items c.close_by.new.closers.items
     c.as_slice-edge-items.result.now c.loop-edge.edge-index edge
     (λ j. (edge.label ≡ ContextEnd) × (edge.target ≡ j)) c.loop-edge-test.true c.edge-item.is
     (λ j l. record {
@@ -28,6 +28,6 @@ loop-edge-preserved c =
 pub returns : goal.returns
 returns c =
     closed_all c.args.net.now c.args.graph c.args.config c.in-Some.state.now c.in-Some.ensures
-    c.args.closers.now.keys c.loop-edge.closers.keys c.as_slice-edge-items.result.now
+    c.args.closers.now.items c.loop-edge.closers.items c.as_slice-edge-items.result.now
     c.as_slice-edge-items.ensures c.loop-edge.edge-index c.loop-edge-test.false
     c.loop-edge.invariant

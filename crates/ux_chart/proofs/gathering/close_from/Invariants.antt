@@ -8,4 +8,4 @@ use Rattle.ux_chart.proofs.gathering.close_from.Given as goal
 abbrev pub invariant-loop-edge : goal.invariant-loop-edge
 invariant-loop-edge l = IsCollected (λ c. ClosesInto l.net l.graph l.fn.config c)
     (λ (edge : Edge) c. (edge.label ≡ ContextEnd) × (edge.target ≡ c))
-    l.fn.closers.keys l.closers.keys (take l.edge-index l.edge-items)
+    l.fn.closers.items l.closers.items (take l.edge-index l.edge-items)

@@ -6,7 +6,7 @@ use Rattle.ux_chart.proofs.reaching.reach.Given as goal
 
 abbrev pub invariant-loop-next : goal.invariant-loop-next
 invariant-loop-next g l = IsReaching (g.B.Basis.input l.basis) l.net l.parts l.part.graph
-    l.part.first l.chart.last l.begun.at l.begun.number l.seen.keys l.next
+    l.part.first l.chart.last l.begun.at l.begun.number l.seen l.next
 
 abbrev pub decreases-loop-next : goal.decreases-loop-next
 decreases-loop-next g l =

@@ -1,10 +1,9 @@
-use Rattle.std.proofs.Common.{◌≡◌, ◌∙◌, ℕ, List, Vec, Global, ap, subst, sym}
+use Rattle.std.proofs.Common.{ℕ, List, Vec, Global, ap, subst, sym}
 use Rattle.std.specs.Prelude.{All}
-use Rattle.std.proofs.lemmas.List.{map-id}
 use Rattle.ux_dela.specs.declared.entry.Entry.{Entry}
 use Rattle.ux_apply.specs.declared.priority.Priority.{Priority}
-use Rattle.ux_apply.specs.Applying.{contents}
 use Rattle.ux_apply.specs.Tables.{AreApplied}
+use Rattle.ux_dictionaries.specs.Dictionaries.{contents_of}
 use Rattle.ux_outputs.specs.declared.hit.Hit.{Hit}
 use Rattle.ux_concord.specs.Concordance.{IsConcordance, LiesIn}
 use Rattle.ux_concordance.proofs.HitsLemmas.{hits_lie}
@@ -23,14 +22,10 @@ returns c =
     let layout = c.args.layout in
     let tokens = c.args.files.text in
     let tables = c.in_ok-applied.applied in
-    let dics : List (Priority × List Entry) = c.args.files.dics.items in
-    let lent = c.deref.result.now in
-    let same : contents (λ (content : List Entry). content) lent ≡ dics =
-    map-id lent ∙ c.deref.ensures.value in
     record {
       tables = tables;
       applied = subst (λ (l : List (Priority × List Entry)). AreApplied alphabet l tokens tables)
-          same c.in_ok-applied.ensures.applied;
+          (ap contents_of c.deref.ensures.value) c.in_ok-applied.ensures.applied;
       hits = c.in_ok-hits.hits.items;
       listing = c.in_ok-hits.ensures;
       is = subst (λ (hits : List Hit). IsConcordance tokens layout.left layout.right layout.sort hits

@@ -1,10 +1,9 @@
-use Rattle.std.proofs.Common.{◌≡◌, ◌∙◌, List, String, Global, string_bytes, subst}
-use Rattle.std.proofs.lemmas.List.{map-id}
+use Rattle.std.proofs.Common.{List, String, Global, string_bytes, ap, subst}
 use Rattle.std.proofs.lemmas.Result.{IfOk-weaker}
 use Rattle.ux_dela.specs.declared.entry.Entry.{Entry}
 use Rattle.ux_apply.specs.declared.priority.Priority.{Priority}
-use Rattle.ux_apply.specs.Applying.{contents}
 use Rattle.ux_apply.specs.Tables.{AreApplied}
+use Rattle.ux_dictionaries.specs.Dictionaries.{contents_of}
 use Rattle.ux_report.specs.Report.{IsReport}
 use Rattle.ux_dico.specs.Dico.{IsReportOf}
 use Rattle.ux_dico.proofs.reporting.applied_report.Goals as goal
@@ -15,12 +14,9 @@ returns c =
     let letters = c.args.alphabet.now in
     let tokens = c.args.text.now in
     let tables = c.in_ok-applied.applied in
-    let dics : List (Priority × List Entry) = c.args.dics.items in
-    let lent = c.deref.result.now in
-    let same : contents (λ (content : List Entry). content) lent ≡ dics =
-    map-id lent ∙ c.deref.ensures.value in
-    let are = subst (λ (l : List (Priority × List Entry)). AreApplied letters l tokens tables) same
-    c.in_ok-applied.ensures.applied in
+    let dics = contents_of c.args.dics.items in
+    let are = subst (λ (l : List (Priority × List Entry)). AreApplied letters l tokens tables)
+    (ap contents_of c.deref.ensures.value) c.in_ok-applied.ensures.applied in
     IfOk-weaker c.report.result
     (λ (report : String Global). IsReport tokens tables (string_bytes report))
     (λ (report : String Global). IsReportOf letters tokens dics (string_bytes report))

@@ -2,6 +2,7 @@ use Rattle.std.proofs.Common.{List}
 use Rattle.std.proofs.lemmas.Result.{err_from_is_err_and}
 use Rattle.ux_alphabet.specs.Letters.{Letters}
 use Rattle.ux_tokens.specs.Tokens.{Token}
+use Rattle.ux_dictionaries.specs.Dictionaries.{contents_of}
 use Rattle.ux_dico.proofs.DicoLaws.{dico_comes, dico_halts, dico_stops}
 use Rattle.ux_dico.proofs.reporting.dico.Goals as goal
 
@@ -33,9 +34,9 @@ returns-clause-ok g c =
     let seen = g.F.Folder.seen in
     let read : Letters × List Token = (c.in_ok-alphabet.alphabet, c.in_ok-alphabet.text) in
     record {
-      read = (read, c.in_ok-dics.dics.items);
+      read = (read, contents_of c.in_ok-dics.dics.items);
       comes = dico_comes c.args.text.now c.args.alphabet.now c.args.dics.now c.args.chars
           (seen c.args.folder.now) (seen c.read_letters_and_text.new.folder) a.later read a.ok
-          c.in_ok-dics.dics.items c.in_ok-dics.ensures.ok;
+          (contents_of c.in_ok-dics.dics.items) c.in_ok-dics.ensures.ok;
       answers = rw c.into_bytes.ensures.value c.in_ok-report.ensures;
     }

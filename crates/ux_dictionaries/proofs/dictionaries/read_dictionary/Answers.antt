@@ -1,7 +1,5 @@
-use Rattle.std.proofs.Common.{◌≡◌, true, false, List, sym, ◌∙◌}
-use Rattle.ux_dela.specs.declared.entry.Entry.{Entry}
-use Rattle.ux_apply.specs.declared.priority.Priority.{Priority}
-use Rattle.ux_dictionaries.specs.Dictionaries.{imaged_format, text_format}
+use Rattle.std.proofs.Common.{◌≡◌, true, false, sym, ◌∙◌}
+use Rattle.ux_dictionaries.specs.Dictionaries.{imaged_format, seen_as, text_format}
 use Rattle.ux_image_files.specs.ImageFiles.{is_image}
 use Rattle.ux_image_files.proofs.ByteSteps.{image_err, image_ok, other_err, other_ok}
 use Rattle.ux_dictionaries.proofs.dictionaries.read_dictionary.Goals as goal
@@ -11,8 +9,7 @@ returns-then-is_image-clause-ok g c =
     let is : is_image c.args.name.now ≡ true = sym c.is_image.ensures ∙ c.if-is_image.true in
     image_ok (imaged_format g.R.OfImage.image_as c.args.name.now)
     (text_format g.R.OfDecode.decode_as g.R.OfDela.dela_as c.args.name.now)
-    (λ (dic : Priority × List Entry). dic)
-    c.args.name.now c.read_imaged.result (is_image c.args.name.now) is
+    seen_as c.args.name.now c.read_imaged.result (is_image c.args.name.now) is
     (g.F.Folder.seen c.args.folder.now).files c.read_imaged.ensures.ok
 
 pub returns-then-is_image-clause-err : goal.returns-then-is_image-clause-err
@@ -21,8 +18,7 @@ returns-then-is_image-clause-err g c =
     let is : is_image c.args.name.now ≡ true = sym c.is_image.ensures ∙ c.if-is_image.true in
     image_err (imaged_format g.R.OfImage.image_as c.args.name.now)
     (text_format g.R.OfDecode.decode_as g.R.OfDela.dela_as c.args.name.now)
-    (λ (dic : Priority × List Entry). dic)
-    c.args.name.now c.read_imaged.result (is_image c.args.name.now) is
+    seen_as c.args.name.now c.read_imaged.result (is_image c.args.name.now) is
     (seen c.args.folder.now) (seen c.read_imaged.new.folder) c.read_imaged.ensures.err
 
 pub returns-else-is_image-clause-ok : goal.returns-else-is_image-clause-ok
@@ -30,8 +26,7 @@ returns-else-is_image-clause-ok g c =
     let is : is_image c.args.name.now ≡ false = sym c.is_image.ensures ∙ c.if-is_image.false in
     other_ok (imaged_format g.R.OfImage.image_as c.args.name.now)
     (text_format g.R.OfDecode.decode_as g.R.OfDela.dela_as c.args.name.now)
-    (λ (dic : Priority × List Entry). dic)
-    c.args.name.now c.read_text.result (is_image c.args.name.now) is
+    seen_as c.args.name.now c.read_text.result (is_image c.args.name.now) is
     (g.F.Folder.seen c.args.folder.now).files c.read_text.ensures.ok
 
 pub returns-else-is_image-clause-err : goal.returns-else-is_image-clause-err
@@ -40,6 +35,5 @@ returns-else-is_image-clause-err g c =
     let is : is_image c.args.name.now ≡ false = sym c.is_image.ensures ∙ c.if-is_image.false in
     other_err (imaged_format g.R.OfImage.image_as c.args.name.now)
     (text_format g.R.OfDecode.decode_as g.R.OfDela.dela_as c.args.name.now)
-    (λ (dic : Priority × List Entry). dic)
-    c.args.name.now c.read_text.result (is_image c.args.name.now) is
+    seen_as c.args.name.now c.read_text.result (is_image c.args.name.now) is
     (seen c.args.folder.now) (seen c.read_text.new.folder) c.read_text.ensures.err

@@ -19,10 +19,10 @@ loop-start-init g c =
     record {
       same = c.requires.made;
       kept = c.requires.kept;
-      hits = subst (AreKept search.policy first_of last_of (IsFoundBefore search.text.now From 0))
+      hits = subst (AreKept search.policy first_of last_of (IsFoundBefore search.masked.now.text.now From 0))
           (sym c.new-hits.ensures.items)
-          (kept_start search.policy first_of last_of search.text.now From
-          (λ start. hit_begins search start c.requires.belongs c.requires.uncut));
+          (kept_start search.policy first_of last_of search.masked.now.text.now From
+          (λ start. hit_begins search start c.requires.masks c.requires.uncut));
     }
 
 pub find_ends-requires : goal.find_ends-requires
@@ -41,8 +41,8 @@ loop-start-preserved-then-is_reached g c =
     record {
       same = c.loop-start.invariant.same;
       kept = c.loop-start.invariant.kept;
-      hits = kept_inside search.policy first_of last_of search.text.now (IsHitFrom search)
-          (λ start. hit_begins search start c.requires.belongs c.requires.uncut)
+      hits = kept_inside search.policy first_of last_of search.masked.now.text.now (IsHitFrom search)
+          (λ start. hit_begins search start c.requires.masks c.requires.uncut)
           c.loop-start.start hits c.loop-start.invariant.hits (told.0 c.if-is_reached.true);
     }
 
@@ -53,10 +53,10 @@ loop-start-preserved-then-not-may_find g c =
     record {
       same = c.loop-start.invariant.same;
       kept = c.loop-start.invariant.kept;
-      hits = kept_skip search.policy first_of last_of search.text.now (IsHitFrom search)
-          (λ start. hit_begins search start c.requires.belongs c.requires.uncut)
+      hits = kept_skip search.policy first_of last_of search.masked.now.text.now (IsHitFrom search)
+          (λ start. hit_begins search start c.requires.masks c.requires.uncut)
           start c.loop-start.hits.items c.loop-start.invariant.hits
-          (λ starts. no_hits search start c.requires.belongs
+          (λ starts. no_hits search start c.requires.masks
           (subst (λ (s : Setting). AreEnds s start []) c.loop-start.invariant.same
           (c.may_find.ensures.nothing c.if-not-may_find.true starts)) starts);
     }
@@ -73,10 +73,10 @@ loop-start-preserved-then-is_empty g c =
     record {
       same = c.find_ends.ensures.same ∙ c.loop-start.invariant.same;
       kept = c.loop-start.invariant.kept;
-      hits = kept_skip search.policy first_of last_of search.text.now (IsHitFrom search)
-          (λ start. hit_begins search start c.requires.belongs c.requires.uncut)
+      hits = kept_skip search.policy first_of last_of search.masked.now.text.now (IsHitFrom search)
+          (λ start. hit_begins search start c.requires.masks c.requires.uncut)
           start c.loop-start.hits.items c.loop-start.invariant.hits
-          (λ starts. no_hits search start c.requires.belongs
+          (λ starts. no_hits search start c.requires.masks
           (subst (AreEnds (setting_in search) start) none are) starts);
     }
 
@@ -92,10 +92,10 @@ loop-start-preserved g c =
       same = c.find_ends.ensures.same ∙ c.loop-start.invariant.same;
       kept = c.best_hits.ensures.kept;
       hits = subst (AreKept search.policy first_of last_of
-          (IsFoundBefore search.text.now (IsHitFrom search) (start + 1)))
+          (IsFoundBefore search.masked.now.text.now (IsHitFrom search) (start + 1)))
           (sym c.in_ok-append.ensures.items)
-          (kept_next search.policy first_of last_of search.text.now (IsHitFrom search)
-          (λ start. hit_begins search start c.requires.belongs c.requires.uncut)
+          (kept_next search.policy first_of last_of search.masked.now.text.now (IsHitFrom search)
+          (λ start. hit_begins search start c.requires.masks c.requires.uncut)
           start hits c.loop-start.invariant.hits (told.1 c.if-is_reached.false)
           (c.may_find.ensures.starts c.if-not-may_find.false)
           c.in_ok-best.best.items c.in_ok-best.ensures.best);
@@ -104,8 +104,8 @@ loop-start-preserved g c =
 pub returns : goal.returns
 returns g c =
     let search = c.args.search.now in
-    kept_all search.policy first_of last_of search.text.now (IsHitFrom search)
-    (λ start. hit_begins search start c.requires.belongs c.requires.uncut)
+    kept_all search.policy first_of last_of search.masked.now.text.now (IsHitFrom search)
+    (λ start. hit_begins search start c.requires.masks c.requires.uncut)
     c.loop-start.start c.loop-start.hits.items
     (omega (arith, c.loop-start-test.false, c.len-start-end.ensures.len))
     c.loop-start.invariant.hits

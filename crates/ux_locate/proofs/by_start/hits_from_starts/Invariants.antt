@@ -9,5 +9,5 @@ invariant-loop-start g l = record {
   same : g.E.Ends.setting l.finder ≡ setting_in l.search;
   kept : AreKeptFor l.search l.look_ups;
   hits : AreKept l.search.policy first_of last_of
-      (IsFoundBefore l.search.text.now (IsHitFrom l.search) l.start) l.hits.items;
+      (IsFoundBefore l.search.masked.now.text.now (IsHitFrom l.search) l.start) l.hits.items;
 }

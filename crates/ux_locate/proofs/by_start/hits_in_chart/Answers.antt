@@ -3,5 +3,5 @@ use Rattle.ux_locate.proofs.ByChartLemmas.{chart_told}
 use Rattle.ux_locate.proofs.by_start.hits_in_chart.Goals as goal
 
 pub hits_by_ends-requires-clause-told : goal.hits_by_ends-requires-clause-told
-hits_by_ends-requires-clause-told g c =
+hits_by_ends-requires-clause-told c =
     chart_told c.args.chart.now (setting_in c.args.search.now) c.requires.chart c.requires.made

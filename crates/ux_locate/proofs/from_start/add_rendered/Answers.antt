@@ -11,7 +11,7 @@ returns-in_ok-add_best c seen are =
     let hit = c.in-Some.hit in (
       seen ++ hit ∷ [],
       hit_pushed search c.args.start c.args.derivation.now hit
-          (subst (λ (events : List Event). render search.text.now search.mode search.novar
+          (subst (λ (events : List Event). render search.masked.now.text.now search.mode search.novar
           c.args.start events ≡ Some hit) c.as_slice-events.ensures
           (sym c.in_ok-hit.ensures ∙ c.in-Some.is)) seen (seen ++ hit ∷ []) refl,
       c.in_ok-add_best.ensures seen are,

@@ -13,11 +13,11 @@ use Rattle.ux_locate.proofs.from_start.best_hits.Goals as goal
 pub walk_through-requires : goal.walk_through-requires
 walk_through-requires g c = record {
   measured = c.is_measured.ensures;
-  belongs = c.requires.belongs;
+  table = c.requires.masks;
   sound = c.requires.kept;
   told = c.requires.told;
   inside =
-      let low = start_within c.args.search.now.text.now c.args.start c.requires.starts in
+      let low = start_within c.args.search.now.masked.now.text.now c.args.start c.requires.starts in
       omega (arith, low);
 }
 

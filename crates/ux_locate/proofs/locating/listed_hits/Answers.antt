@@ -6,19 +6,19 @@ use Rattle.ux_locate.proofs.KeptLemmas.{kept_listing, listing_same}
 use Rattle.ux_locate.proofs.locating.listed_hits.Goals as goal
 
 pub kept_hits-requires-clause-uncut : goal.kept_hits-requires-clause-uncut
-kept_hits-requires-clause-uncut g c = c.cuts_nothing.ensures.0 c.if-cuts_nothing.true
+kept_hits-requires-clause-uncut c = c.cuts_nothing.ensures.0 c.if-cuts_nothing.true
 
 pub returns-then-cuts_nothing : goal.returns-then-cuts_nothing
-returns-then-cuts_nothing g c =
+returns-then-cuts_nothing c =
     let search = c.args.search.now in
-    kept_listing search.policy (IsFound search.text.now (IsHitFrom search)) c.in_ok-hits.hits.items
+    kept_listing search.policy (IsFound search.masked.now.text.now (IsHitFrom search)) c.in_ok-hits.hits.items
     c.sort_hits.new.hits.items c.in_ok-hits.ensures c.sort_hits.ensures.same
     c.sort_hits.ensures.in_order
 
 pub returns : goal.returns
-returns g c =
+returns c =
     let search = c.args.search.now in
-    let Is = IsFound search.text.now (IsHitFrom search) in
+    let Is = IsFound search.masked.now.text.now (IsHitFrom search) in
     let hits = c.in_ok-hits-2.hits.items in
     IfOk-weaker c.keep.result (λ kept. IsKeptListing search.policy (Contains hits) kept.items)
     (λ kept. IsKeptListing search.policy Is kept.items)

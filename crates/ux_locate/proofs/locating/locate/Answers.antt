@@ -1,28 +1,28 @@
+use Rattle.std.proofs.Common.{List, subst, sym}
 use Rattle.std.proofs.lemmas.Result.{IfOk-weaker}
+use Rattle.ux_net.specs.declared.net_graph.NetGraph.{NetGraph}
 use Rattle.ux_net.specs.Nets.{net_grammar}
-use Rattle.ux_locate.specs.declared.search.Search.{Search}
-use Rattle.ux_locate.specs.Finding.{IsFound, IsHitFrom}
 use Rattle.ux_locate.specs.Hits.{IsHit}
 use Rattle.ux_locate.specs.Index.{IsKeptListing}
-use Rattle.ux_locate.proofs.HitLemmas.{found_hit}
-use Rattle.ux_locate.proofs.KeptLemmas.{listing_same}
+use Rattle.ux_locate.specs.Searchable.{IsSearchable}
+use Rattle.ux_locate.proofs.OverLemmas.{hits_over}
 use Rattle.ux_locate.proofs.locating.locate.Goals as goal
 
-pub returns : goal.returns
-returns g c =
-    let search : Search = record {
-      net = c.args.net;
-      text = c.args.text;
-      alphabet = c.args.alphabet;
-      applied = c.args.applied;
-      mode = c.args.mode;
-      novar = c.args.novar;
-      policy = c.args.policy;
-    } in
-    let Found = IsFound search.text.now (IsHitFrom search) in
-    let Is = IsHit search.alphabet.now search.text.now search.applied.now
-    (net_grammar search.net.now) search.mode search.novar in
-    IfOk-weaker c.listed_hits.result (λ kept. IsKeptListing search.policy Found kept.items)
-    (λ kept. IsKeptListing search.policy Is kept.items)
-    (λ kept. listing_same Found Is (found_hit search) kept.items search.policy)
-    c.listed_hits.ensures
+pub hits_in-requires-clause-searchable : goal.hits_in-requires-clause-searchable
+hits_in-requires-clause-searchable g c =
+    subst (λ (net : List NetGraph). IsSearchable net) (sym c.in_ok-masked.ensures.over.net_is)
+    c.requires.searchable
+
+pub returns-clause-hits : goal.returns-clause-hits
+returns-clause-hits g c =
+    let masked = c.in_ok-masked.masked in
+    let mode = c.args.mode in
+    let novar = c.args.novar in
+    IfOk-weaker c.hits_in.result
+    (λ kept. IsKeptListing c.args.policy (IsHit masked.alphabet.now masked.text.now
+    masked.applied.now (net_grammar masked.net.now) mode novar) kept.items)
+    (λ kept. IsKeptListing c.args.policy (IsHit c.args.alphabet.now c.args.text.now
+    c.args.applied.now (net_grammar c.args.net.now) mode novar) kept.items)
+    (λ kept. hits_over c.args.net.now c.args.text.now c.args.alphabet.now c.args.applied.now masked
+    c.in_ok-masked.ensures.over c.args.policy mode novar kept.items)
+    c.hits_in.ensures

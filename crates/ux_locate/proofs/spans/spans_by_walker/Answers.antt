@@ -6,7 +6,7 @@ use Rattle.ux_locate.specs.Keeping.{AreKept, first_in, last_in}
 use Rattle.ux_locate.proofs.spans.spans_by_walker.Goals as goal
 
 pub returns : goal.returns
-returns g c =
+returns c =
     subst (λ (s : Setting). IfOk c.spans_from_starts.result (λ spans.
-    AreKept c.args.policy first_in last_in (IsFound c.args.text.now (IsSpanFrom s)) spans.items))
+    AreKept c.args.policy first_in last_in (IsFound c.args.masked.now.text.now (IsSpanFrom s)) spans.items))
     c.in_ok-walker.ensures c.spans_from_starts.ensures

@@ -1,9 +1,8 @@
-use Rattle.std.proofs.Common.{◌≡◌, ◌∙◌, ℕ, List, Vec, Global, ap, subst, sym}
-use Rattle.std.proofs.lemmas.List.{map-id}
+use Rattle.std.proofs.Common.{ℕ, List, Vec, Global, ap, subst, sym}
 use Rattle.ux_dela.specs.declared.entry.Entry.{Entry}
 use Rattle.ux_apply.specs.declared.priority.Priority.{Priority}
-use Rattle.ux_apply.specs.Applying.{contents}
 use Rattle.ux_apply.specs.Tables.{AreApplied}
+use Rattle.ux_dictionaries.specs.Dictionaries.{contents_of}
 use Rattle.ux_net.specs.Nets.{net_grammar}
 use Rattle.ux_locate.specs.Hits.{IsHit}
 use Rattle.ux_locate.specs.Index.{IsIndex}
@@ -14,14 +13,10 @@ returns c =
     let alphabet = c.args.files.alphabet in
     let tokens = c.args.files.text in
     let tables = c.in_ok-applied.applied in
-    let dics : List (Priority × List Entry) = c.args.files.dics.items in
-    let lent = c.deref.result.now in
-    let same : contents (λ (content : List Entry). content) lent ≡ dics =
-    map-id lent ∙ c.deref.ensures.value in
     record {
       tables = tables;
       applied = subst (λ (l : List (Priority × List Entry)). AreApplied alphabet l tokens tables)
-          same c.in_ok-applied.ensures.applied;
+          (ap contents_of c.deref.ensures.value) c.in_ok-applied.ensures.applied;
       is = subst (IsIndex c.args.mode c.args.policy (IsHit alphabet tokens tables (net_grammar c.args.files.net)
           c.args.mode c.args.novar))
           (sym (ap (λ (v : Vec ℕ Global). v.items) c.into_bytes.ensures.value)) c.in_ok-index.ensures;

@@ -1,6 +1,7 @@
 use Rattle.std.proofs.Common.{◌∙◌, List, ℕ, length, subst, sym}
 use Rattle.std.proofs.lemmas.Bool.{false≢true}
-use Rattle.ux_text_chart.specs.MaskedTexts.{input_of, masked_setting}
+use Rattle.ux_text_chart.specs.Leading.{input_of}
+use Rattle.ux_walk.specs.Settings.{masked_setting}
 use Rattle.ux_text_chart.specs.Likely.{MayBegin}
 use Rattle.ux_text_chart.proofs.LikelyLemmas.{likely_more, likely_same, may_begin}
 use Rattle.ux_text_chart.proofs.beginning.add_part.Goals as goal

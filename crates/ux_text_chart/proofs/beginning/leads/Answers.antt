@@ -1,7 +1,8 @@
 use Rattle.std.proofs.Common.{◌↔◌, sym, subst}
 use Rattle.std.specs.Prelude.{IsTrue}
 use Rattle.ux_net.specs.declared.label.Label.{Label}
-use Rattle.ux_text_chart.specs.MaskedTexts.{input_of, masked_setting}
+use Rattle.ux_text_chart.specs.Leading.{input_of}
+use Rattle.ux_walk.specs.Settings.{masked_setting}
 use Rattle.ux_text_chart.specs.Likely.{MayLeadTo}
 use Rattle.ux_text_chart.proofs.beginning.leads.Goals as goal
 

@@ -1,6 +1,7 @@
 use Rattle.std.proofs.Common.{arith, length}
 use Rattle.std.proofs.lemmas.Option.{slice_get_within}
-use Rattle.ux_text_chart.specs.MaskedTexts.{input_of, masked_setting}
+use Rattle.ux_text_chart.specs.Leading.{input_of}
+use Rattle.ux_walk.specs.Settings.{masked_setting}
 use Rattle.ux_text_chart.proofs.LikelyLemmas.{likely_none, likely_next, likely_whole, none_earlier, none_later, tried}
 use Rattle.ux_text_chart.proofs.beginning.likely_parts.Goals as goal
 

@@ -1,5 +1,6 @@
 use Rattle.std.proofs.Common.{sym}
-use Rattle.ux_text_chart.specs.MaskedTexts.{input_of, masked_setting}
+use Rattle.ux_text_chart.specs.Leading.{input_of}
+use Rattle.ux_walk.specs.Settings.{masked_setting}
 use Rattle.ux_text_chart.proofs.LikelyLemmas.{none_more, none_leads}
 use Rattle.ux_text_chart.proofs.beginning.some_leads.Goals as goal
 

@@ -1,7 +1,8 @@
 use Rattle.std.proofs.Common.{ℕ, ◌<◌, ◌≡◌}
 use Rattle.std.specs.Prelude.{Some, slice_get}
 use Rattle.ux_net.specs.declared.state.Edge.{Edge}
-use Rattle.ux_text_chart.specs.MaskedTexts.{input_of, masked_setting}
+use Rattle.ux_text_chart.specs.Leading.{input_of}
+use Rattle.ux_walk.specs.Settings.{masked_setting}
 use Rattle.ux_text_chart.specs.Likely.{MayLeadTo}
 use Rattle.ux_text_chart.proofs.beginning.some_leads.Given as goal
 

@@ -3,36 +3,45 @@ use Rattle.ux_net.specs.declared.label.Label.{Label}
 use Rattle.ux_walk.specs.Courses.{TakesPlainly}
 use Rattle.ux_walk.specs.Passages.{TakesUpTo}
 use Rattle.ux_walk.proofs.MatchingLemmas.{through}
+use Rattle.ux_mask_table.proofs.KnownLabels.{known_mask}
 use Rattle.ux_walk.proofs.matching.passage_at.Goals as goal
 
+pub after_mask-requires-clause-mask : goal.after_mask-requires-clause-mask
+after_mask-requires-clause-mask c =
+    known_mask c.args.masked.now c.args.label.now c.in-Mask.mask c.requires.known c.in-Mask.is
+
 pub returns-in-Fold-clause-takes : goal.returns-in-Fold-clause-takes
-returns-in-Fold-clause-takes g c = λ k.
+returns-in-Fold-clause-takes c = λ k.
+    let masked = c.args.masked.now in
     subst (λ (x : Label). TakesUpTo c.taking.result k
-    ↔ TakesPlainly c.args.alphabet.now c.args.text.now c.args.applied.now x c.args.position k)
+    ↔ TakesPlainly masked.alphabet.now masked.text.now masked.applied.now x c.args.position k)
     (sym c.in-Fold.is)
     (through (c.taking.ensures.takes k)
     (through (rw c.as_str.ensures at c.after_fold.ensures k) (λ t. (tt, t), λ t. t.1)))
 
 pub returns-in-Exact-clause-takes : goal.returns-in-Exact-clause-takes
-returns-in-Exact-clause-takes g c = λ k.
+returns-in-Exact-clause-takes c = λ k.
+    let masked = c.args.masked.now in
     subst (λ (x : Label). TakesUpTo c.taking-in-Exact.result k
-    ↔ TakesPlainly c.args.alphabet.now c.args.text.now c.args.applied.now x c.args.position k)
+    ↔ TakesPlainly masked.alphabet.now masked.text.now masked.applied.now x c.args.position k)
     (sym c.in-Exact.is)
     (through (c.taking-in-Exact.ensures.takes k)
     (through (rw c.as_str-in-Exact.ensures at c.after_exact.ensures k) (λ t. (tt, t), λ t. t.1)))
 
 pub returns-in-Brace-clause-takes : goal.returns-in-Brace-clause-takes
-returns-in-Brace-clause-takes g c = λ k.
+returns-in-Brace-clause-takes c = λ k.
+    let masked = c.args.masked.now in
     subst (λ (x : Label). TakesUpTo c.taking-in-Brace.result k
-    ↔ TakesPlainly c.args.alphabet.now c.args.text.now c.args.applied.now x c.args.position k)
+    ↔ TakesPlainly masked.alphabet.now masked.text.now masked.applied.now x c.args.position k)
     (sym c.in-Brace.is)
     (through (c.taking-in-Brace.ensures.takes k)
     (through (rw c.as_str-in-Brace.ensures at c.after_brace.ensures k) (λ t. (tt, t), λ t. t.1)))
 
 pub returns-in-Space-clause-takes : goal.returns-in-Space-clause-takes
-returns-in-Space-clause-takes g c = λ k.
+returns-in-Space-clause-takes c = λ k.
+    let masked = c.args.masked.now in
     subst (λ (x : Label). TakesUpTo c.taking-in-Space.result k
-    ↔ TakesPlainly c.args.alphabet.now c.args.text.now c.args.applied.now x c.args.position k)
+    ↔ TakesPlainly masked.alphabet.now masked.text.now masked.applied.now x c.args.position k)
     (sym c.in-Space.is)
     (through (c.taking-in-Space.ensures.takes k)
     (through (c.after_space.ensures k) (λ t. (tt, t), λ t. t.1)))

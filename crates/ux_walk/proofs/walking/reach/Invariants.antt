@@ -10,11 +10,14 @@ use Rattle.ux_walk.proofs.walking.reach.Given as goal
 -- what was reached is right, and the walk went on from each configuration before the next
 abbrev pub invariant-loop-config : goal.invariant-loop-config
 invariant-loop-config g l = record {
-  sound : AreSound l.alphabet l.net (different_texts l.text) l.look_ups;
+  sound : AreSound l.masked.alphabet.now l.masked.net.now (different_texts l.masked.text.now)
+      l.look_ups;
   main : IsVisit l.reached l.main (main_visit l.start);
-  walking : (meant : ApplyAsMeant (applied_text l.alphabet l.text l.applied) l.net
-      (g.C.Contexts.applies l.contexts)) → Walking l.alphabet l.text l.applied
-      (g.C.Contexts.applies l.contexts) l.net meant l.start l.reached l.next;
+  walking : (meant : ApplyAsMeant
+      (applied_text l.masked.alphabet.now l.masked.text.now l.masked.applied.now)
+      l.masked.net.now (g.C.Contexts.applies l.contexts)) →
+      Walking l.masked.alphabet.now l.masked.text.now l.masked.applied.now
+      (g.C.Contexts.applies l.contexts) l.masked.net.now meant l.start l.reached l.next;
 }
 
 -- the walk goes on from each configuration once

@@ -13,10 +13,10 @@ returns-clause-exactly g c = λ end events.
 
 pub returns-clause-follows : goal.returns-clause-follows
 returns-clause-follows g c = λ end events inside.
-    derivation_follows c.args.alphabet.now c.args.text.now c.args.applied.now
-    (accepts_forward c.args.alphabet.now c.args.text.now c.args.applied.now c.requires.belongs)
-    (net_grammar c.args.net.now) 1
-    c.args.start end events
+    let masked = c.args.masked.now in
+    derivation_follows masked.alphabet.now masked.text.now masked.applied.now
+    (accepts_forward masked.alphabet.now masked.text.now masked.applied.now
+    c.requires.table.belongs) (net_grammar masked.net.now) 1 c.args.start end events
     ((through (c.in_ok-derivations.ensures.exactly (main_visit c.args.start)
     c.in_ok-main.ensures.main end events)
     (c.in_ok-main.ensures.exactly end events)).0 inside) c.requires.inside

@@ -10,32 +10,32 @@ use Rattle.ux_walker.proofs.WalkLemmas.{ready_kept}
 use Rattle.ux_walker.proofs.walking.go_on.Goals as goal
 
 pub step-requires-clause-front : goal.step-requires-clause-front
-step-requires-clause-front g c =
+step-requires-clause-front c =
     (c.requires.under_way.ready c.args.visit (Contains-push c.args.agenda.now c.args.visit)).front
 
 pub step-requires-clause-inside : goal.step-requires-clause-inside
-step-requires-clause-inside g c =
+step-requires-clause-inside c =
     (c.requires.under_way.ready c.args.visit (Contains-push c.args.agenda.now c.args.visit)).within
 
 pub put_step-requires-clause-inside : goal.put_step-requires-clause-inside
-put_step-requires-clause-inside g c =
+put_step-requires-clause-inside c =
     subst (λ (l : List Token). c.args.visit.at ≤ length l) c.requires.text
     (c.requires.under_way.ready c.args.visit (Contains-push c.args.agenda.now c.args.visit)).within
 
 pub put_step-requires-clause-landings : goal.put_step-requires-clause-landings
-put_step-requires-clause-landings g c landing inside =
+put_step-requires-clause-landings c landing inside =
     let is = c.in_ok-step.ensures.step.landings landing inside in
     let forward = skip_forward c.step.new.self.setting.tokens c.args.visit.at in
     let later = is.later in
     (record { is = is.front; within = inr is.within }, omega (arith, later, forward))
 
 pub put_step-requires-clause-ready : goal.put_step-requires-clause-ready
-put_step-requires-clause-ready g c visit inside =
+put_step-requires-clause-ready c visit inside =
     ready_kept c.args.automaton.now c.step.new.self c.in_ok-step.ensures.keeps (c.args.visit.at + 1)
     visit (c.requires.least visit inside)
 
 pub returns-clause-under_way : goal.returns-clause-under_way
-returns-clause-under_way g c =
+returns-clause-under_way c =
     let k0 = c.args.automaton.now in
     let k1 = c.step.new.self in
     let k2 = c.put_step.new.automaton in

@@ -8,13 +8,13 @@ use Rattle.ux_walker.proofs.UnderWay.{least_ready, left_falls}
 use Rattle.ux_walker.proofs.walking.walk.Goals as goal
 
 pub go_on-requires-clause-least : goal.go_on-requires-clause-least
-go_on-requires-clause-least g c =
+go_on-requires-clause-least c =
     least_ready c.loop-visit.automaton c.args.start c.loop-visit.agenda c.take_least.new.self
     c.in-Some.visit c.loop-visit.ends.items c.in-Some.ensures.taken c.in-Some.ensures.least
     c.loop-visit.invariant.way
 
 pub loop-visit-smaller : goal.loop-visit-smaller
-loop-visit-smaller g c =
+loop-visit-smaller c =
     let tokens = ap (λ (s : Setting). s.tokens) c.loop-visit.invariant.same ∙ c.requires.text in
     let there = subst (λ (l : List Visit). IsUnderWay c.loop-visit.automaton c.args.start l
     c.loop-visit.ends.items) c.in-Some.ensures.taken c.loop-visit.invariant.way in

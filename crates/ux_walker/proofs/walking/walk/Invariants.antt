@@ -5,11 +5,11 @@ use Rattle.ux_walker.proofs.walking.walk.Given as goal
 
 -- the walk came so far
 abbrev pub invariant-loop-visit : goal.invariant-loop-visit
-invariant-loop-visit g l = record {
+invariant-loop-visit l = record {
   same : l.automaton.setting ≡ l.fn.automaton.setting;
   way : IsUnderWay l.automaton l.start l.agenda l.ends.items;
 }
 
 -- the tokens from the least position on
 abbrev pub decreases-loop-visit : goal.decreases-loop-visit
-decreases-loop-visit g l = left_of l.text l.agenda
+decreases-loop-visit l = left_of l.text l.agenda

@@ -9,7 +9,7 @@ use Rattle.ux_automaton.proofs.FrontIndexLemmas.{index_likely}
 use Rattle.ux_automaton.proofs.front_index.FrontIndex.likely.Goals as goal
 
 pub returns : goal.returns
-returns c given text store front is numbered =
+returns c masked text store front is numbered =
     let run = c.run.result.now in
     let rises : IsNonDecreasingBy number_of c.as_slice.result.now =
     subst (λ (l : List Fitting). IsNonDecreasingBy number_of l) (sym c.as_slice.ensures.value)
@@ -19,8 +19,8 @@ returns c given text store front is numbered =
     c.in_ok-extend_from_slice.ensures.items
     ∙ (ap (λ (l : List Stand). l ++ c.as_slice-2.result.now) c.in_ok-few.ensures
     ∙ ap (λ (l : List Stand). map stand_of run ++ l) c.as_slice-2.ensures.value) in
-    subst (AreLikely given text (HasStand store front)) (sym whole)
-    (index_likely given text (HasStand store front) c.args.self.now is c.args.number numbered run
+    subst (AreLikely masked text (HasStand store front)) (sym whole)
+    (index_likely masked text (HasStand store front) c.args.self.now is c.args.number numbered run
     (λ fitting inside. subst (λ (l : List Fitting). Contains l fitting) c.as_slice.ensures.value
     (c.run.ensures.among fitting inside))
     (λ fitting same inside. c.run.ensures.all rises fitting same

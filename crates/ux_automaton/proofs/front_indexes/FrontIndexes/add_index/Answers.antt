@@ -11,10 +11,10 @@ of-requires c = c.requires.indexed.ready c.in-Some.words c.in-Some.is
 pub returns : goal.returns
 returns c =
     let store = store_of c.args.fronts.now in
-    let all = one_index c.args.given.now store c.args.self.now (record c.args.self.now {
+    let all = one_index c.args.masked.now store c.args.self.now (record c.args.self.now {
       indexes = c.put_at.new.map;
     }) c.args.front c.in_ok-index.index c.requires.there
-    (index_by c.args.given.now (Contains c.args.stands.now) (HasStand store c.args.front)
+    (index_by c.args.masked.now (Contains c.args.stands.now) (HasStand store c.args.front)
     c.requires.stands c.in_ok-index.index c.in_ok-index.ensures) refl c.put_at.ensures
     c.requires.indexed in
     record { ready = all.ready; indexes = all.indexes }

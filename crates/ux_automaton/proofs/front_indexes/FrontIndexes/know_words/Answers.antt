@@ -7,7 +7,7 @@ use Rattle.ux_automaton.proofs.front_indexes.FrontIndexes.know_words.Goals as go
 pub returns : goal.returns
 returns c = record {
   ready = λ words is. subst
-      (λ w. AreReady c.args.given.now.alphabet.now (different_texts c.args.given.now.text.now) w)
+      (λ w. AreReady c.args.masked.now.alphabet.now (different_texts c.args.masked.now.text.now) w)
       (same_Some c.in_ok-words.words words is) c.in_ok-words.ensures;
   indexes = c.requires.indexes;
 }

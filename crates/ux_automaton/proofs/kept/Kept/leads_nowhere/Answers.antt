@@ -1,9 +1,10 @@
-use Rattle.ux_automaton.specs.Kept.{setting_in, store_of}
+use Rattle.ux_automaton.specs.Kept.{store_of}
+use Rattle.ux_walk.specs.Settings.{masked_setting}
 use Rattle.ux_automaton.proofs.NowhereLemmas.{nowhere}
 use Rattle.ux_automaton.proofs.kept.Kept.leads_nowhere.Goals as goal
 
 pub returns : goal.returns
-returns c = λ yes. nowhere (setting_in c.args.given.now) c.requires.belongs
+returns c = λ yes. nowhere (masked_setting c.args.masked.now) c.requires.table.belongs
     (store_of c.args.self.now.fronts) c.args.front c.args.at c.is_space.result
     c.is_space.ensures.space c.in-Some.closed (c.requires.right.closures c.is_space.result
     c.args.front c.in-Some.closed c.in-Some.ensures) (c.is_stuck.ensures.ends c.if-not-is_stuck.false)

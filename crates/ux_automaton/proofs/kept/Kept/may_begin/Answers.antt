@@ -1,6 +1,7 @@
-use Rattle.std.proofs.Common.{arith, false}
+use Rattle.std.proofs.Common.{false}
 use Rattle.std.proofs.lemmas.Bool.{not-false}
-use Rattle.ux_automaton.specs.Kept.{setting_in, store_of}
+use Rattle.ux_automaton.specs.Kept.{store_of}
+use Rattle.ux_walk.specs.Settings.{masked_setting}
 use Rattle.ux_automaton.proofs.NowhereLemmas.{begins_nothing}
 use Rattle.ux_automaton.proofs.kept.Kept.may_begin.Goals as goal
 
@@ -15,7 +16,7 @@ next_known-requires-clause-tokens c = (c.requires.right.closures false
 pub returns : goal.returns
 returns c = λ no bare.
     let kept = c.args.self.now in
-    begins_nothing (setting_in c.args.given.now) c.requires.belongs (store_of kept.fronts)
+    begins_nothing (masked_setting c.args.masked.now) c.requires.table.belongs (store_of kept.fronts)
     kept.first c.in-Some.closed c.requires.right.first
     (c.requires.right.closures false kept.first c.in-Some.closed c.in-Some.ensures) c.args.start
     c.in-Some-next_known.next c.in-Some-next_known.ensures

@@ -1,10 +1,11 @@
-use Rattle.ux_automaton.specs.Kept.{setting_in, store_of}
+use Rattle.ux_automaton.specs.Kept.{store_of}
+use Rattle.ux_walk.specs.Settings.{masked_setting}
 use Rattle.ux_automaton.proofs.FrontIndexLemmas.{none_likely}
 use Rattle.ux_automaton.proofs.NowhereLemmas.{token_only}
 use Rattle.ux_automaton.proofs.kept.Kept.next_singly.Goals as goal
 
 pub returns-in-Some : goal.returns-in-Some
-returns-in-Some c = token_only (setting_in c.args.given.now) c.requires.belongs
+returns-in-Some c = token_only (masked_setting c.args.masked.now) c.requires.table.belongs
     (store_of c.args.self.now.fronts) c.args.front c.args.number c.in-Some.next c.args.at
     c.args.kind (c.requires.right.transitions (record {
       front = c.args.front;
@@ -14,7 +15,7 @@ returns-in-Some c = token_only (setting_in c.args.given.now) c.requires.belongs
     }) c.in-Some.ensures) c.requires.numbered c.requires.singly
 
 pub returns-then-has_none : goal.returns-then-has_none
-returns-then-has_none c = none_likely c.args.given.now (store_of c.args.self.now.fronts)
+returns-then-has_none c = none_likely c.args.masked.now (store_of c.args.self.now.fronts)
     c.args.front c.args.number c.args.at c.args.kind c.requires.numbered
-    (λ text numbered. c.has_none.ensures c.args.given.now (store_of c.args.self.now.fronts) text
+    (λ text numbered. c.has_none.ensures c.args.masked.now (store_of c.args.self.now.fronts) text
     c.requires.fronts numbered c.if-has_none.true)

@@ -1,7 +1,7 @@
 use Rattle.std.proofs.Common.{false, refl, subst}
-use Rattle.ux_automaton.specs.declared.kept.Kept.{Kept}
 use Rattle.ux_automaton.specs.Caches.{IsTransition}
-use Rattle.ux_automaton.specs.Kept.{setting_in, store_of}
+use Rattle.ux_automaton.specs.Kept.{store_of}
+use Rattle.ux_walk.specs.Settings.{masked_setting}
 use Rattle.ux_automaton.proofs.CacheLemmas.{barred_put}
 use Rattle.ux_automaton.proofs.NowhereLemmas.{bars}
 use Rattle.ux_automaton.proofs.Results.{on_ok}
@@ -10,7 +10,7 @@ use Rattle.ux_automaton.proofs.kept.Kept.note.Goals as goal
 pub returns-clause-right : goal.returns-clause-right
 returns-clause-right c =
     let old = c.args.self.now in
-    let setting = setting_in c.args.given.now in
+    let setting = masked_setting c.args.masked.now in
     let number = c.number-number.result in
     let kind = c.kind-kind.result in
     let closed = c.in-Some.closed in
@@ -22,7 +22,7 @@ returns-clause-right c =
     }) c.in-Some-next.ensures in
     on_ok c.give.result _ _ (λ put.
     barred_put setting old (record old { barred = c.give.new.slots }) c.requires.right refl refl
-    refl refl number kind (bars setting c.requires.belongs (store_of old.fronts) old.first closed
+    refl refl number kind (bars setting c.requires.table.belongs (store_of old.fronts) old.first closed
     number kind c.requires.right.first
     (c.requires.right.closures false old.first closed c.in-Some.ensures)
     (subst (λ n. IsTransition setting (store_of old.fronts) (record {

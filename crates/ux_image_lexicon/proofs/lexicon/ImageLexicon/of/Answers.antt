@@ -17,8 +17,8 @@ new-requires c =
     coded_is file.0 c.args.image file.1 c.in_ok-lists.lists.items c.in_ok-lists.ensures
     c.requires.automaton
 
-pub returns : goal.returns
-returns c =
+pub returns-clause-content : goal.returns-clause-content
+returns-clause-content c =
     let file = c.requires.file in
     let read = c.in_ok-lists.lists.items in
     let is = coded_is file.0 c.args.image file.1 read c.in_ok-lists.ensures c.requires.automaton in
@@ -26,4 +26,4 @@ returns c =
     λ i. record { states = c.new.ensures.states i; lists = c.new.ensures.lists i } in
     IfOk-weaker c.of_coded.result _ _ (λ lexicon whole.
     subst (IsContentOf c.args.image) (sym (whole ∙ ap content_in same))
-    (content_of file.0 c.args.image file.1 read c.in_ok-lists.ensures is)) c.of_coded.ensures
+    (content_of file.0 c.args.image file.1 read c.in_ok-lists.ensures is)) c.of_coded.ensures.content

@@ -5,6 +5,7 @@ use Rattle.ux_image_lists.specs.Sizes.{forms_of}
 use Rattle.ux_image_look_ups.specs.Longest.{longest_in}
 use Rattle.ux_image_look_ups.specs.Ways.{HaveForms}
 use Rattle.ux_image_lexicon.proofs.FoundLemmas.{longest_is}
+use Rattle.ux_image_lexicon.proofs.OrderLemmas.{dictionary_is}
 use Rattle.ux_image_lexicon.proofs.lexicon.ImageLexicon.of_coded.Goals as goal
 
 pub longest-requires : goal.longest-requires
@@ -20,3 +21,6 @@ invariant_of-result c = (
       ∙ sym (longest_is c.args.coded c.states.ensures.is),
   c.in_ok-counts.ensures,
 )
+
+pub returns-clause-kept : goal.returns-clause-kept
+returns-clause-kept c = dictionary_is c.args.coded c.states.ensures.is

@@ -5,7 +5,7 @@ use Rattle.ux_locate.proofs.AfterLemmas.{later_ends}
 use Rattle.ux_locate.proofs.ends.ChartEndsEnds.list.Goals as goal
 
 pub returns-clause-ends : goal.returns-clause-ends
-returns-clause-ends g c =
+returns-clause-ends c =
     let all = c.at.result.now in
     let start = c.args.start in
     let later = c.keep_after.new.positions.items in

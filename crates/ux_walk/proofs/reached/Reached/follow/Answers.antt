@@ -16,9 +16,9 @@ go_on-requires g c = record {
 
 pub returns : goal.returns
 returns g c = on_ok c.go_on.result _ _ (λ adds.
-    let alphabet = c.args.alphabet.now in
-    let tokens = c.args.text.now in
-    let tables = c.args.applied.now in
+    let alphabet = c.args.masked.now.alphabet.now in
+    let tokens = c.args.masked.now.text.now in
+    let tables = c.args.masked.now.applied.now in
     let applies = g.C.Contexts.applies c.args.contexts.now in
     let edge = c.args.edge.now in
     let config = c.args.config in
@@ -38,8 +38,9 @@ returns g c = on_ok c.go_on.result _ _ (λ adds.
 
 pub returns-then-is_closed : goal.returns-then-is_closed
 returns-then-is_closed g c = λ v before sound spells.
+    let masked = c.args.masked.now in
     nothing_of v _ c.args.self.now sound (λ w.
-    behind_closed c.args.alphabet.now c.args.text.now c.args.applied.now
+    behind_closed masked.alphabet.now masked.text.now masked.applied.now
     (g.C.Contexts.applies c.args.contexts.now) c.args.edge.now.label _ c.args.config.at _
     c.in_ok-passage.passage (record {
       takes = c.in_ok-passage.ensures.takes;

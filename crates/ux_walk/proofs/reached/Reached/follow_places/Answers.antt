@@ -6,14 +6,16 @@ use Rattle.ux_walk.proofs.reached.Reached.follow_places.Goals as goal
 
 pub loop-place-init : goal.loop-place-init
 loop-place-init g c = λ v before sound spells.
-    adds_first v (IsOverAt c.args.alphabet.now c.args.text.now c.args.applied.now
+    let masked = c.args.masked.now in
+    adds_first v (IsOverAt masked.alphabet.now masked.text.now masked.applied.now
     (g.C.Contexts.applies c.args.contexts.now) c.args.config.here []
     c.args.config.at before c.args.edges.now) c.args.self.now c.args.places.now sound
 
 pub loop-place-preserved : goal.loop-place-preserved
 loop-place-preserved g c = λ v before sound spells.
+    let masked = c.args.masked.now in
     let now = c.loop-place.invariant v before sound spells in
-    adds_next v (IsOverAt c.args.alphabet.now c.args.text.now c.args.applied.now
+    adds_next v (IsOverAt masked.alphabet.now masked.text.now masked.applied.now
     (g.C.Contexts.applies c.args.contexts.now) c.args.config.here []
     c.args.config.at before c.args.edges.now) c.args.self.now c.loop-place.self
     c.follow_place.new.self c.args.places.now
@@ -25,7 +27,8 @@ loop-place-preserved g c = λ v before sound spells.
 
 pub returns : goal.returns
 returns g c = λ v before sound spells.
-    adds_all v (IsOverAt c.args.alphabet.now c.args.text.now c.args.applied.now
+    let masked = c.args.masked.now in
+    adds_all v (IsOverAt masked.alphabet.now masked.text.now masked.applied.now
     (g.C.Contexts.applies c.args.contexts.now) c.args.config.here []
     c.args.config.at before c.args.edges.now) c.args.self.now c.loop-place.self c.args.places.now
     c.loop-place.place-index c.loop-place-test.false

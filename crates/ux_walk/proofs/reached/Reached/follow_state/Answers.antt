@@ -28,23 +28,23 @@ pub returns-then-not-has_index-clause-adds : goal.returns-then-not-has_index-cla
 returns-then-not-has_index-clause-adds g c = on_ok c.follow_edges.result _ _
     (λ adds net found sound. subst (λ (l : List Edge).
     AddsFrom c.args.self.now c.follow_edges.new.self c.args.config (λ before.
-    IsOverSome c.args.alphabet.now c.args.text.now c.args.applied.now
-    (g.C.Contexts.applies c.args.contexts.now) c.args.config.here []
+    IsOverSome c.args.masked.now.alphabet.now c.args.masked.now.text.now
+    c.args.masked.now.applied.now (g.C.Contexts.applies c.args.contexts.now) c.args.config.here []
     c.args.config.at before l)) c.as_slice-edges.ensures adds) c.follow_edges.ensures
 
 pub returns-in_default-clause-adds : goal.returns-in_default-clause-adds
 returns-in_default-clause-adds g c = on_ok c.follow_edges-in_default.result _ _
     (λ adds net found sound. subst (λ (l : List Edge).
     AddsFrom c.args.self.now c.follow_edges-in_default.new.self c.args.config (λ before.
-    IsOverSome c.args.alphabet.now c.args.text.now c.args.applied.now
-    (g.C.Contexts.applies c.args.contexts.now) c.args.config.here []
+    IsOverSome c.args.masked.now.alphabet.now c.args.masked.now.text.now
+    c.args.masked.now.applied.now (g.C.Contexts.applies c.args.contexts.now) c.args.config.here []
     c.args.config.at before l)) c.as_slice-edges.ensures adds) c.follow_edges-in_default.ensures
 
 pub returns-clause-adds : goal.returns-clause-adds
 returns-clause-adds g c = on_ok c.follow_places.result _ _ (λ adds net found sound.
-    let alphabet = c.args.alphabet.now in
-    let tokens = c.args.text.now in
-    let tables = c.args.applied.now in
+    let alphabet = c.args.masked.now.alphabet.now in
+    let tokens = c.args.masked.now.text.now in
+    let tables = c.args.masked.now.applied.now in
     let applies = g.C.Contexts.applies c.args.contexts.now in
     let config = c.args.config in
     let state = c.args.state.now in

@@ -13,7 +13,7 @@ returns c none free =
     let start = c.args.start in
     let is = c.self.view_is in
     ends_from_nothing c.args.self.now
-    (subst (λ (s : Setting). Belongs s.alphabet s.tokens s.tables) is c.self.invariant.belongs)
+    (subst (λ (s : Setting). Belongs s.alphabet s.tokens s.tables) is c.self.invariant.table.belongs)
     (subst (λ (s : Setting). IsMeasured s.net) is c.is_measured.ensures)
     (subst (λ (s : Setting). ArePlain s.net) is c.self.invariant.plain) start
     (let inside = c.requires.inside in omega (arith, inside))

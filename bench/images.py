@@ -1,0 +1,78 @@
+#!/usr/bin/env python3
+"""Times `unitex compress`, and `unitex dico` with the image that it writes and with the dictionary itself, on the data of
+dico.py: 150,000 and 300,000 lines. Beside them a program over the map of the crate fst (fst_map.rs), which makes a map of
+the same forms, sorted, and looks the words of the same text up in it. Prints the best of three runs in turn, and peak
+memory, that of `compress` by line.
+
+Needs the built program (make build), rustc, the sources of fst 0.3 and byteorder as Debian's package librust-fst-dev has
+them, and a folder to write to (bench/data). REGISTRY tells where the sources are.
+"""
+import glob
+import os
+import subprocess
+import sys
+
+import dico
+from measuring import DATA, HERE, PROGRAM, RUNS, apart, least, prepare, run
+
+REGISTRY = os.environ.get("REGISTRY", "/usr/share/cargo/registry")
+PEER = os.path.join(DATA, "fst_map")
+
+
+def source(name):
+    """The root of a crate's newest source."""
+    found = sorted(glob.glob(os.path.join(REGISTRY, f"{name}-[0-9]*", "src", "lib.rs")))
+    if not found:
+        sys.exit(f"{name} isn't in {REGISTRY}: install librust-fst-dev")
+    return found[-1]
+
+
+def compile_peer():
+    """Compiles the peer and the crates under it."""
+    words = ["rustc", "-O", "--cap-lints", "allow", "-L", DATA]
+    library = ["--crate-type", "rlib", "--out-dir", DATA]
+    extern = ["--extern", f"byteorder={DATA}/libbyteorder.rlib"]
+    subprocess.run([*words, *library, "--edition=2021", "--crate-name", "byteorder", "--cfg", 'feature="std"',
+                    source("byteorder")], check=True)
+    subprocess.run([*words, *library, "--edition=2015", "--crate-name", "fst", *extern, source("fst")], check=True)
+    subprocess.run([*words, "--edition=2021", "--extern", f"fst={DATA}/libfst.rlib", "-o", PEER,
+                    os.path.join(HERE, "fst_map.rs")], check=True)
+
+
+def sort_forms(forms, into):
+    """Writes the forms in the order of their bytes."""
+    with open(forms, "rb") as file:
+        lines = sorted(set(file.read().splitlines()))
+    with open(into, "wb") as file:
+        file.writelines(line + b"\n" for line in lines)
+
+
+def main():
+    prepare()
+    compile_peer()
+    letters = os.path.join(DATA, "letters.txt")
+    with open(letters, "w", encoding="utf-8") as file:
+        file.write(dico.ALPHABET)
+    for size in [150_000, 300_000]:
+        apart(dico.write, size)
+        dictionary, forms, text = dico.paths_of(size)
+        image, ordered, table = [os.path.join(DATA, f"dico{size}{end}") for end in (".udi", ".sorted", ".map")]
+        apart(sort_forms, forms, ordered)
+        print(f"{size} lines, a text of {os.path.getsize(text) / 1e6:.1f} MB")
+        programs = [
+            ("unitex compress", [PROGRAM, "compress", dictionary], image),
+            ("fst, a map of the forms", [PEER, "build", ordered, table], None),
+            ("unitex dico, the image", [PROGRAM, "dico", text, letters, image], None),
+            ("fst, the words looked up", [PEER, "look", table, text], None),
+            ("unitex dico, the dictionary", [PROGRAM, "dico", text, letters, dictionary], None),
+        ]
+        runs = [[run(arguments, *([output] if output else [])) for _, arguments, output in programs]
+                for _ in range(RUNS)]
+        for (name, _, output), column in zip(programs, zip(*runs)):
+            seconds, memory = least(column)
+            by_line = f"  {memory / size:.0f} bytes a line" if output else ""
+            print(f"  {name:28}  {seconds:.3f} s  {memory / 1e6:.1f} MB{by_line}")
+        print(f"  the image {os.path.getsize(image) / 1e6:.1f} MB, the map {os.path.getsize(table) / 1e6:.1f} MB")
+
+
+main()

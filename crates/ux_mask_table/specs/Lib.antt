@@ -1,0 +1,3 @@
+pub mod Spans
+pub mod MaskTables
+pub mod MaskedTexts
