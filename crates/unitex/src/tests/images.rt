@@ -175,6 +175,37 @@ fn uses_images_as_dictionaries(rt: HostRuntime) -> Result<(), Fail> {
     Ok(())
 }
 
+#[test]
+fn asks_lists_and_images_by_priority(rt: HostRuntime) -> Result<(), Fail> {
+    const LIST: &[u8] = b"cat,.X\nsat,sit.V\n";
+    const ROWS: &[(&str, &str)] = &[
+        (
+            "d-.udi",
+            "#DLF 3\ncat,.N:s\ncats,cat.N:p\nsat,sit.V\n#DLC 0\n#ERR 1\nThe\n",
+        ),
+        (
+            "d+.udi",
+            "#DLF 3\ncat,.X\ncats,cat.N:p\nsat,sit.V\n#DLC 0\n#ERR 1\nThe\n",
+        ),
+        (
+            "e.udi",
+            "#DLF 4\ncat,.N:s\ncat,.X\ncats,cat.N:p\nsat,sit.V\n#DLC 0\n#ERR 1\nThe\n",
+        ),
+    ];
+    for (image, report) in ROWS {
+        let files = [
+            ("a.txt", LETTERS.as_bytes()),
+            ("t.txt", CATS.as_bytes()),
+            ("d.dic", LIST),
+            (*image, IMAGE),
+        ];
+        let words = ["dico", "t.txt", "a.txt", "d.dic", *image];
+        let got = given(rt.alloc(), &words, files_of(rt.alloc(), &files)?)?;
+        compare_given(&rt, image, &got, (*report, "", 0));
+    }
+    Ok(())
+}
+
 /// Compares the line on `err` of an image that is refused.
 fn compare_refused<R: Abort + AllocGlobal>(
     rt: &R,
