@@ -47,7 +47,7 @@ module _ (tokens : List Token) (first last : ℕ) where
   abbrev Inside : ℕ → Type 0
   Inside i = first ≤ i → IsSomeAnd (slice_get tokens i) (λ token. MayStand token.kind)
 
-  span_settled : IsSettled (IsSpan tokens first last)
+  pub span_settled : IsSettled (IsSpan tokens first last)
   span_settled =
       go (settled_le first last) (settled_some MayBound bound_settled (slice_get tokens first))
       (settled_some MayBound bound_settled (slice_get tokens last))

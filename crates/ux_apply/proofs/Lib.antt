@@ -18,3 +18,4 @@ pub mod PairsLemmas
 pub mod BelongingLemmas
 pub mod KeptLemmas
 pub mod EndsLemmas
+pub mod OneTableLaws

@@ -1,5 +1,11 @@
-pub mod BenchLaws
-pub mod CommandLemmas
+pub mod CodeMasks
+pub mod ContentSaid
+pub mod EntriesSaid
+pub mod Examples
 pub mod GrammarLemmas
+pub mod GraphsDrawn
+pub mod LettersSaid
 pub mod LongestLemmas
-pub mod StopLemmas
+pub mod MadeLaws
+pub mod PhrasesCompile
+pub mod TakingLemmas

@@ -1,27 +1,16 @@
 -- The command `bench`: what it makes up, and what answers it. It reads no file. This file carries the
 -- crate's public meaning.
-use Rattle.std.specs.Prelude.{◌≡◌, ◌≢◌, ⊤, ℕ, false, List, [], ◌∷◌, codes}
-use Rattle.ux_alphabet.specs.File as alphabet
+use Rattle.std.specs.Prelude.{◌≡◌, ℕ, false, List, [], ◌∷◌, codes}
+use Rattle.ux_alphabet.specs.File.{AreLines}
 use Rattle.ux_alphabet.specs.Letters.{Letters}
-use Rattle.ux_alphabet.specs.declared.error.AlphabetError.{AlphabetError}
 use Rattle.ux_apply.specs.declared.priority.Priority.TheVariants.{Normal}
-use Rattle.ux_dela.specs.Files as dela
 use Rattle.ux_dela.specs.declared.entry.Entry.{Entry}
-use Rattle.ux_dela.specs.declared.error.DelaError.{DelaError}
 use Rattle.ux_dict.specs.FileContent.{IsFileContent}
-use Rattle.ux_grammars.specs.Graphs.{IsNoGraph}
 use Rattle.ux_grf.specs.File.{IsGraphOf}
-use Rattle.ux_grf.specs.declared.error.GrfError.{GrfError}
 use Rattle.ux_grf.specs.declared.graph.Graph.{Graph}
 use Rattle.ux_net.specs.Boxes.{Drawn, box_grammar}
-use Rattle.ux_net.specs.Refusing as net
 use Rattle.ux_net.specs.Refusing.{IsCompilable}
-use Rattle.ux_net.specs.declared.error.NetError.{NetError}
-use Rattle.ux_net.specs.declared.error.NetError.TheVariants as net_error
-use Rattle.ux_plan.specs.Plans.{Command, gives, tests}
 use Rattle.ux_bench.specs.Summaries.{IsSummary}
-use Rattle.ux_bench.specs.declared.reason.Reason.{Reason}
-use Rattle.ux_bench.specs.declared.reason.Reason.TheVariants.{Alphabet, Dela, Grf, Net}
 
 -- WHAT IS MADE UP, AS THE TEXTS OF FILES
 
@@ -43,7 +32,7 @@ AP = codes "#Unigraph\n#\n4\n\"<E>\" 0 0 1 2\n\"\" 0 0 0\n\"<A>\" 0 0 2 1 3\n\":
 
 -- the letters of the alphabet
 pub record AreLetters (letters : Letters) : Type 0 where
-  pub lines : alphabet.AreLines ALPHABET letters.lines
+  pub lines : AreLines ALPHABET letters.lines
   pub words : letters.single ≡ false
 
 -- the graphs NP and AP as a grammar, of which NP is the main graph
@@ -72,26 +61,7 @@ pub record AreMade (made : Made) : Type 0 where
   pub graphs : AreGraphs made.graphs
   pub compilable : IsCompilable made.letters made.graphs
 
--- the graphs are drawn, and have no meaning
-pub record IsNoGrammar (error : NetError) : Type 0 where
-  pub letters : Letters
-  pub graphs : List Drawn
-  pub are : AreLetters letters
-  pub drawn : AreGraphs graphs
-  pub refuses : net.Refuses letters graphs error
-  pub not_memory : error ≢ net_error.NoMemory
-
--- why a text says nothing, with the name that its file would have
-pub data RefusesMade : (file : List ℕ) → Reason → Type 0 where
-  no_letters : (error : AlphabetError) → alphabet.Refuses ALPHABET error →
-      RefusesMade (codes "alphabet.txt") (Alphabet error)
-  no_content : (error : DelaError) → dela.Refuses DICTIONARY error →
-      RefusesMade (codes "words.dic") (Dela error)
-  no_np : (error : GrfError) → IsNoGraph NP error → RefusesMade (codes "NP.grf") (Grf error)
-  no_ap : (error : GrfError) → IsNoGraph AP error → RefusesMade (codes "AP.grf") (Grf error)
-  no_grammar : (error : NetError) → IsNoGrammar error → RefusesMade (codes "NP.grf") (Net error)
-
--- THE COMMAND
+-- WHAT ANSWERS THE COMMAND
 
 -- the text tells of all hits of the phrases among n words
 pub record IsSummaryOf (n : ℕ) (text : List ℕ) : Type 0 where
@@ -99,11 +69,3 @@ pub record IsSummaryOf (n : ℕ) (text : List ℕ) : Type 0 where
   pub are : AreMade made
   pub tells : IsSummary n made.letters ((Normal, made.content) ∷ [])
       (box_grammar made.letters made.graphs) text
-
--- the search is told of where all that is made up has a meaning
-abbrev pub bench : (n : ℕ) → Command Reason
-bench n = record {
-  Read = ⊤;
-  plan = tests ((made : Made) × AreMade made) RefusesMade (gives tt);
-  Answers = λ read answer. IsSummaryOf n answer;
-}

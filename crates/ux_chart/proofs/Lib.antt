@@ -14,3 +14,6 @@ pub mod Growing
 pub mod FillingLemmas
 pub mod Telling
 pub mod EmptyTextLemmas
+pub mod AlikeLemmas
+pub mod SharingLemmas
+pub mod FirstEnds

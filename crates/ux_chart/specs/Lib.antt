@@ -1,6 +1,7 @@
 pub mod Tables
 pub mod Rows
 pub mod Likely
+pub mod Alike
 pub mod Places
 pub mod ClosingStates
 pub mod Search

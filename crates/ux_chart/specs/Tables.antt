@@ -1,5 +1,5 @@
 -- Answers in flat lists: each is a stretch of a list. Public: the contracts of the chart speak of it.
-use Rattle.std.specs.Prelude.{◌≡◌, ℕ, ◌+◌, ◌<◌, ◌≤◌, ◌⊎◌, List, [], ◌∷◌, ◌++◌, slice_range, Contains, length}
+use Rattle.std.specs.Prelude.{◌≡◌, ℕ, ◌+◌, ◌<◌, ◌≤◌, ◌⊎◌, List, [], ◌∷◌, ◌++◌, Some, slice_get, slice_range, Contains, length}
 use Rattle.std.specs.List.{AllPairs}
 use Rattle.ux_chart.specs.declared.table.Stretch.{Stretch}
 use Rattle.ux_chart.specs.declared.table.Answer.{Answer}
@@ -62,3 +62,12 @@ pub record IsPushed (old : Table) (part : ℕ) (js cs : List ℕ) (new : Table) 
 abbrev pub IsPut : Table → ℕ → (js cs : List ℕ) → Table → Type 0
 IsPut old part js cs new =
     ((js ≡ []) × (cs ≡ []) × (new ≡ old)) ⊎ IsPushed old part js cs new
+
+-- the ends of none of the answers begin by this position
+abbrev pub NoneFrom : List Answer → (positions : List ℕ) → (i : ℕ) → Type 0
+NoneFrom answers positions i = (answer : Answer) → Contains answers answer →
+    slice_get (cut positions answer.ends) 0 ≡ Some i → ⊥
+
+-- nor those of an answer of the row
+abbrev pub NoneEndsFrom : Table → (row : Stretch) → (i : ℕ) → Type 0
+NoneEndsFrom table row i = NoneFrom (cut table.answers.items row) table.ends.items i

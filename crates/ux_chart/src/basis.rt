@@ -1,11 +1,12 @@
 //! What grammars are matched against, as the chart asks for it.
 
-ghost use Rattle.std.specs.Prelude.{◌≡◌, ℕ, ◌≤◌, ◌↔◌, ◌⊎◌, List, Contains, IfOk, IfSome, OnOk};
+ghost use Rattle.std.specs.Prelude.{◌≡◌, ℕ, ◌≤◌, ◌<◌, ◌↔◌, ◌⊎◌, List, Contains, IfOk, IfSome, OnOk};
 ghost use Rattle.ux_net.specs.declared.net_graph.NetGraph.{NetGraph};
 ghost use Rattle.ux_net.specs.declared.label.Label.{Label as Told};
 ghost use Rattle.ux_meaning.specs.Inputs.{Input};
 ghost use Rattle.ux_parts.specs.Runs.{Plain};
 ghost use Rattle.ux_parts.specs.declared.parts.Parts.{Parts as TheParts};
+ghost use Rattle.ux_chart.specs.Alike.{AreAlike};
 ghost use Rattle.ux_chart.specs.Likely.{AreLikely};
 ghost use Rattle.ux_chart.specs.Places.{AreEdgesOf, AreEnough};
 
@@ -35,6 +36,13 @@ pub trait Basis {
         requires inside { at ≤ last self.now }
         ensures { OnOk result ((k : ℕ) → Contains positions.new.items k
             ↔ (Contains positions.old.items k ⊎ Plain (input self.now) label.now at k)) };
+
+    /// A later position that is alike, if one is known.
+    fn alike(&self, at: usize) -> Option<usize>
+        requires inside { at ≤ last self.now }
+        ensures later { IfSome result (λ later. at < later) }
+        ensures inside { IfSome result (λ later. later ≤ last self.now) }
+        ensures alike { IfSome result (λ later. AreAlike (input self.now) at later) };
 
     /// Puts the numbers of the parts that are worth a search at the position into the list, in
     /// place of what it has, ascending. The input has to be made for this net and these parts.

@@ -75,6 +75,10 @@ impl Basis for EmptyText {
         Ok(())
     }
 
+    fn alike(&self, at: usize) -> Option<usize> {
+        None
+    }
+
     fn likely(&self, net: &Net, parts: &Parts, at: usize, row: &mut Vec<u32>) -> Mem<()> {
         row.clear();
         row.extend_from_slice(self.numbers.as_slice())?;

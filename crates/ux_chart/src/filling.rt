@@ -1,9 +1,10 @@
 //! Filling a chart: part by part, and position by position from the last one back.
 
-ghost use Rattle.std.specs.Prelude.{◌≡◌, ◌+◌, [], length, Some, slice_get, IfOk, OnOk};
+ghost use Rattle.std.specs.Prelude.{◌≡◌, ◌+◌, [], length, Some, slice_get, IfOk, IfSome, OnOk};
 ghost use Rattle.std.specs.List.Sorted.{IsStrictlyIncreasing};
 ghost use Rattle.ux_parts.specs.Ordered.{GoesAhead};
 ghost use Rattle.ux_parts.specs.Parts.{ArePartsOf};
+ghost use Rattle.ux_chart.specs.Alike.{IsSharing};
 ghost use Rattle.ux_chart.specs.ClosingStates.{AreClosing};
 ghost use Rattle.ux_chart.specs.Likely.{AreKnown, AreLikely};
 ghost use Rattle.ux_chart.specs.Rows.{IsAnswer, IsFilled, IsChart, IsWholeRow, AreBegun, begun_at};
@@ -16,6 +17,7 @@ use crate::config::Config;
 use crate::gathering::{closers_in, ends_in};
 use crate::reaching::reach;
 use crate::seen::Seen;
+use crate::sharing::Sharing;
 use crate::table::{Stretch, Table, between};
 use std::alloc::Global;
 use ux_base::Mem;
@@ -33,8 +35,8 @@ impl Chart {
     /// The chart of a net over an input.
     ///
     /// It holds what is found, and a stretch of two numbers of 32 bits a position. Each part that
-    /// is likely at a position is searched there once. Besides, each edge of the net is looked at
-    /// once.
+    /// is likely at a position is searched there once, and none where the position shares the row
+    /// of a later one. Besides, each edge of the net is looked at twice at most.
     pub fn fill<B: Basis>(alloc: Global, basis: &B, net: &Net, parts: &Parts) -> Mem<Chart>
         requires parts { ArePartsOf net.now parts.now }
         requires ahead { GoesAhead (B.input basis.now) (B.last basis.now) }
@@ -45,7 +47,8 @@ impl Chart {
     {
         let mut chart = empty_chart(alloc, basis.last());
         let closing = ClosingStates::of(alloc, net)?;
-        fill_rows(alloc, basis, net, parts, &closing, &mut chart)?;
+        let sharing = Sharing::of(net);
+        fill_rows(alloc, basis, net, parts, &closing, sharing, &mut chart)?;
         Ok(chart)
     }
 }
@@ -70,6 +73,7 @@ fn fill_rows<B: Basis>(
     net: &Net,
     parts: &Parts,
     closing: &ClosingStates,
+    sharing: Sharing,
     chart: &mut Chart,
 ) -> Mem<()>
     requires parts { ArePartsOf net.now parts.now }
@@ -77,6 +81,7 @@ fn fill_rows<B: Basis>(
     requires serves { B.serves basis.now net.now parts.now }
     requires known { AreKnown (B.knows basis.now) net.now }
     requires closing { AreClosing net.now closing.now }
+    requires sharing { IsSharing net.now sharing }
     requires last { chart.old.last ≡ B.last basis.now }
     requires rows { chart.old.rows.items ≡ [] }
     requires table { chart.old.table.answers.items ≡ [] }
@@ -91,12 +96,13 @@ fn fill_rows<B: Basis>(
     'rows: while chart.rows.len() <= chart.last {
         let done = chart.rows.len();
         let at = chart.last - done;
-        let row = fill_row(
+        let row = next_row(
             alloc,
             basis,
             net,
             parts,
             closing,
+            sharing,
             chart,
             at,
             &mut likely,
@@ -108,6 +114,77 @@ fn fill_rows<B: Basis>(
         chart.rows.push(row)?;
     }
     Ok(())
+}
+
+/// The row of a position: that of a later one that shares it, or else one of its own, whose answers
+/// are added to the table.
+fn next_row<B: Basis>(
+    alloc: Global,
+    basis: &B,
+    net: &Net,
+    parts: &Parts,
+    closing: &ClosingStates,
+    sharing: Sharing,
+    chart: &mut Chart,
+    at: usize,
+    likely: &mut Vec<u32>,
+    seen: &mut Seen,
+    found: &mut Vec<Config>,
+    positions: &mut Vec<usize>,
+    lists: &mut Lists,
+) -> Mem<Stretch>
+    requires parts { ArePartsOf net.now parts.now }
+    requires ahead { GoesAhead (B.input basis.now) (B.last basis.now) }
+    requires serves { B.serves basis.now net.now parts.now }
+    requires known { AreKnown (B.knows basis.now) net.now }
+    requires closing { AreClosing net.now closing.now }
+    requires sharing { IsSharing net.now sharing }
+    requires last { chart.old.last ≡ B.last basis.now }
+    requires begun { AreBegun (B.input basis.now) net.now parts.now chart.old }
+    requires count { length chart.old.rows.items + at ≡ chart.old.last }
+    ensures same { chart.new.last ≡ chart.old.last }
+    ensures rows { chart.new.rows.items ≡ chart.old.rows.items }
+    ensures begun { OnOk result (AreBegun (B.input basis.now) net.now parts.now chart.new) }
+    ensures row { IfOk result (λ row.
+        IsWholeRow (B.input basis.now) net.now parts.now chart.new.table row at) }
+{
+    if let Some(row) = shared_row(basis, net, parts, sharing, chart, at) {
+        return Ok(row);
+    }
+    fill_row(
+        alloc, basis, net, parts, closing, chart, at, likely, seen, found, positions, lists,
+    )
+}
+
+/// The row of a later position that is alike, if it tells of both: where no part stays at that
+/// position.
+fn shared_row<B: Basis>(
+    basis: &B,
+    net: &Net,
+    parts: &Parts,
+    sharing: Sharing,
+    chart: &Chart,
+    at: usize,
+) -> Option<Stretch>
+    requires ahead { GoesAhead (B.input basis.now) (B.last basis.now) }
+    requires sharing { IsSharing net.now sharing }
+    requires last { chart.now.last ≡ B.last basis.now }
+    requires begun { AreBegun (B.input basis.now) net.now parts.now chart.now }
+    requires count { length chart.now.rows.items + at ≡ chart.now.last }
+    ensures { IfSome result (λ row.
+        IsWholeRow (B.input basis.now) net.now parts.now chart.now.table row at) }
+{
+    match sharing {
+        Sharing::Alike => {
+            let later = basis.alike(at)?;
+            let row = chart.rows[chart.last - later];
+            if chart.table.some_ends_from(row, later) {
+                return None;
+            }
+            Some(row)
+        },
+        Sharing::Nowhere => None,
+    }
 }
 
 /// Adds the answers at a position to the table. Returns its row.

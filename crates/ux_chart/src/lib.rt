@@ -19,7 +19,9 @@
 //! edge that closes a context. One search gives both. Most searches are small: their lists are kept
 //! from one to the next, and what one has seen is hashed only where it is much (`seen`). The answers
 //! stand in flat lists (`table`): a part that reaches nothing has none, and a position without
-//! answers takes a stretch of two numbers, however many parts there are.
+//! answers takes a stretch of two numbers, however many parts there are. Positions that the input
+//! tells to be alike, as those before and behind a space, share a row (`sharing`): nothing is
+//! searched for the earlier one.
 //!
 //! Nothing here knows of tokens: what is matched is a `Basis`. It also tells which parts are worth
 //! a search at a position; `EmptyText` is the least one. Begin with `filling`, and with
@@ -37,6 +39,7 @@ pub mod gathering;
 pub mod ordering;
 pub mod reaching;
 pub mod seen;
+pub mod sharing;
 pub mod table;
 
 pub use basis::Basis;

@@ -1,7 +1,7 @@
 //! Answers in flat lists.
 
-ghost use Rattle.std.specs.Prelude.{◌≡◌, ℕ, ◌<◌, ◌≤◌, [], length, Contains, slice_index_or, IfNone, IfOk, IfSome, OnOk};
-ghost use Rattle.ux_chart.specs.Tables.{cut, stretch_of, AscendByPart, IsStretchOf, IsTable, IsSorted, IsPushed, Tells};
+ghost use Rattle.std.specs.Prelude.{◌≡◌, ℕ, ◌<◌, ◌≤◌, [], Some, false, length, Contains, slice_get, slice_index_or, IfNone, IfOk, IfSome, OnOk};
+ghost use Rattle.ux_chart.specs.Tables.{cut, stretch_of, AscendByPart, IsStretchOf, IsTable, IsSorted, IsPushed, NoneEndsFrom, NoneFrom, Tells};
 ghost use Rattle.ux_chart.specs.declared.table.Answer.{Answer};
 
 use std::alloc::Global;
@@ -104,6 +104,43 @@ impl Table {
                 closers: &[],
             },
         }
+    }
+
+    /// Whether the ends of some answer of a row begin by the position.
+    pub fn some_ends_from(&self, row: Stretch, at: usize) -> bool
+        requires table { IsTable self.now }
+        requires row { IsSorted self.now row }
+        ensures { result ≡ false → NoneEndsFrom self.now row at }
+    {
+        some_end_from(
+            &self.answers[row.from as usize..row.to as usize],
+            &self.ends,
+            at,
+        )
+    }
+}
+
+/// Whether the ends of one of the answers begin by the position.
+fn some_end_from(answers: &[Answer], positions: &[usize], at: usize) -> bool
+    requires { (answer : Answer) → Contains answers.now answer →
+        IsStretchOf (length positions.now) answer.ends }
+    ensures { result ≡ false → NoneFrom answers.now positions.now at }
+{
+    for answer in answers {
+        if begin_by(positions_in(positions, answer.ends), at) {
+            return true;
+        }
+    }
+    false
+}
+
+/// Whether the position is the first one.
+fn begin_by(positions: &[usize], at: usize) -> bool
+    ensures { result ≡ false → slice_get positions.now 0 ≡ Some at → ⊥ }
+{
+    match positions.first() {
+        Some(first) => *first == at,
+        None => false,
     }
 }
 

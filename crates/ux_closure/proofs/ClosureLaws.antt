@@ -102,7 +102,7 @@ module _ (setting : Setting) (at : ℕ) (is_spaced : Bool) (tells : TellsSpace s
         (goes w (state, found, inl (edge, inside, inr (inr (inr (c, opens, applied, is))))) rest)
         here = absurd applied
     split_forth {stack = f ∷ fs} {end = end}
-        (goes w (state, found, inl (edge, inside, inr (inr (inl (h, calls, is))))) rest) here =
+        (goes w (state, found, inl (edge, inside, inr (inr (inl (h, calls, enters, is))))) rest) here =
         let next : Frame = record { graph = f.graph; state = edge.target } in
         let start : Frame = record { graph = h; state = 0 } in
         further (f ∷ fs) (start ∷ next ∷ fs) end
@@ -130,7 +130,7 @@ module _ (setting : Setting) (at : ℕ) (is_spaced : Bool) (tells : TellsSpace s
         let behind : Frame = record { graph = f.graph; state = edge.target } in
         let start : Frame = record { graph = h; state = 0 } in
         goes (record { frames = start ∷ behind ∷ fs; at = at; before = put_before edge })
-        (state, found, inl (edge, inside, inr (inr (inl (h, calls, refl)))))
+        (state, found, inl (edge, inside, inr (inr (inl (h, calls, tt, refl)))))
         (subst (λ (s : Stack). LeadsTo setting s at end) is leads)
 
     reach_back : {stack last : Stack} {end : ℕ} → Reaches setting.net is_spaced stack last →

@@ -1,5 +1,5 @@
 -- The plan of `compress` keeps the laws.
-use Rattle.std.proofs.Common.{◌≡◌, ℕ, List, sym, ◌∙◌, subst}
+use Rattle.std.proofs.Common.{◌≡◌, ℕ, List, sym, subst}
 use Rattle.ux_dela.specs.Files.{Refuses}
 use Rattle.ux_dela.specs.declared.entry.Entry.{Entry}
 use Rattle.ux_dela.proofs.UniqueLaws.{entries_are_unique}

@@ -13,7 +13,8 @@ use crate::content::{content_in, content_of};
 use crate::reason::Reason;
 use std::alloc::Global;
 use ux_base::Folder;
-use ux_dela::{DelaError, Entry};
+use ux_dela::DelaError;
+use ux_dict::Stored;
 use ux_image::image_of;
 use ux_image_files::{is_image, read_image};
 use ux_plan::{Stop, read_decoded, refused};
@@ -32,7 +33,7 @@ pub fn compress<F: Folder>(
         (F.seen folder.old) (F.seen folder.new)) }
 {
     let content = read_content(alloc, dic, folder)?;
-    let image = image_of(alloc, &content)?;
+    let image = image_of(alloc, content)?;
     Ok(image)
 }
 
@@ -41,7 +42,7 @@ fn read_content<F: Folder>(
     alloc: Global,
     name: &str,
     folder: &mut F,
-) -> Result<Vec<Entry>, Stop<Reason>>
+) -> Result<Vec<Stored>, Stop<Reason>>
     ensures later { IsLater (F.seen folder.old) (F.seen folder.new) }
     ensures ok { IfOk result (λ content.
         Reads (content_format name.now) name.now (F.seen folder.old).files content.items) }
@@ -61,7 +62,7 @@ fn read_imaged<F: Folder>(
     alloc: Global,
     name: &str,
     folder: &mut F,
-) -> Result<Vec<Entry>, Stop<Reason>>
+) -> Result<Vec<Stored>, Stop<Reason>>
     ensures later { IsLater (F.seen folder.old) (F.seen folder.new) }
     ensures ok { IfOk result (λ content. Reads (made (image_format Image) IsContent) name.now
         (F.seen folder.old).files content.items) }
@@ -80,7 +81,7 @@ fn read_text<F: Folder>(
     alloc: Global,
     name: &str,
     folder: &mut F,
-) -> Result<Vec<Entry>, Stop<Reason>>
+) -> Result<Vec<Stored>, Stop<Reason>>
     ensures later { IsLater (F.seen folder.old) (F.seen folder.new) }
     ensures ok { IfOk result (λ content.
         Reads text_format name.now (F.seen folder.old).files content.items) }

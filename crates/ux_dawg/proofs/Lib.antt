@@ -13,3 +13,5 @@ pub mod NumberLemmas
 pub mod FinishLemmas
 pub mod OrderLemmas
 pub mod OneLemmas
+pub mod FlatLemmas
+pub mod HalvingLemmas

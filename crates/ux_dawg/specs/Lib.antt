@@ -5,3 +5,4 @@ pub mod Order
 pub mod Building
 pub mod Listed
 pub mod Automaton
+pub mod Flat

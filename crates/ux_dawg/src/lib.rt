@@ -27,7 +27,8 @@
 //! let number = automaton.number_of(&['c', 'a', 't']);
 //! ```
 //!
-//! An automaton that was written somewhere is made again of its states by `Dawg::of_states`.
+//! An automaton that was written somewhere is made again of its states by `Dawg::of_states`, or
+//! read into `States`, which has all edges in one list.
 #![tactic(auto)]
 
 mod builder;
@@ -39,6 +40,7 @@ mod pending;
 mod register;
 mod sorted;
 mod state;
+mod states;
 
 pub use builder::{Builder, build};
 pub use dawg::Dawg;
@@ -47,3 +49,4 @@ pub use items::Items;
 pub use laws::forms_decide_states;
 pub use sorted::{are_sorted, comes_before, have_few_letters};
 pub use state::{Edge, Form, State};
+pub use states::States;

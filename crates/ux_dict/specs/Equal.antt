@@ -5,6 +5,7 @@ use Rattle.std.specs.Prelude.{Decides, bytes_eq}
 use Rattle.std.specs.Cmp.{IsEquivalence}
 use Rattle.std.specs.Hash as fed
 use lib.Pointwise.{pointwise, pointwise_decides, bytes_decides}
+use Rattle.ux_dela.specs.Printed.{printed_codes}
 use Rattle.ux_dela.specs.declared.entry.Codes.{Codes}
 use Rattle.ux_dela.specs.declared.entry.Entry.{Entry}
 
@@ -48,6 +49,11 @@ codes_writes_of codes = fed.str codes.gram
 abbrev pub writes_of : Entry → List (List ℕ)
 writes_of entry = fed.str entry.form ++ (fed.str entry.lemma ++ (fed.str entry.gram
     ++ (fed.slice fed.str entry.sem ++ fed.slice fed.str entry.infl)))
+
+-- what an entry feeds a hash where its codes are there as they are printed
+abbrev pub stored_writes_of : Entry → List (List ℕ)
+stored_writes_of entry =
+    fed.str entry.form ++ (fed.str entry.lemma ++ fed.str (printed_codes entry))
 
 -- they are equal exactly where the test says so
 pub entry_eq-Decides : (x y : Entry) → Decides (entry_eq x y) (x ≡ y)

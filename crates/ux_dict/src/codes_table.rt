@@ -1,13 +1,15 @@
-//! One list of codes for all entries of equal codes.
+//! One list of codes for all entries of equal codes, with the text that is printed for it.
 
 ghost use Rattle.std.specs.Prelude.{◌≡◌, ◌↔◌, IsTrue, IfOk, IfSome};
+ghost use Rattle.ux_dela.specs.Printed.{printed_codes, printed_list};
 
-use indexmap::IndexSet;
+use indexmap::IndexMap;
 use std::alloc::{AllocError, Global};
 use std::hash::{Hash, Hasher};
 use std::marker::Model;
 use std::rc::Rc;
-use ux_dela::Codes;
+use ux_base::{NoMemory, Txt};
+use ux_dela::{Codes, Entry, print_codes};
 
 /// Codes, compared by all of their parts.
 #[derive(Drop)]
@@ -31,17 +33,10 @@ impl WholeCodes {
     }
 
     /// A copy of the codes.
-    pub(crate) fn copy(&self) -> Result<Codes, AllocError>
+    fn copy(&self) -> Result<Codes, AllocError>
         ensures { IfOk result (λ codes. codes ≡ self.now) }
     {
         self.codes.copy()
-    }
-
-    /// Whether two lists of codes are equal.
-    pub(crate) fn same(&self, other: &WholeCodes) -> bool
-        ensures { IsTrue result ↔ (self.now ≡ other.now) }
-    {
-        self.codes.same(&other.codes)
     }
 }
 
@@ -79,43 +74,120 @@ impl Hash for WholeCodes {
     }
 }
 
-/// The different lists of codes so far, each once.
+/// Codes that entries share, with the text that is printed for them.
+#[derive(Drop)]
+pub struct SharedCodes {
+    codes: Codes,
+    printed: Txt,
+}
+
+impl Model for SharedCodes {
+    ghost use Rattle.std.specs.Prelude.{◌≡◌};
+    ghost use Rattle.ux_dela.specs.Printed.{printed_list};
+    ghost use Rattle.ux_dela.specs.declared.entry.Codes.{Codes};
+
+    ghost Value = { Codes };
+
+    ghost view = { λ shared. shared.codes };
+
+    ghost invariant = { λ shared. shared.printed
+        ≡ printed_list shared.codes.gram shared.codes.sem shared.codes.infl };
+}
+
+impl SharedCodes {
+    /// The codes to share.
+    fn of(alloc: Global, codes: Codes) -> Result<SharedCodes, AllocError>
+        ensures { IfOk result (λ shared. shared ≡ codes) }
+    {
+        let Codes { gram, sem, infl } = codes;
+        // Codes are printed of an entry, whose form and lemma do not matter.
+        let entry = Entry {
+            form: Txt::new(String::new(alloc)),
+            lemma: Txt::new(String::new(alloc)),
+            gram,
+            sem,
+            infl,
+        };
+        let printed = printed_text(alloc, &entry)?;
+        let Entry {
+            form: _,
+            lemma: _,
+            gram,
+            sem,
+            infl,
+        } = entry;
+        Ok(SharedCodes {
+            codes: Codes { gram, sem, infl },
+            printed,
+        })
+    }
+
+    /// The codes, lent.
+    pub(crate) fn codes(&self) -> &Codes
+        ensures { result.now ≡ self.now }
+    {
+        &self.codes
+    }
+
+    /// The text that is printed for the codes, lent.
+    pub(crate) fn printed(&self) -> &str
+        ensures { result.now ≡ printed_list self.now.gram self.now.sem self.now.infl }
+    {
+        self.printed.as_str()
+    }
+}
+
+/// The different lists of codes so far, each once. Contracts see them alone.
 #[derive(Drop)]
 pub struct CodesTable {
-    known: IndexSet<Rc<WholeCodes>>,
+    known: IndexMap<WholeCodes, Rc<SharedCodes>>,
+}
+
+impl Model for CodesTable {
+    ghost use Rattle.std.specs.Prelude.{◌≡◌, All, List};
+    ghost use Rattle.indexmap.specs.IndexMap.{keys};
+    ghost use Rattle.ux_dela.specs.declared.entry.Codes.{Codes};
+
+    ghost Value = { List Codes };
+
+    ghost view = { λ table. keys table.known };
+
+    ghost invariant = { λ table. All (λ entry. entry.1.value ≡ entry.0) table.known.entries };
 }
 
 impl CodesTable {
     /// The table without codes.
     pub(crate) fn new(alloc: Global) -> CodesTable {
         CodesTable {
-            known: IndexSet::new(alloc),
+            known: IndexMap::new(alloc),
         }
     }
 
-    /// The codes, shared with all that asked for equal ones.
+    /// The codes, shared with all that asked for equal ones. Takes memory only for codes that no one
+    /// asked for before.
     pub(crate) fn shared(
         &mut self,
         alloc: Global,
         codes: Codes,
-    ) -> Result<Rc<WholeCodes>, AllocError>
+    ) -> Result<Rc<SharedCodes>, AllocError>
         ensures { IfOk result (λ shared. shared.value ≡ codes) }
     {
-        let new = Rc::new(alloc, WholeCodes::new(codes))?;
-        if let Some(old) = equal_to(&self.known, &new) {
+        let codes = WholeCodes::new(codes);
+        if let Some(old) = self.known.get(&codes) {
             return old.clone();
         }
-        self.known.insert(new.clone()?)?;
+        let new = Rc::new(alloc, SharedCodes::of(alloc, codes.copy()?)?)?;
+        self.known.insert(codes, new.clone()?)?;
         Ok(new)
     }
 }
 
-/// The codes of the table that are equal to these, if it has them.
-fn equal_to<'a>(
-    known: &'a IndexSet<Rc<WholeCodes>>,
-    codes: &Rc<WholeCodes>,
-) -> Option<&'a Rc<WholeCodes>>
-    ensures { IfSome result (λ found. found.now.value ≡ codes.now.value) }
+/// The codes of the entry as they are printed.
+fn printed_text(alloc: Global, entry: &Entry) -> Result<Txt, AllocError>
+    ensures { IfOk result (λ text. text ≡ printed_codes entry.now) }
 {
-    known.get(codes)
+    match print_codes(alloc, entry) {
+        Ok(text) => Ok(Txt::new(text)),
+        Err(NoMemory) => Err(AllocError),
+    }
 }

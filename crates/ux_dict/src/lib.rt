@@ -3,7 +3,8 @@
 //! `ListLexicon` is a dictionary of entries that were read, and `reading` makes it of a file with no
 //! list of them. `ListReached` is a place in it, to which a text leads, and from which longer texts
 //! go on. `stored` is an entry as a dictionary keeps it, with codes that `codes_table` shares, and
-//! `stored_table` keeps each once. What any dictionary answers says `ux_lexicon`. Which list of
+//! `stored_table` keeps all entries or each once; `content_in` and `content_of` give a content as such
+//! entries. What any dictionary answers says `ux_lexicon`. Which list of
 //! entries a dictionary has stands in `specs/Content.antt`, which forms fit a text in
 //! `specs/Forms.antt`, and where a text leads in `specs/Places.antt`.
 //!
@@ -30,6 +31,9 @@ mod sorting;
 mod stored;
 mod stored_table;
 
-pub use list_lexicon::ListLexicon;
+pub use list_lexicon::{ListLexicon, content_of};
 pub use list_reached::ListReached;
 pub use once::different;
+pub use reading::content_in;
+pub use stored::Stored;
+pub use stored_table::store_all;

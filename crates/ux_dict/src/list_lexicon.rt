@@ -177,8 +177,8 @@ impl ListLexicon {
     }
 }
 
-/// The entries that differ, in order of form.
-fn content_of(alloc: Global, entries: Vec<Entry>) -> Result<Vec<Stored>, AllocError>
+/// The content of a list of entries. Takes a step an entry and sorts them.
+pub fn content_of(alloc: Global, entries: Vec<Entry>) -> Mem<Vec<Stored>>
     ensures { IfOk result (λ content. IsContent entries.items content.items) }
 {
     let mut content = first_stored(alloc, entries)?;

@@ -32,8 +32,9 @@ impl ListLexicon {
     }
 }
 
-/// The file's entries that differ, in order of form.
-fn content_in(alloc: Global, text: &str) -> Result<Vec<Stored>, DelaError>
+/// The content of a file of forms, or why its first bad line is refused. Keeps the entries of one
+/// line at a time beside those of the content. Takes a step a byte and sorts the entries.
+pub fn content_in(alloc: Global, text: &str) -> Result<Vec<Stored>, DelaError>
     ensures ok { IfOk result (λ content. IsFileContent text.now content.items) }
     ensures refused { IfErr result (λ error. (error ≡ NoMemory) ⊎ Refuses text.now error) }
 {

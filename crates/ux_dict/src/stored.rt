@@ -4,8 +4,9 @@
 //! itself. So entries of the same codes share them, and a lemma that is the form takes no text.
 
 ghost use Rattle.std.specs.Prelude.{◌≡◌, ◌↔◌, IsTrue, IfOk, unwrap_or};
+ghost use Rattle.ux_dela.specs.Printed.{printed_codes};
 
-use crate::codes_table::{CodesTable, WholeCodes};
+use crate::codes_table::{CodesTable, SharedCodes};
 use std::alloc::{AllocError, Global};
 use std::hash::{Hash, Hasher};
 use std::marker::Model;
@@ -21,7 +22,7 @@ pub struct Stored {
     /// The lemma, where it isn't the form.
     lemma: Option<Txt>,
     /// The codes, which all entries of equal ones share.
-    codes: Rc<WholeCodes>,
+    codes: Rc<SharedCodes>,
 }
 
 impl Model for Stored {
@@ -62,10 +63,17 @@ impl Stored {
     }
 
     /// The lemma, lent.
-    fn lemma(&self) -> &str
+    pub fn lemma(&self) -> &str
         ensures { result.now ≡ self.now.lemma }
     {
         text_of(&self.form, &self.lemma)
+    }
+
+    /// The text that is printed for the codes, lent.
+    pub fn printed_codes(&self) -> &str
+        ensures { result.now ≡ printed_codes self.now }
+    {
+        self.codes.printed()
     }
 
     /// The entry, with copies of all of its parts.
@@ -74,7 +82,7 @@ impl Stored {
     {
         let form = self.form.clone()?;
         let lemma = copy_of(&self.form, &self.lemma)?;
-        let Codes { gram, sem, infl } = self.codes.copy()?;
+        let Codes { gram, sem, infl } = self.codes.codes().copy()?;
         Ok(Entry {
             form,
             lemma,
@@ -90,7 +98,7 @@ impl Stored {
     {
         same_text(self.form(), other.form())
             && same_text(self.lemma(), other.lemma())
-            && self.codes.same(&other.codes)
+            && self.codes.codes().same(other.codes.codes())
     }
 }
 
@@ -115,16 +123,16 @@ impl Eq for Stored {
 
 impl Hash for Stored {
     ghost use Rattle.std.specs.Hash as fed;
-    ghost use Rattle.ux_dict.specs.Equal.{writes_of, entry_eq-Decides};
+    ghost use Rattle.ux_dict.specs.Equal.{stored_writes_of, entry_eq-Decides};
 
-    ghost hash_input = { writes_of };
+    ghost hash_input = { stored_writes_of };
 
-    ghost respects_eq = { (fed.same_Alike writes_of entry_eq-Decides).fed };
+    ghost respects_eq = { (fed.same_Alike stored_writes_of entry_eq-Decides).fed };
 
     fn hash<H: Hasher>(&self, state: &mut H) {
         self.form().hash(state);
         self.lemma().hash(state);
-        self.codes.hash(state);
+        self.printed_codes().hash(state);
     }
 }
 

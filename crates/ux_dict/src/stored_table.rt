@@ -1,4 +1,4 @@
-//! The different entries of a list as a dictionary keeps them, each at its first place.
+//! The entries of a list as a dictionary keeps them: all of them, or each at its first place.
 
 ghost use Rattle.std.specs.Prelude.{◌≡◌, IfOk, OnOk, []};
 ghost use Rattle.indexmap.specs.IndexSet.{insert_all};
@@ -8,7 +8,20 @@ use crate::codes_table::CodesTable;
 use crate::stored::Stored;
 use indexmap::IndexSet;
 use std::alloc::{AllocError, Global};
+use ux_base::Mem;
 use ux_dela::Entry;
+
+/// The entries in their order, as a dictionary keeps them. Takes a step a byte.
+pub fn store_all(alloc: Global, entries: Vec<Entry>) -> Mem<Vec<Stored>>
+    ensures { IfOk result (λ kept. kept.items ≡ entries.items) }
+{
+    let mut codes = CodesTable::new(alloc);
+    let mut kept = Vec::new(alloc);
+    for entry in entries {
+        kept.push(Stored::of(alloc, entry, &mut codes)?)?;
+    }
+    Ok(kept)
+}
 
 /// The entries that differ, in the order of their first places. Takes a step an entry.
 pub(crate) fn first_stored(alloc: Global, entries: Vec<Entry>) -> Result<Vec<Stored>, AllocError>

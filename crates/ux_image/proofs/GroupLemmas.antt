@@ -1,20 +1,18 @@
 -- The forms of a content with their codes, a form at a time.
-use Rattle.std.proofs.Common.{arith, ◌≡◌, ◌≢◌, ℕ, ◌<◌, List, [], ◌∷◌, ◌++◌, append_assoc, Bool, true, false, not, cond, inl, inr, refl, sym, ◌∙◌, ap, subst, length, take, drop, map, filter}
+use Rattle.std.proofs.Common.{arith, ◌≡◌, ◌≢◌, ℕ, ◌<◌, List, [], ◌∷◌, ◌++◌, append_assoc, Bool, true, false, not, cond, inl, refl, sym, ◌∙◌, ap, subst, length, take, drop, map, filter}
 use Rattle.std.specs.Prelude.{All, Some, None, slice_get}
 use Rattle.std.specs.List.{take_while}
 use Rattle.std.specs.Str.{bytes_eq, chars}
 use Rattle.std.proofs.lemmas.Option.{none-some, same_Some}
 use Rattle.std.proofs.lemmas.Slice.Eq.{bytes_eq-Decides}
-use Rattle.std.proofs.lemmas.Str.{chars-nil}
 use Rattle.std.proofs.lemmas.List.{append-nil, map-append, take-append-drop, length-take, length-drop}
 use Rattle.std.proofs.lemmas.List.Elements.{All-cons, All-head, All-tail, All-filter, All-weaker, All-map, filter-append}
 use Rattle.ux_base.specs.Distinct.{each_once, AreFirsts}
 use Rattle.ux_base.proofs.DistinctLemmas.{differs}
 use Rattle.ux_base.proofs.FirstsLemmas.{AreFirsts-nil}
-use Rattle.ux_dawg.specs.Forms.{AreSorted}
 use Rattle.ux_dawg.specs.declared.state.Form.{Form}
 use Rattle.ux_dela.specs.declared.entry.Entry.{Entry}
-use Rattle.ux_image.specs.Contents.{Precedes, AreInOrder, IsContent, forms_in, entries_of_form, code_list, forms_with_codes, AreNumbered, AreForms}
+use Rattle.ux_image.specs.Contents.{AreInOrder, IsContent, forms_in, entries_of_form, code_list, forms_with_codes, AreNumbered, AreForms}
 use Rattle.ux_image.specs.Grouping.{IsPut, IsGrouped}
 use Rattle.ux_image.specs.declared.code.CodeList.{CodeList}
 use Rattle.ux_image.proofs.OrderLemmas.{has_form, run_of, run_same, run_some, run_count, behind_run, others_behind}
@@ -188,7 +186,6 @@ grouped_start content lists forms is no_list no_form =
       last = [];
       ordered = is.ordered;
       fresh = λ entry at. first_some content is.some entry at;
-      sorted = λ later sorted. subst (λ (t : List ℕ). AreSorted t later) chars-nil sorted;
       done = [];
       whole = refl;
       numbered = record { once = AreFirsts-nil; letters = refl; numbers = refl };
@@ -214,10 +211,6 @@ grouped_more content (entry ∷ rest) run behind first lists lists' forms forms'
       last = first.form;
       ordered = after.0;
       fresh = after.1;
-      sorted = λ later sorted. subst (λ (fs : List Form). AreSorted [] fs)
-          (sym (ap (λ (fs : List Form). fs ++ later) put.pushed
-          ∙ append_assoc forms (added ∷ []) later))
-          (so_far.sorted (added ∷ later) (above, sorted));
       done = so_far.done ++ (first.form, code_list run) ∷ [];
       whole = append_assoc so_far.done ((first.form, code_list run) ∷ []) (forms_with_codes behind)
           ∙ ap (λ (gs : List (List ℕ × CodeList)). so_far.done ++ gs) (sym cut) ∙ so_far.whole;
@@ -230,15 +223,6 @@ grouped_more content (entry ∷ rest) run behind first lists lists' forms forms'
 
     here : entry.form ≡ first.form
     here = ap (λ (e : Entry). e.form) one
-
-    added : Form
-    added = record { letters = chars first.form; code = put.number }
-
-    above : Precedes so_far.last first.form
-    above = elim so_far.ordered.0 [
-      | inl same ↦ absurd (so_far.fresh entry refl same)
-      | inr more ↦ subst (λ (t : List ℕ). Precedes so_far.last t) here more
-    ]
 
     whole_order : AreInOrder first.form (entry ∷ rest)
     whole_order = (inl here, so_far.ordered.1)
@@ -327,11 +311,8 @@ module _ (content rest run behind : List Entry) (first : Entry) (form : List ℕ
 
 -- at the end all are
 pub grouped_end : (content rest : List Entry) (lists : List CodeList) (forms : List Form) →
-    IsGrouped content rest lists forms → slice_get rest 0 ≡ None →
-    AreForms content lists forms × AreSorted [] forms
+    IsGrouped content rest lists forms → slice_get rest 0 ≡ None → AreForms content lists forms
 grouped_end content (entry ∷ rest) lists forms so_far none = absurd (none-some entry (sym none))
-grouped_end content [] lists forms so_far none = (
-  subst (λ (gs : List (List ℕ × CodeList)). AreNumbered gs lists forms)
-      (sym (append-nil so_far.done) ∙ so_far.whole) so_far.numbered,
-  subst (λ (fs : List Form). AreSorted [] fs) (append-nil forms) (so_far.sorted [] tt),
-)
+grouped_end content [] lists forms so_far none =
+    subst (λ (gs : List (List ℕ × CodeList)). AreNumbered gs lists forms)
+    (sym (append-nil so_far.done) ∙ so_far.whole) so_far.numbered

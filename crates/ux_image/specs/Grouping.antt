@@ -3,7 +3,6 @@
 use Rattle.std.specs.Prelude.{◌≡◌, ◌≢◌, ℕ, List, [], ◌∷◌, ◌++◌, ◌⊎◌, Some, slice_get}
 use Rattle.std.specs.Str.{chars}
 use Rattle.ux_base.specs.Distinct.{GrowsBy}
-use Rattle.ux_dawg.specs.Forms.{AreSorted}
 use Rattle.ux_dawg.specs.declared.state.Form.{Form}
 use Rattle.ux_dela.specs.declared.entry.Entry.{Entry}
 use Rattle.ux_image.specs.Contents.{Precedes, AreInOrder, AreNumbered, code_list, forms_with_codes}
@@ -33,7 +32,6 @@ pub record IsGrouped (content rest : List Entry) (lists : List CodeList) (forms 
   pub last : List ℕ
   pub ordered : AreInOrder last rest
   pub fresh : (entry : Entry) → slice_get rest 0 ≡ Some entry → entry.form ≢ last
-  pub sorted : (later : List Form) → AreSorted (chars last) later → AreSorted [] (forms ++ later)
   pub done : List (List ℕ × CodeList)
   pub whole : done ++ forms_with_codes rest ≡ forms_with_codes content
   pub numbered : AreNumbered done lists forms

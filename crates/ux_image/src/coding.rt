@@ -12,23 +12,23 @@ use crate::pieces::{have_same_separators, split_both};
 use std::alloc::Global;
 use ux_base::{Mem, Txt};
 use ux_dawg::Items;
-use ux_dela::{Entry, print_codes};
+use ux_dict::Stored;
 
 /// Whether the form has fewer than 2^32 bytes.
-pub fn is_short(entry: &Entry) -> bool
+pub fn is_short(entry: &Stored) -> bool
     ensures { IsTrue result ↔ (length entry.now.form < 2 ^ 32) }
 {
-    entry.form.as_str().len() <= u32::MAX as usize
+    entry.form().len() <= u32::MAX as usize
 }
 
 /// The code of an entry. Takes a step a byte. `is_short` tells what it asks.
-pub fn code_of(alloc: Global, entry: &Entry) -> Mem<Code>
+pub fn code_of(alloc: Global, entry: &Stored) -> Mem<Code>
     requires { length entry.now.form < 2 ^ 32 }
     ensures { IfOk result (λ code. code ≡ entry_code entry.now) }
 {
     Ok(Code {
-        pairs: pairs_of(alloc, entry.form.as_str(), entry.lemma.as_str())?,
-        codes: Txt::new(print_codes(alloc, entry)?),
+        pairs: pairs_of(alloc, entry.form(), entry.lemma())?,
+        codes: Txt::from_str(alloc, entry.printed_codes())?,
     })
 }
 

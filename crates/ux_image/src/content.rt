@@ -8,15 +8,15 @@ ghost use Rattle.ux_image.specs.Contents.{IsContent};
 ghost use Rattle.ux_image.specs.Grouping.{MayFollow};
 
 use std::cmp::Ordering;
-use ux_dela::Entry;
+use ux_dict::Stored;
 
 /// Whether the entries stand in the order of their forms, by code points, and no form is empty.
-pub fn is_content(entries: &[Entry]) -> bool
+pub fn is_content(entries: &[Stored]) -> bool
     ensures { IsTrue result ↔ IsContent entries.now }
 {
     let mut last = "";
     for entry in entries {
-        let form = entry.form.as_str();
+        let form = entry.form();
         if !may_follow(last, form) {
             return false;
         }

@@ -3,8 +3,6 @@
 ghost use Rattle.std.specs.Prelude.{◌≡◌, ◌+◌, ◌<◌, ◌^◌, ◌++◌, [], All, IfOk, OnOk, length, map, nat_eq, option_map, slice_get};
 ghost use Rattle.std.specs.List.{flat_map, position_or_len};
 ghost use Rattle.std.specs.Option.{option_to_list};
-ghost use Rattle.ux_dawg.specs.Automaton.{IsMinimalOf};
-ghost use Rattle.ux_dawg.specs.Forms.{AreSorted};
 ghost use Rattle.ux_image.specs.Contents.{IsContent};
 ghost use Rattle.ux_image.specs.Images.{IsImage, IsLaidOut, lists_of, renumbered};
 ghost use Rattle.ux_image.specs.Layout.{number_bytes, state_bytes, list_bytes, final_number, StateFits, ListFits};
@@ -17,35 +15,26 @@ use crate::numbering::{order_of, place_in};
 use indexmap::IndexSet;
 use std::alloc::Global;
 use ux_base::{Mem, NoMemory};
-use ux_dawg::{Dawg, Form, State, build, have_few_letters};
-use ux_dela::Entry;
+use ux_dawg::{Dawg, State};
+use ux_dict::Stored;
 
 /// The bytes with which each image begins.
 const MAGIC: [u8; 8] = [0x55, 0x58, 0x55, 0x44, 0x49, 0x02, 0x0d, 0x0a];
 
-/// The image of a content. `is_content` tells what it asks.
+/// The image of a content, which is given up before its automaton is finished, so that both are not
+/// there at once. `is_content` tells what it asks.
 ///
 /// Takes a step a byte. Where 32 bits don't hold a number, it answers that memory ran out: there is
 /// none in a content of fewer than 2^30 bytes.
-pub fn image_of(alloc: Global, content: &[Entry]) -> Mem<Vec<u8>>
-    requires { IsContent content.now }
-    ensures { IfOk result (λ bytes. IsImage content.now bytes.items) }
+pub fn image_of(alloc: Global, content: Vec<Stored>) -> Mem<Vec<u8>>
+    requires { IsContent content.items }
+    ensures { IfOk result (λ bytes. IsImage content.items bytes.items) }
 {
-    let Listing { forms, lists } = list_codes(alloc, content)?;
-    let automaton = automaton_of(alloc, &forms)?;
+    let Listing { builder, lists } = list_codes(alloc, &content)?;
+    drop(content);
+    let automaton = builder.finish()?;
     let order = order_of(alloc, &automaton)?;
     bytes_of(alloc, &automaton, &order, &lists)
-}
-
-/// The minimal automaton of the forms.
-fn automaton_of(alloc: Global, forms: &[Form]) -> Mem<Dawg>
-    requires { AreSorted [] forms.now }
-    ensures { IfOk result (λ automaton. IsMinimalOf forms.now automaton) }
-{
-    if !have_few_letters(forms) {
-        return Err(NoMemory);
-    }
-    build(alloc, forms)
 }
 
 /// The bytes of an automaton and its lists, which are numbered in this order.

@@ -1,9 +1,9 @@
 //! Dictionaries as images of their automata: entries as codes, and the bytes of an image.
 //!
 //! Begin with `coding`, which turns an entry into its code, and `rebuilding`, which makes an entry
-//! of a form and a code. `listing` gives each form of a content the number of its list of codes,
-//! `numbering` finds the order in which states use these, and `image` lays out the automaton and
-//! the lists. What codes and images are stands in `specs/Codes.antt` and `specs/Images.antt`. `laws`
+//! of a form and a code. `listing` takes a content as a dictionary keeps it, and puts each form into an
+//! automaton with the number of its list of codes, `numbering` finds the order in which states use
+//! these, and `image` lays out the automaton and the lists. What codes and images are stands in `specs/Codes.antt` and `specs/Images.antt`. `laws`
 //! shows that a code makes its entry again and no other one, and that a content has one image, which
 //! tells it.
 //!
@@ -13,10 +13,11 @@
 //! ```
 //!
 //! ```text
-//! let code = code_of(alloc, &entry)?;
+//! let entries = store_all(alloc, entries)?;
+//! let code = code_of(alloc, &entries[0])?;
 //! let entry = rebuild(alloc, "cats", &code)?;
 //! if is_content(&entries) {
-//!     let bytes = image_of(alloc, &entries)?;
+//!     let bytes = image_of(alloc, entries)?;
 //! }
 //! ```
 #![tactic(auto)]

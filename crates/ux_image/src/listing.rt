@@ -1,11 +1,12 @@
 //! The forms of a content, each with the number of its list of codes.
 //!
-//! The entries of a form stand together, so that its codes are one run. Lists are numbered as they
-//! are met: a register has each of them once.
+//! The entries of a form stand together, so that its codes are one run, and each form goes into the
+//! automaton as it comes: there is no list of forms. Lists are numbered as they are met: a register
+//! has each of them once.
 
 ghost use Rattle.std.specs.Prelude.{◌≡◌, ◌<◌, ◌^◌, ℕ, [], ◌∷◌, ◌++◌, IfOk, OnOk, IsTrue, ◌↔◌, length, map, take_while, vec_len};
 ghost use Rattle.std.specs.Str.{bytes_eq, chars};
-ghost use Rattle.ux_dawg.specs.Forms.{AreSorted};
+ghost use Rattle.ux_dawg.specs.Forms.{form_of};
 ghost use Rattle.ux_dela.specs.declared.entry.Entry.{Entry as EntryRecord};
 ghost use Rattle.ux_image.specs.Codes.{entry_code};
 ghost use Rattle.ux_image.specs.Contents.{IsContent, AreForms, code_list};
@@ -15,71 +16,66 @@ use crate::code::CodeList;
 use crate::coding::{code_of, is_short};
 use indexmap::IndexSet;
 use std::alloc::Global;
-use ux_base::{Lst, Mem, NoMemory};
-use ux_dawg::{Form, Items};
-use ux_dela::Entry;
+use ux_base::{Mem, NoMemory};
+use ux_dawg::{Builder, Items};
+use ux_dict::Stored;
 
 /// The forms of a content, and their lists of codes.
 #[derive(Drop)]
 pub struct Listing {
-    /// The forms, in order, each with the number of its list.
-    pub forms: Vec<Form>,
+    /// The automaton of the forms, each with the number of its list, to be finished.
+    pub builder: Builder,
     /// The different lists, by number.
     pub lists: IndexSet<CodeList>,
 }
 
 /// The forms of a content and their lists of codes. `is_content` tells what it asks.
 ///
-/// Takes a step a byte. Where 32 bits don't hold a number, it answers that memory ran out.
-pub fn list_codes(alloc: Global, content: &[Entry]) -> Mem<Listing>
+/// Takes a step a byte, and beside the result the memory of one form. Where 32 bits don't hold a
+/// number, it answers that memory ran out.
+pub fn list_codes(alloc: Global, content: &[Stored]) -> Mem<Listing>
     requires { IsContent content.now }
-    ensures forms { IfOk result (λ l. AreForms content.now l.lists.keys l.forms.items) }
-    ensures sorted { IfOk result (λ l. AreSorted [] l.forms.items) }
+    ensures { IfOk result (λ l. AreForms content.now l.lists.keys l.builder) }
 {
     let mut lists = IndexSet::new(alloc);
-    let mut forms = Vec::new(alloc);
+    let mut builder = Builder::new(alloc);
+    let mut letters = Vec::new(alloc);
     let mut rest = content;
     while let Some(first) = rest.first() {
-        let form = first.form.as_str();
+        let form = first.form();
         let (run, behind) = rest.split_at(run_len(form, rest));
-        put_form(alloc, &mut lists, &mut forms, form, run)?;
+        let number = keep_list(&mut lists, codes_of(alloc, run)?)?;
+        spell(&mut letters, form)?;
+        builder = with_form(builder, &letters, number)?;
         rest = behind;
     }
-    Ok(Listing { forms, lists })
+    Ok(Listing { builder, lists })
 }
 
 /// How many entries from the front on have the form.
-fn run_len(form: &str, entries: &[Entry]) -> usize
+fn run_len(form: &str, entries: &[Stored]) -> usize
     ensures { result ≡ length (take_while (λ (e : EntryRecord). bytes_eq e.form form.now)
         entries.now) }
 {
     entries
         .iter()
-        .take_while(|entry| entry.form.as_str() == form)
+        .take_while(|entry| entry.form() == form)
         .count()
 }
 
-/// Adds the form of these entries.
-fn put_form(
-    alloc: Global,
-    lists: &mut IndexSet<CodeList>,
-    forms: &mut Vec<Form>,
-    form: &str,
-    run: &[Entry],
-) -> Mem<()>
-    ensures { OnOk result (IsPut form.now run.now lists.old.keys lists.new.keys
-        forms.old.items forms.new.items) }
+/// The builder with one more form, if it still holds one.
+fn with_form(builder: Builder, letters: &[char], number: usize) -> Mem<Builder>
+    ensures { IfOk result (λ more. more ≡ builder ++ form_of letters.now number ∷ []) }
 {
-    let number = keep_list(lists, codes_of(alloc, run)?)?;
-    forms.push(Form {
-        letters: letters_of(alloc, form)?,
-        code: number_of(number)?,
-    })?;
-    Ok(())
+    let code = number_of(number)?;
+    if !builder.may_add(letters) {
+        return Err(NoMemory);
+    }
+    builder.add(letters, code)
 }
 
 /// The codes of the entries.
-fn codes_of(alloc: Global, entries: &[Entry]) -> Mem<CodeList>
+fn codes_of(alloc: Global, entries: &[Stored]) -> Mem<CodeList>
     ensures { IfOk result (λ list. list ≡ code_list entries.now) }
 {
     let mut codes = Items::empty(alloc);
@@ -92,11 +88,15 @@ fn codes_of(alloc: Global, entries: &[Entry]) -> Mem<CodeList>
     Ok(CodeList { codes })
 }
 
-/// The characters of the form.
-fn letters_of(alloc: Global, form: &str) -> Mem<Lst<char>>
-    ensures { IfOk result (λ letters. letters ≡ chars form.now) }
+/// Makes the letters those of the form.
+fn spell(letters: &mut Vec<char>, form: &str) -> Mem<()>
+    ensures { OnOk result (letters.new.items ≡ chars form.now) }
 {
-    Ok(Lst::new(form.chars().collect(alloc)?))
+    letters.clear();
+    for letter in form.chars() {
+        letters.push(letter)?;
+    }
+    Ok(())
 }
 
 /// The number of the list, which is a new one where the list is new.

@@ -40,7 +40,7 @@ pub fn entries_of(alloc: Global, image: &Image) -> Mem<Vec<Entry>>
     ensures content { IfOk result (λ content. IsContentOf image.now content.items) }
     ensures sound { IfOk result (λ content. All IsSound content.items) }
 {
-    let forms = list_forms(alloc, image.states.as_slice())?;
+    let forms = list_forms(alloc, &image.states)?;
     let entries = rebuild_all(alloc, forms.as_slice(), &image.lists)?;
     different(alloc, entries)
 }

@@ -7,7 +7,7 @@ ghost use Rattle.ux_image_content.specs.Walking.{edges_left, Enters, GoesOn, IsN
 
 use std::alloc::Global;
 use ux_base::{Lst, Mem};
-use ux_dawg::{Edge, Form, State};
+use ux_dawg::{Edge, Form, States};
 
 /// A state that was entered and not left.
 #[derive(Clone, Copy)]
@@ -31,7 +31,7 @@ pub(crate) struct Walk {
 
 /// The forms of the automaton, in ascending order, each with the number of its list. The time is
 /// linear in their letters, where each state leads to a form.
-pub(crate) fn list_forms(alloc: Global, states: &[State]) -> Mem<Vec<Form>>
+pub(crate) fn list_forms(alloc: Global, states: &States) -> Mem<Vec<Form>>
     requires { MakeAutomaton states.now }
     ensures { IfOk result (λ forms. forms.items ≡ forms_of states.now) }
 {
@@ -46,13 +46,13 @@ pub(crate) fn list_forms(alloc: Global, states: &[State]) -> Mem<Vec<Form>>
 }
 
 /// The next edge of a state on the way, and the state with one more edge taken.
-fn next_edge(states: &[State], frame: Frame) -> Option<(Edge, Frame)>
+fn next_edge(states: &States, frame: Frame) -> Option<(Edge, Frame)>
     requires automaton { MakeAutomaton states.now }
     requires within { frame.state < length states.now }
     ensures { MatchOption result (edges_left states.now frame ≡ [])
         (λ (edge, past). IsNext states.now frame edge past) }
 {
-    let edges = states[frame.state].edges.as_slice();
+    let edges = states.edges(frame.state);
     if frame.place >= edges.len() {
         return None;
     }
@@ -66,7 +66,7 @@ fn next_edge(states: &[State], frame: Frame) -> Option<(Edge, Frame)>
 
 impl Walk {
     /// Walks from the root through all states.
-    fn run(&mut self, alloc: Global, states: &[State]) -> Mem<()>
+    fn run(&mut self, alloc: Global, states: &States) -> Mem<()>
         requires automaton { MakeAutomaton states.now }
         requires stack { self.old.stack.items ≡ [] }
         requires letters { self.old.letters.items ≡ [] }
@@ -80,7 +80,7 @@ impl Walk {
     }
 
     /// Goes on from a state by its next edge, or goes back where none is left.
-    fn go_on(&mut self, alloc: Global, states: &[State], frame: Frame) -> Mem<()>
+    fn go_on(&mut self, alloc: Global, states: &States, frame: Frame) -> Mem<()>
         requires automaton { MakeAutomaton states.now }
         requires way { IsWay states.now (self.old.stack.items ++ frame ∷ []) self.old.letters.items }
         ensures { OnOk result (GoesOn states.now frame self.old self.new) }
@@ -99,11 +99,11 @@ impl Walk {
     }
 
     /// Enters the state of this number, to which the letters lead.
-    fn enter(&mut self, alloc: Global, states: &[State], number: usize) -> Mem<()>
+    fn enter(&mut self, alloc: Global, states: &States, number: usize) -> Mem<()>
         requires { number < length states.now }
         ensures { OnOk result (Enters states.now number self.old self.new) }
     {
-        self.list(alloc, states[number].code)?;
+        self.list(alloc, states.code(number))?;
         self.stack.push(Frame {
             state: number,
             place: 0,

@@ -5,13 +5,12 @@ ghost use Rattle.ux_image_lexicon.specs.Told.{CodedForms, IsCoded};
 
 use crate::codes::ReadList;
 use std::marker::Model;
-use ux_base::Lst;
-use ux_dawg::State;
+use ux_dawg::States;
 
 /// The states of an automaton, and the lists of codes in which its forms end. Contracts see both.
 #[derive(Drop)]
 pub struct Coded {
-    states: Lst<State>,
+    states: States,
     lists: Vec<ReadList>,
 }
 
@@ -30,7 +29,7 @@ impl Model for Coded {
 
 impl Coded {
     /// These states and lists.
-    pub(crate) fn new(states: Lst<State>, lists: Vec<ReadList>) -> Coded
+    pub(crate) fn new(states: States, lists: Vec<ReadList>) -> Coded
         requires { IsCoded (record { states = states; lists = lists.items }) }
         ensures states { result.states ≡ states }
         ensures lists { result.lists ≡ lists.items }
@@ -39,11 +38,11 @@ impl Coded {
     }
 
     /// The states, by number. The last one is the root.
-    pub(crate) fn states(&self) -> &[State]
+    pub(crate) fn states(&self) -> &States
         ensures value { result.now ≡ self.now.states }
         ensures is { IsCoded self.now }
     {
-        self.states.as_slice()
+        &self.states
     }
 
     /// The lists of codes, by number.

@@ -79,9 +79,9 @@ fn enter(
     requires within { state < length coded.now.states }
     ensures { OnOk result (Enters coded.now state walk.old walk.new counts.old counts.new) }
 {
-    let state = &coded.states()[state];
-    counts.note(alloc, coded.lists(), apart, walk.letters(), state.code)?;
-    walk.branch(state.edges.as_slice())
+    let code = coded.states().code(state);
+    counts.note(alloc, coded.lists(), apart, walk.letters(), code)?;
+    walk.branch(coded.states().edges(state))
 }
 
 impl Counts {

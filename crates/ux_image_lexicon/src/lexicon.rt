@@ -118,9 +118,10 @@ impl ImageLexicon {
         start.go_on(alloc, text, alphabet)
     }
 
-    /// The entries whose form fits the text character by character, in the order of the content. Takes
-    /// a look at each edge of the states on the way, once for each way to write the text with
-    /// lower-case letters that some form has, and makes the entries that are found.
+    /// The entries whose form fits the text character by character, in the order of the content.
+    /// Halves the edges of each state on the way, or takes a look at each where several letters fit
+    /// the character, once for each way to write the text with lower-case letters that some form has,
+    /// and makes the entries that are found.
     pub fn fitting(&self, alloc: Global, text: &str, alphabet: &Alphabet) -> Mem<Vec<Entry>>
         ensures found { IfOk result (λ found.
             IsFitting alphabet.now text.now self.now found.items) }
@@ -138,8 +139,8 @@ impl ImageLexicon {
         Ok(reached.may_go_on())
     }
 
-    /// The number of entries of exactly this form, if there is one. Takes a look at each edge of
-    /// the states on the way, and no memory.
+    /// The number of entries of exactly this form, if there is one. Halves the edges of each state on
+    /// the way, and takes no memory.
     pub fn exact(&self, form: &str) -> Option<usize>
         ensures { MatchOption result (count_of form.now self.now ≡ 0)
             (λ count. (count ≡ count_of form.now self.now) × (0 < count)) }

@@ -26,8 +26,9 @@ pub struct ImageReached<'a> {
 }
 
 impl<'a> ImageReached<'a> {
-    /// Where the text so far leads with this one behind it. Takes a look at each edge of the states on
-    /// the way, once for each way to write the text with lower-case letters that some form has.
+    /// Where the text so far leads with this one behind it. Halves the edges of each state on the way,
+    /// or takes a look at each where several letters fit the character, once for each way to write the
+    /// text with lower-case letters that some form has.
     pub fn go_on(&self, alloc: Global, text: &str, alphabet: &Alphabet) -> Mem<ImageReached<'a>>
         ensures { IfOk result (λ next. (content : List Entry) (front : List ℕ) →
             IsReachedInImage alphabet.now content front self.now →

@@ -11,8 +11,7 @@ use crate::lists::read_lists;
 use crate::shortest::shortest_forms;
 use indexmap::IndexSet;
 use std::alloc::Global;
-use ux_base::Lst;
-use ux_dawg::State;
+use ux_dawg::States;
 use ux_image::CodeList;
 use ux_image_reader::{Front, ImageError, read_front};
 
@@ -20,7 +19,7 @@ use ux_image_reader::{Front, ImageError, read_front};
 #[derive(Drop)]
 pub struct Image {
     /// The states, by number. The last one is the root.
-    pub states: Lst<State>,
+    pub states: States,
     /// The lists of codes, by number.
     pub lists: IndexSet<CodeList>,
 }
@@ -52,7 +51,7 @@ fn read_behind(alloc: Global, front: &Front, bytes: &[u8]) -> Result<IndexSet<Co
     ensures err { IfErr result (λ error.
         (error ≡ NoMemory) ⊎ RefusesLists bytes.now front.now error) }
 {
-    let shortest = shortest_forms(alloc, front.states.as_slice(), front.lists)?;
+    let shortest = shortest_forms(alloc, &front.states, front.lists)?;
     let (_, behind) = bytes.split_at(front.end);
     read_lists(alloc, front.version, shortest.as_slice(), behind)
 }

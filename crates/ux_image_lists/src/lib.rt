@@ -10,7 +10,7 @@
 //!
 //! ```text
 //! let image = read_layout(alloc, &bytes)?;
-//! let automaton = Dawg::of_states(image.states.into_vec());
+//! let letters = count_letters(alloc, &image)?;
 //! ```
 #![tactic(auto)]
 

@@ -12,21 +12,21 @@ ghost use Rattle.ux_image_reader.specs.Fronts.{AreAccepted};
 
 use std::alloc::Global;
 use ux_base::Mem;
-use ux_dawg::{Edge, State};
+use ux_dawg::{Edge, States};
 
 /// The number of a state to which no way was found, and of a list of which no form was.
 pub(crate) const UNREACHED: usize = usize::MAX;
 
 /// How many characters the shortest form with each list has. The time is linear in the edges.
-pub(crate) fn shortest_forms(alloc: Global, states: &[State], lists: u32) -> Mem<Vec<usize>>
+pub(crate) fn shortest_forms(alloc: Global, states: &States, lists: u32) -> Mem<Vec<usize>>
     requires accepted { AreAccepted lists states.now }
     requires automaton { MakeAutomaton states.now }
     ensures { IfOk result (λ shortest. AreShortest states.now lists shortest.items) }
 {
     let depths = depths_of(alloc, states)?;
     let mut shortest = vec![in alloc; UNREACHED; lists as usize]?;
-    for (number, state) in states.iter().enumerate() {
-        lower_list(&mut shortest, state.code, depths[number]);
+    for number in 0..states.len() {
+        lower_list(&mut shortest, states.code(number), depths[number]);
     }
     Ok(shortest)
 }
@@ -42,7 +42,7 @@ fn lower_list(shortest: &mut [usize], list: Option<u32>, depth: usize)
 }
 
 /// How many edges the shortest way from the root to each state has.
-fn depths_of(alloc: Global, states: &[State]) -> Mem<Vec<usize>>
+fn depths_of(alloc: Global, states: &States) -> Mem<Vec<usize>>
     requires states { AreStates states.now }
     requires some { 0 < length states.now }
     ensures { IfOk result (λ depths.
@@ -54,7 +54,7 @@ fn depths_of(alloc: Global, states: &[State]) -> Mem<Vec<usize>>
     for done in 0..states.len() {
         let number = root - done;
         let depth = depths[number].saturating_add(1);
-        lower_targets(&mut depths, states[number].edges.as_slice(), depth);
+        lower_targets(&mut depths, states.edges(number), depth);
     }
     Ok(depths)
 }

@@ -13,7 +13,7 @@ use crate::image::Image;
 use indexmap::IndexSet;
 use std::alloc::Global;
 use ux_base::Mem;
-use ux_dawg::{Edge, State};
+use ux_dawg::{Edge, States};
 use ux_image::CodeList;
 
 /// What the forms that begin in a state come to.
@@ -32,20 +32,19 @@ pub fn count_letters(alloc: Global, image: &Image) -> Mem<u64>
     ensures { IfOk result (λ letters.
         letters ≡ min (letters_told image.now.lists.keys (forms_of image.now.states)) MOST) }
 {
-    let states = image.states.as_slice();
-    let sums = sums_of(alloc, states, &image.lists)?;
-    Ok(sums[states.len() - 1].letters)
+    let sums = sums_of(alloc, &image.states, &image.lists)?;
+    Ok(sums[image.states.len() - 1].letters)
 }
 
 /// What the forms that begin in each state come to.
-fn sums_of(alloc: Global, states: &[State], lists: &IndexSet<CodeList>) -> Mem<Vec<Sums>>
+fn sums_of(alloc: Global, states: &States, lists: &IndexSet<CodeList>) -> Mem<Vec<Sums>>
     requires { AreStates states.now }
     ensures { IfOk result (λ sums. AreSums states.now lists.now.keys (length states.now) sums.items) }
 {
     let mut sums = Vec::new(alloc);
-    for state in states {
-        let own = codes_in(state.code, lists);
-        let sum = with_edges(own, state.edges.as_slice(), sums.as_slice());
+    for number in 0..states.len() {
+        let own = codes_in(states.code(number), lists);
+        let sum = with_edges(own, states.edges(number), sums.as_slice());
         sums.push(sum)?;
     }
     Ok(sums)

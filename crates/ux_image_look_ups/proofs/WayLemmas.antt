@@ -1,15 +1,15 @@
 -- Ways that fit the front of a text, and how they go on with one more character of it.
-use Rattle.std.proofs.Common.{◌≡◌, ℕ, suc, ◌+◌, ◌<◌, List, [], ◌∷◌, ◌++◌, length, map, take, get_or, refl, sym, ◌∙◌, ap, subst, inl, inr, arith, length-append}
+use Rattle.std.proofs.Common.{◌≡◌, ℕ, zero, suc, ◌+◌, ◌<◌, List, [], ◌∷◌, ◌++◌, length, map, take, get_or, refl, sym, ◌∙◌, ap, subst, inl, inr, arith, length-append}
 use Rattle.std.specs.Prelude.{All, Contains, Option, None, Some, flat_map}
 use Rattle.std.specs.List.{AllZip}
 use Rattle.std.proofs.lemmas.List.{append_assoc, append-nil, map-append, take_more}
 use Rattle.std.proofs.lemmas.List.Concat.{flat_map-append}
 use Rattle.std.proofs.lemmas.List.Elements.{All-nil, All-cons, All-head, All-tail, All-map, All-push, AllZip-push, length_all_zip}
-use Rattle.std.proofs.lemmas.Option.{slice_get-get_or}
-use Rattle.ux_alphabet.specs.Letters.{Letters, Fits}
+use Rattle.std.proofs.lemmas.Option.{get_or_from_slice_get, slice_get-get_or}
+use Rattle.ux_alphabet.specs.Letters.{Letters, Fits, FitsAlone}
 use Rattle.ux_dawg.specs.Building.{bare}
 use Rattle.ux_dawg.specs.Listed.{behind, ending}
-use Rattle.ux_dawg.specs.Paths.{AreStates, IsFit}
+use Rattle.ux_dawg.specs.Paths.{edge as edge_to, AreAscending, AreStates, IsFit, IsStep}
 use Rattle.ux_dawg.specs.declared.state.Edge.{Edge}
 use Rattle.ux_dawg.specs.declared.state.Form.{Form}
 use Rattle.ux_dawg.specs.declared.state.State.{State}
@@ -255,6 +255,108 @@ module _ (states : List State) where
             each = so_far.each;
           })
     ]
+
+    -- each edge that fits puts its way
+    abbrev Passes : List Edge → (old new : List Way) → Type 0
+    Passes [] old new = new ≡ old
+    Passes (e ∷ edges) old new =
+        (mid : List Way) × GoesTo alphabet way e c old mid × Passes edges mid new
+
+    ways_by_edges : (edges : List Edge) → ((e : Edge) → Contains edges e →
+        (e.target < most) × (0 < length (forms_at states e.target))) → (forms : List Form)
+        (old new : List Way) → Passes edges old new →
+        AreWays states alphabet (front ++ c ∷ []) forms old →
+        AreWays states alphabet (front ++ c ∷ []) (forms ++ flat_map (branch way) edges) new
+    ways_by_edges [] lead forms old new same so_far =
+        subst (λ (l : List Form). AreWays states alphabet (front ++ c ∷ []) l new)
+        (sym (append-nil forms))
+        (subst (AreWays states alphabet (front ++ c ∷ []) forms) (sym same) so_far)
+    ways_by_edges (e ∷ edges) lead forms old new (mid, goes, rest) so_far =
+        let first = lead e (0, omega arith, refl) in
+        subst (λ (l : List Form). AreWays states alphabet (front ++ c ∷ []) l new)
+        (append_assoc forms (branch way e) (flat_map (branch way) edges))
+        (ways_by_edges edges (λ d has. lead d (suc has.0, omega (arith, has.1), has.2))
+        (forms ++ branch way e) mid new rest
+        (ways_by_edge forms e old mid first.0 first.1 goes so_far))
+
+    -- where none fits
+    passes_none : (edges : List Edge) (old : List Way) →
+        ((e : Edge) → Contains edges e → Fits alphabet e.letter c → ⊥) → Passes edges old old
+    passes_none [] old fails = refl
+    passes_none (e ∷ edges) old fails = (
+      old,
+      inr (fails e (0, omega arith, refl), refl),
+      passes_none edges old (λ d has. fails d (suc has.0, omega (arith, has.1), has.2)),
+    )
+
+    -- where one fits, which is that of the character itself
+    passes_one : (edges : List Edge) (old : List Way) (target : ℕ) → AreAscending edges →
+        Contains edges (edge_to c target) → FitsAlone alphabet c →
+        Passes edges old (old ++ way_on way (edge_to c target) ∷ [])
+    passes_one [] old target up (k, less, at) alone = absurd (omega (arith, less))
+    passes_one (e ∷ edges) old target up (zero, less, at) alone = (
+      old ++ way_on way (edge_to c target) ∷ [],
+      inl (
+        inl (ap (λ (d : Edge). d.letter) at),
+        ap (λ (d : Edge). old ++ way_on way d ∷ []) (sym at),
+      ),
+      passes_none edges (old ++ way_on way (edge_to c target) ∷ []) (λ d has fits.
+          let low = up.0 d has in
+          let here = ap (λ (f : Edge). f.letter) at in
+          let there = alone d.letter fits in
+          omega (arith, low, here, there)),
+    )
+    passes_one (e ∷ edges) old target up (suc k, less, at) alone =
+        let has : Contains edges (edge_to c target) = (k, omega (arith, less), at) in
+        let low = up.0 (edge_to c target) has in (
+          old,
+          inr (λ fits. let here = alone e.letter fits in omega (arith, low, here), refl),
+          passes_one edges old target up.1 has alone,
+        )
+
+    -- the ways that the edges of the state put
+    continues : AreStates states → HaveForms states → (forms : List Form) (old new : List Way) →
+        Passes (at way.state).edges old new →
+        AreWays states alphabet (front ++ c ∷ []) forms old →
+        AreWays states alphabet (front ++ c ∷ []) (forms ++ forms_by states way) new
+    continues fit have forms old new passes so_far =
+        let edges = (at way.state).edges in
+        subst (λ (l : List Form). AreWays states alphabet (front ++ c ∷ []) l new)
+        (append_assoc forms (passed way []) (flat_map (branch way) edges)
+        ∙ ap (λ (l : List Form). forms ++ (l ++ flat_map (branch way) edges))
+        (append-nil (ended way))
+        ∙ ap (λ (l : List Form). forms ++ l) (sym (by_edges fit way is.within)))
+        (ways_by_edges edges (λ e has.
+        edge_leads fit have way.state is.within edges refl has.0 e has.1 (sym has.2))
+        (forms ++ passed way []) old new passes (ways_start forms old so_far))
+
+    -- a step by the character itself is the only way on, where no other letter fits it
+    pub steps_on : AreStates states → HaveForms states → FitsAlone alphabet c →
+        (target : ℕ) → IsStep states way.state c target → (forms : List Form) (old : List Way) →
+        AreWays states alphabet (front ++ c ∷ []) forms old →
+        AreWays states alphabet (front ++ c ∷ []) (forms ++ forms_by states way)
+        (old ++ way_on way (edge_to c target) ∷ [])
+    steps_on fit have alone target step forms old =
+        let has = subst (λ (s : State). Contains s.edges (edge_to c target))
+        (sym (get_or_from_slice_get states way.state step.0 bare step.1)) step.2 in
+        continues fit have forms old (old ++ way_on way (edge_to c target) ∷ [])
+        (passes_one (at way.state).edges old target (fit_at fit way.state is.within).ascending has
+        alone)
+
+    -- and where it makes none, there is no way on
+    pub steps_nowhere : AreStates states → HaveForms states → FitsAlone alphabet c →
+        ((target : ℕ) → IsStep states way.state c target → ⊥) → (forms : List Form)
+        (old : List Way) → AreWays states alphabet (front ++ c ∷ []) forms old →
+        AreWays states alphabet (front ++ c ∷ []) (forms ++ forms_by states way) old
+    steps_nowhere fit have alone nowhere forms old =
+        continues fit have forms old old (passes_none (at way.state).edges old (λ e has fits.
+        let here : e ≡ edge_to c e.target =
+        λ j. record { letter = alone e.letter fits j; target = e.target } in
+        nowhere e.target (
+          at way.state,
+          slice_get-get_or states way.state bare is.within,
+          subst (λ (d : Edge). Contains (at way.state).edges d) here has,
+        )))
 
   -- what holds of the forms of the ways holds of all forms
   pub ways_among : (alphabet : Letters) (front more : List ℕ) (forms : List Form)

@@ -9,17 +9,17 @@ ghost use Rattle.ux_image_look_ups.specs.Ways.{HaveForms};
 
 use std::alloc::Global;
 use ux_base::Mem;
-use ux_dawg::{Edge, State};
+use ux_dawg::{Edge, States};
 
 /// How many letters the longest form has, 0 where there is none. The time is linear in the edges.
-pub fn longest(alloc: Global, states: &[State]) -> Mem<usize>
+pub fn longest(alloc: Global, states: &States) -> Mem<usize>
     requires automaton { MakeAutomaton states.now }
     requires forms { HaveForms states.now }
     ensures { IfOk result (λ most. most ≡ longest_in (forms_of states.now)) }
 {
     let mut depths = Vec::new(alloc);
-    for state in states {
-        let depth = depth_behind(state.edges.as_slice(), &depths);
+    for number in 0..states.len() {
+        let depth = depth_behind(states.edges(number), &depths);
         depths.push(depth)?;
     }
     Ok(depths[states.len() - 1])

@@ -1,8 +1,9 @@
 //! The letters of a way.
 //!
-//! A way goes on letter by letter, and may be as long as the text. So a trail shares its letters with
-//! those that it goes on from: it keeps them in pieces, each longer than the next one, of which there
-//! are as many as a binary number of the letters' count has ones.
+//! A way goes on token by token, and may be as long as the text. So a trail shares its letters with
+//! those that it goes on from: it keeps them in pieces, each at least twice as long as the next one, of
+//! which there are at most as many as the binary number of the letters' count has digits. The letters
+//! of a token stand behind the pieces until the token ends, and become one piece then.
 
 ghost use Rattle.std.specs.Prelude.{◌≡◌, ◌<◌, ◌∷◌, ◌++◌, [], IfOk, OnOk, MatchOption, length};
 ghost use Rattle.ux_image_look_ups.specs.Pieces.{letters_in};
@@ -15,16 +16,19 @@ use ux_base::Lst;
 /// The letters of a way, seen as the list of them.
 #[derive(Drop)]
 pub struct Trail {
+    /// The letters of the tokens that ended.
     pieces: Vec<Rc<Lst<char>>>,
+    /// Those of a token that didn't.
+    begun: Vec<char>,
 }
 
 impl Model for Trail {
-    ghost use Rattle.std.specs.Prelude.{List, ℕ};
+    ghost use Rattle.std.specs.Prelude.{◌++◌, List, ℕ};
     ghost use Rattle.ux_image_look_ups.specs.Pieces.{letters_in};
 
     ghost Value = { List ℕ };
 
-    ghost view = { λ trail. letters_in trail.pieces.items };
+    ghost view = { λ trail. letters_in trail.pieces.items ++ trail.begun.items };
 }
 
 impl Trail {
@@ -34,25 +38,39 @@ impl Trail {
     {
         Trail {
             pieces: Vec::new(alloc),
+            begun: Vec::new(alloc),
         }
     }
 
-    /// These letters and one more. Takes a step a piece, and now and then one a letter: a letter is
-    /// moved when the trail is twice as long as it was before.
-    pub(crate) fn with(&self, alloc: Global, letter: char) -> Result<Trail, AllocError>
-        ensures { IfOk result (λ trail. trail ≡ self.now ++ letter ∷ []) }
+    /// These letters and one more of a token.
+    pub(crate) fn with(self, letter: char) -> Result<Trail, AllocError>
+        ensures { IfOk result (λ trail. trail ≡ self ++ letter ∷ []) }
     {
-        let mut pieces = copies(alloc, &self.pieces)?;
-        put_letter(alloc, letter, &mut pieces)?;
-        Ok(Trail { pieces })
+        let Trail { pieces, mut begun } = self;
+        begun.push(letter)?;
+        Ok(Trail { pieces, begun })
     }
 
-    /// The same letters. Takes a step a piece.
+    /// The same letters, once the token ends. Takes one piece, and now and then a step a letter: a
+    /// letter moves into a piece half as long again as its own, or a longer one.
+    pub(crate) fn close(self, alloc: Global) -> Result<Trail, AllocError>
+        ensures { IfOk result (λ trail. trail ≡ self) }
+    {
+        let Trail { mut pieces, begun } = self;
+        put_letters(alloc, begun, &mut pieces)?;
+        Ok(Trail {
+            pieces,
+            begun: Vec::new(alloc),
+        })
+    }
+
+    /// The same letters. Takes a step a piece, and one a letter of a token that didn't end.
     pub(crate) fn copy(&self, alloc: Global) -> Result<Trail, AllocError>
         ensures { IfOk result (λ trail. trail ≡ self.now) }
     {
         Ok(Trail {
             pieces: copies(alloc, &self.pieces)?,
+            begun: Vec::from_slice(alloc, &self.begun)?,
         })
     }
 
@@ -62,6 +80,7 @@ impl Trail {
     {
         let mut letters = Vec::new(alloc);
         put_all(&self.pieces, &mut letters)?;
+        letters.extend_from_slice(&self.begun)?;
         Ok(Lst::new(letters))
     }
 }
@@ -77,17 +96,16 @@ fn copies(alloc: Global, pieces: &[Rc<Lst<char>>]) -> Result<Vec<Rc<Lst<char>>>,
     Ok(copies)
 }
 
-/// Puts a letter behind the pieces, in one with those that aren't longer than what is behind them.
-fn put_letter(
+/// Puts letters behind the pieces, in one with those that aren't twice as long as what is behind them.
+fn put_letters(
     alloc: Global,
-    letter: char,
+    letters: Vec<char>,
     pieces: &mut Vec<Rc<Lst<char>>>,
 ) -> Result<(), AllocError>
     ensures { OnOk result
-        (letters_in pieces.new.items ≡ letters_in pieces.old.items ++ letter ∷ []) }
+        (letters_in pieces.new.items ≡ letters_in pieces.old.items ++ letters.items) }
 {
-    let mut behind = Vec::new(alloc);
-    behind.push(letter)?;
+    let mut behind = letters;
     while let Some(piece) = take_short(pieces, behind.len()) {
         behind = joined(alloc, piece.as_slice(), &behind)?;
     }
@@ -95,22 +113,22 @@ fn put_letter(
     Ok(())
 }
 
-/// The last piece, which is taken, if it has at most so many letters.
-fn take_short(pieces: &mut Vec<Rc<Lst<char>>>, most: usize) -> Option<Rc<Lst<char>>>
+/// The last piece, which is taken, if it isn't twice as long as so many letters.
+fn take_short(pieces: &mut Vec<Rc<Lst<char>>>, letters: usize) -> Option<Rc<Lst<char>>>
     ensures { MatchOption result (letters_in pieces.new.items ≡ letters_in pieces.old.items)
         (λ piece. (letters_in pieces.old.items ≡ letters_in pieces.new.items ++ piece.value)
         × (length pieces.new.items < length pieces.old.items)) }
 {
-    if is_short(pieces, most) {
+    if is_short(pieces, letters) {
         return pieces.pop();
     }
     None
 }
 
-/// Whether there is a piece, and the last one has at most so many letters.
-fn is_short(pieces: &[Rc<Lst<char>>], most: usize) -> bool {
+/// Whether there is a piece, and the last one isn't twice as long as so many letters.
+fn is_short(pieces: &[Rc<Lst<char>>], letters: usize) -> bool {
     match pieces.last() {
-        Some(piece) => piece.as_slice().len() <= most,
+        Some(piece) => piece.as_slice().len() / 2 < letters,
         None => false,
     }
 }

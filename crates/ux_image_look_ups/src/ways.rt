@@ -12,7 +12,7 @@ ghost use Rattle.ux_image_look_ups.specs.Ways.{forms_by, AreWays, FitsText, Have
 use crate::trail::Trail;
 use std::alloc::Global;
 use ux_base::Mem;
-use ux_dawg::{Form, State};
+use ux_dawg::{Form, States};
 
 /// A way from the root to a state.
 #[derive(Drop)]
@@ -24,14 +24,14 @@ pub struct Way {
 }
 
 /// The ways of the empty text: one to the root, where there is a form.
-pub fn begin(alloc: Global, states: &[State]) -> Mem<Vec<Way>>
+pub fn begin(alloc: Global, states: &States) -> Mem<Vec<Way>>
     requires automaton { MakeAutomaton states.now }
     requires forms { HaveForms states.now }
     ensures { IfOk result (λ ways. (alphabet : Letters) →
         AreWays states.now alphabet [] (forms_of states.now) ways.items) }
 {
     let root = states.len() - 1;
-    if !is_alive(&states[root]) {
+    if !is_alive(states, root) {
         return Ok(Vec::new(alloc));
     }
     let mut ways = Vec::new(alloc);
@@ -42,18 +42,18 @@ pub fn begin(alloc: Global, states: &[State]) -> Mem<Vec<Way>>
     Ok(ways)
 }
 
-/// Whether a form ends in the state, or an edge goes on.
-fn is_alive(state: &State) -> bool
-    ensures { IsTrue result ↔ IsAlive state.now }
+/// Whether a form ends in the state of this number, or an edge goes on.
+fn is_alive(states: &States, number: usize) -> bool
+    ensures { IsTrue result ↔ IsAlive (get_or states.now number bare) }
 {
-    match state.code {
+    match states.code(number) {
         Some(_) => true,
-        None => has_some(state.edges.as_slice()),
+        None => has_some(states.edges(number)),
     }
 }
 
 /// Whether some form goes on from the ways of a text.
-pub fn may_go_on(states: &[State], ways: &[Way]) -> bool
+pub fn may_go_on(states: &States, ways: &[Way]) -> bool
     requires { AreStates states.now }
     ensures { (alphabet : Letters) (text : List ℕ) (forms : List FormRecord) →
         AreWays states.now alphabet text forms ways.now →
@@ -71,7 +71,7 @@ fn has_some<T>(items: &[T]) -> bool
 }
 
 /// The forms that end where the ways of a text do, in order.
-pub fn ending(alloc: Global, states: &[State], ways: &[Way]) -> Mem<Vec<Form>>
+pub fn ending(alloc: Global, states: &States, ways: &[Way]) -> Mem<Vec<Form>>
     requires { AreStates states.now }
     ensures { IfOk result (λ found. (alphabet : Letters) (text : List ℕ)
         (forms : List FormRecord) → AreWays states.now alphabet text forms ways.now →
@@ -85,7 +85,7 @@ pub fn ending(alloc: Global, states: &[State], ways: &[Way]) -> Mem<Vec<Form>>
 }
 
 /// Puts the form that ends where the way does last, if there is one.
-fn push_ending(alloc: Global, states: &[State], way: &Way, found: &mut Vec<Form>) -> Mem<()>
+fn push_ending(alloc: Global, states: &States, way: &Way, found: &mut Vec<Form>) -> Mem<()>
     requires { AreStates states.now }
     ensures { OnOk result ((alphabet : Letters) (text : List ℕ) (forms : List FormRecord) →
         IsWay states.now alphabet text way.now →
@@ -93,19 +93,9 @@ fn push_ending(alloc: Global, states: &[State], way: &Way, found: &mut Vec<Form>
         IsChosen (FitsText alphabet text) (forms ++ forms_by states.now way.now)
         found.new.items) }
 {
-    if let Some(code) = code_at(states, way.state) {
+    if let Some(code) = states.code(way.state) {
         let letters = way.letters.to_list(alloc)?;
         found.push(Form { letters, code })?;
     }
     Ok(())
-}
-
-/// The number of the list of the state of this number, if a form ends there.
-fn code_at(states: &[State], number: usize) -> Option<u32>
-    ensures { result ≡ (get_or states.now number bare).code }
-{
-    match states.get(number) {
-        Some(state) => state.code,
-        None => None,
-    }
 }

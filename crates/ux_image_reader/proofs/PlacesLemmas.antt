@@ -1,12 +1,17 @@
 -- The first of several faults, and the states that were seen.
-use Rattle.std.proofs.Common.{arith, ◌≡◌, ℕ, zero, suc, ◌+◌, ◌<◌, List, [], ◌∷◌, ◌++◌, ◌⊎◌, Bool, true, false, cond, ◌||◌, Bor, inl, inr, refl, sym, ◌∙◌, ap, subst, length, map, min, take, get_or, true≢false}
+use Rattle.std.proofs.Common.{arith, ◌≡◌, ℕ, zero, suc, ◌+◌, ◌<◌, List, [], ◌∷◌, ◌++◌, ◌⊎◌, Bool, true, false, cond, ◌||◌, inl, inr, refl, sym, ◌∙◌, ap, subst, length, map, min, take, get_or, true≢false}
 use Rattle.std.specs.Prelude.{Option, None, Some, slice_get}
 use Rattle.std.specs.Bool.{Decides}
 use Rattle.std.specs.List.{list_any}
 use Rattle.std.proofs.lemmas.Bool.{cases_lt}
 use Rattle.std.proofs.lemmas.List.{map_push, take_more}
-use Rattle.std.proofs.lemmas.Option.{none-some, same_Some, slice_get_read}
+use Rattle.std.proofs.lemmas.Option.{none-some, same_Some, slice_get_within}
+use Rattle.ux_dawg.specs.declared.state.Edge.{Edge}
 use Rattle.ux_dawg.specs.declared.state.State.{State}
+use Rattle.ux_dawg.specs.Building.{bare}
+use Rattle.ux_dawg.specs.Flat.{state_of}
+use Rattle.ux_dawg.proofs.FlatLemmas.{state_stands}
+use Rattle.ux_image_reader.specs.declared.places.Look.{Look}
 use Rattle.ux_image_reader.specs.Fronts.{EqualsEarlier, IsFinalRoot, IsMisplaced, IsNumberedElse}
 use Rattle.ux_image_reader.specs.Reading.{first_of, IsFirst}
 
@@ -62,47 +67,53 @@ slice_get-front (y ∷ xs) (suc n) zero x less at = at
 slice_get-front (y ∷ xs) (suc n) (suc i) x less at =
     slice_get-front xs n i x (omega (arith, less)) at
 
--- what a reference lends
-abbrev pub lent : Bor State → State
-lent b = b.now
+-- the state that is lent
+abbrev pub lent : Look → State
+lent look = state_of look.code look.edges.now
+
+-- a state of a list, by its number of a list and its edges
+pub state_is : (s : State) (code : Option ℕ) (edges : List Edge) → code ≡ s.code →
+    edges ≡ s.edges → state_of code edges ≡ s
+state_is s code edges codes_are edges_are = λ j. record { code = codes_are j; edges = edges_are j }
 
 module _ (eq : State → State → Bool) (tells : (a b : State) → Decides (eq a b) (a ≡ b)) where
   -- one that equals is found at a place
-  found_at : (keys : List (Bor State)) (x : State) →
-      list_any (λ (k : Bor State). eq x k.now) keys ≡ true →
+  found_at : (keys : List Look) (x : State) →
+      list_any (λ (k : Look). eq x (lent k)) keys ≡ true →
       (i : ℕ) × (slice_get (map lent keys) i ≡ Some x)
   found_at [] x none = absurd (true≢false (sym none))
-  found_at (k ∷ keys) x any = by (eq x k.now) refl any (found_at keys x)
+  found_at (k ∷ keys) x any = by (eq x (lent k)) refl any (found_at keys x)
     where
-      by : (b : Bool) → eq x k.now ≡ b →
-          (b || list_any (λ (k : Bor State). eq x k.now) keys) ≡ true →
-          (list_any (λ (k : Bor State). eq x k.now) keys ≡ true →
+      by : (b : Bool) → eq x (lent k) ≡ b →
+          (b || list_any (λ (k : Look). eq x (lent k)) keys) ≡ true →
+          (list_any (λ (k : Look). eq x (lent k)) keys ≡ true →
           (i : ℕ) × (slice_get (map lent keys) i ≡ Some x)) →
           (i : ℕ) × (slice_get (map lent (k ∷ keys)) i ≡ Some x)
-      by true is any rest = (0, ap Some (sym ((tells x k.now).0 is)))
+      by true is any rest = (0, ap Some (sym ((tells x (lent k)).0 is)))
       by false is any rest = let h = rest any in (suc h.0, h.1)
 
-  found_from : (keys : List (Bor State)) (x : State) (i : ℕ) →
-      slice_get (map lent keys) i ≡ Some x → list_any (λ (k : Bor State). eq x k.now) keys ≡ true
+  found_from : (keys : List Look) (x : State) (i : ℕ) →
+      slice_get (map lent keys) i ≡ Some x → list_any (λ (k : Look). eq x (lent k)) keys ≡ true
   found_from [] x i at = absurd (none-some x at)
   found_from (k ∷ keys) x zero at =
-      ap (λ b. b || list_any (λ (k : Bor State). eq x k.now) keys)
-      ((tells x k.now).1 (sym (same_Some k.now x at)))
-  found_from (k ∷ keys) x (suc i) at = either (eq x k.now) (found_from keys x i at)
+      ap (λ b. b || list_any (λ (k : Look). eq x (lent k)) keys)
+      ((tells x (lent k)).1 (sym (same_Some (lent k) x at)))
+  found_from (k ∷ keys) x (suc i) at = either (eq x (lent k)) (found_from keys x i at)
     where
-      either : (b : Bool) → list_any (λ (k : Bor State). eq x k.now) keys ≡ true →
-          (b || list_any (λ (k : Bor State). eq x k.now) keys) ≡ true
+      either : (b : Bool) → list_any (λ (k : Look). eq x (lent k)) keys ≡ true →
+          (b || list_any (λ (k : Look). eq x (lent k)) keys) ≡ true
       either true h = refl
       either false h = h
 
-  module _ (states : List State) (n : ℕ) (keys : List (Bor State)) (x : State)
+  module _ (states : List State) (n : ℕ) (keys : List Look) (x : State)
       (seen : map lent keys ≡ take n states) (within : n < length states)
-      (is : x ≡ get_or states n x) (none : (m : ℕ) → m < n → EqualsEarlier states m → ⊥) where
+      (is : x ≡ get_or states n bare)
+      (none : (m : ℕ) → m < n → EqualsEarlier states m → ⊥) where
     stands : slice_get states n ≡ Some x
-    stands = slice_get_read states (length states) n x refl within is
+    stands = state_stands states n within ∙ ap Some (sym is)
 
     -- the state was seen before
-    pub equal_here : list_any (λ (k : Bor State). eq x k.now) keys ≡ true →
+    pub equal_here : list_any (λ (k : Look). eq x (lent k)) keys ≡ true →
         IsFirst (EqualsEarlier states) (Some n)
     equal_here any =
         let h = found_at keys x any in
@@ -113,17 +124,17 @@ module _ (eq : State → State → Bool) (tells : (a b : State) → Decides (eq 
         )
 
     -- the state wasn't, and is seen now
-    pub equal_nowhere : (more : List (Bor State)) (b : Bor State) → b.now ≡ x →
-        list_any (λ (k : Bor State). eq x k.now) keys ≡ false →
-        more ≡ cond (list_any (λ (k : Bor State). eq x k.now) keys) keys (keys ++ b ∷ []) →
+    pub equal_nowhere : (more : List Look) (look : Look) → lent look ≡ x →
+        list_any (λ (k : Look). eq x (lent k)) keys ≡ false →
+        more ≡ cond (list_any (λ (k : Look). eq x (lent k)) keys) keys (keys ++ look ∷ []) →
         (map lent more ≡ take (n + 1) states)
         × ((m : ℕ) → m < n + 1 → EqualsEarlier states m → ⊥)
-    equal_nowhere more b lends fresh adds = (
-      ap (map lent) (adds ∙ ap (λ t. cond t keys (keys ++ b ∷ [])) fresh)
-          ∙ map_push lent keys b
-          ∙ ap (λ (l : List State). l ++ b.now ∷ []) seen
+    equal_nowhere more look lends fresh adds = (
+      ap (map lent) (adds ∙ ap (λ t. cond t keys (keys ++ look ∷ [])) fresh)
+          ∙ map_push lent keys look
+          ∙ ap (λ (l : List State). l ++ lent look ∷ []) seen
           ∙ ap (λ (s : State). take n states ++ s ∷ []) (lends ∙ is)
-          ∙ sym (take_more states n x within),
+          ∙ sym (take_more states n bare within),
       λ m less other. elim (cases_lt m n) [
         | inl low ↦ none m low other
         | inr high ↦ not_here (subst (EqualsEarlier states)
@@ -139,3 +150,11 @@ module _ (eq : State → State → Bool) (tells : (a b : State) → Decides (eq 
             (slice_get-front states n other.earlier x other.before
             (other.same ∙ ap Some same))) in
             true≢false (sym there ∙ fresh)
+
+-- a state with a fault is one of the states
+pub misplaced_within : (states : List State) (number : ℕ) → IsMisplaced states number →
+    number < length states
+misplaced_within states number (inl root) = let last = root.root in omega (arith, last)
+misplaced_within states number (inr (inl other)) =
+    slice_get_within states number other.state other.stands
+misplaced_within states number (inr (inr numbered)) = numbered.within

@@ -6,11 +6,12 @@ use Rattle.std.specs.Prelude.{All, Contains, Option, None, Some, fold, nat_eq, n
 use Rattle.std.specs.List.{list_any, position_or_len, range_with_len}
 use Rattle.std.proofs.lemmas.Bool.{cases_eq, leb-false, leb-true}
 use Rattle.std.proofs.lemmas.Bool.Decides.{Decides-eqb}
-use Rattle.std.proofs.lemmas.List.{get_or-drop, get_or-take, length-drop, length-take, drop-drop, drop_more, take-append-drop, take_rest}
+use Rattle.std.proofs.lemmas.List.{get_or-drop, get_or_default, get_or-take, length-drop, length-take, drop-drop, drop_more, take-append-drop, take_rest}
 use Rattle.std.proofs.lemmas.List.Elements.{All-head, All-tail, Contains-get_or}
 use Rattle.std.proofs.lemmas.List.Sums.{fold-append, prefix_len_passes}
 use Rattle.std.proofs.lemmas.List.Quantifiers.{position-Some}
 use Rattle.std.proofs.lemmas.Option.{none-some}
+use Rattle.ux_dawg.specs.Building.{bare}
 use Rattle.ux_dawg.specs.declared.state.Edge.{Edge}
 use Rattle.ux_dawg.specs.declared.state.State.{State}
 use Rattle.ux_dawg.specs.Paths.{AreStates}
@@ -26,11 +27,17 @@ edge_of [] i e has = absurd (none-some e (is_some_of [] e has).1)
 edge_of (s ∷ states) zero e has = (s, refl, has)
 edge_of (s ∷ states) (suc i) e has = edge_of states i e has
 
+pub edges_at-bare : (states : List State) (i : ℕ) →
+    edges_at states i ≡ (get_or states i bare).edges
+edges_at-bare [] i = refl
+edges_at-bare (t ∷ states) zero = refl
+edges_at-bare (t ∷ states) (suc i) = edges_at-bare states i
+
 pub edges_at-is : (states : List State) (i : ℕ) (s : State) → i < length states →
     s ≡ get_or states i s → edges_at states i ≡ s.edges
-edges_at-is [] i s less is = absurd (omega (arith, less))
-edges_at-is (t ∷ states) zero s less is = ap (λ (u : State). u.edges) (sym is)
-edges_at-is (t ∷ states) (suc i) s less is = edges_at-is states i s (omega (arith, less)) is
+edges_at-is states i s less is =
+    edges_at-bare states i
+    ∙ ap (λ (u : State). u.edges) (get_or_default states i bare s less ∙ sym is)
 
 pub edge_below : (states : List State) → AreStates states → (i : ℕ) (e : Edge) →
     Contains (edges_at states i) e → e.target < i

@@ -13,8 +13,7 @@ use crate::numbers::read_number;
 use crate::places::accept_states;
 use crate::states::read_states;
 use std::alloc::Global;
-use ux_base::Lst;
-use ux_dawg::State;
+use ux_dawg::States;
 
 /// A version of the format.
 #[derive(Clone, Copy, Debug, PartialEq, Eq)]
@@ -31,7 +30,7 @@ pub struct Front {
     /// The version.
     pub version: Version,
     /// The states, by number. The last one is the root.
-    pub states: Lst<State>,
+    pub states: States,
     /// How many lists of codes there are.
     pub lists: u32,
     /// The place of the byte at which the lists begin.
@@ -60,10 +59,10 @@ pub fn read_front(alloc: Global, bytes: &[u8]) -> Result<Front, ImageError>
     }
     let lists = read_number(&mut cursor)?;
     let states = read_states(alloc, count, lists, &mut cursor)?;
-    accept_states(alloc, lists, states.as_slice())?;
+    accept_states(alloc, lists, &states)?;
     Ok(Front {
         version,
-        states: Lst::new(states),
+        states,
         lists,
         end: cursor.place,
     })

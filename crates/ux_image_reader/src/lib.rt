@@ -8,7 +8,7 @@
 //!
 //! ```text
 //! let front = read_front(alloc, &bytes)?;
-//! let automaton = Dawg::of_states(front.states.into_vec());
+//! let first = front.states.edges(front.states.len() - 1);    // the edges from the root on
 //! ```
 #![tactic(auto)]
 

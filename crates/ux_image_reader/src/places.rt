@@ -13,10 +13,17 @@ use crate::visit::first_numbered_else;
 use indexmap::IndexSet;
 use std::alloc::Global;
 use ux_base::Mem;
-use ux_dawg::State;
+use ux_dawg::{Edge, States};
+
+/// A state, lent.
+#[derive(Clone, Copy, PartialEq, Eq, Hash)]
+struct Look<'a> {
+    code: Option<u32>,
+    edges: &'a [Edge],
+}
 
 /// Tests the states of a file that tells so many lists among one another.
-pub(crate) fn accept_states(alloc: Global, lists: u32, states: &[State]) -> Result<(), ImageError>
+pub(crate) fn accept_states(alloc: Global, lists: u32, states: &States) -> Result<(), ImageError>
     requires states { AreStates states.now }
     requires some { 0 < length states.now }
     requires used { used_by states.now ≤ lists }
@@ -25,7 +32,7 @@ pub(crate) fn accept_states(alloc: Global, lists: u32, states: &[State]) -> Resu
     ensures err { IfErr result (RefusesTogether lists states.now) }
 {
     if let Some(number) = first_misplaced(alloc, states)? {
-        let offset = place_behind(&states[..number]);
+        let offset = place_behind(states, number);
         return Err(ImageError::BadState { offset });
     }
     if count_used(states) < lists {
@@ -35,7 +42,7 @@ pub(crate) fn accept_states(alloc: Global, lists: u32, states: &[State]) -> Resu
 }
 
 /// The first state that has a fault among the others. The time is linear in the edges.
-fn first_misplaced(alloc: Global, states: &[State]) -> Mem<Option<usize>>
+fn first_misplaced(alloc: Global, states: &States) -> Mem<Option<usize>>
     requires states { AreStates states.now }
     requires some { 0 < length states.now }
     ensures { IfOk result (IsFirst (IsMisplaced states.now)) }
@@ -46,24 +53,28 @@ fn first_misplaced(alloc: Global, states: &[State]) -> Mem<Option<usize>>
 }
 
 /// The root, if it is final.
-fn final_root(states: &[State]) -> Option<usize>
+fn final_root(states: &States) -> Option<usize>
     requires { 0 < length states.now }
     ensures { IsFirst (IsFinalRoot states.now) result }
 {
     let root = states.len() - 1;
-    match states[root].code {
+    match states.code(root) {
         Some(_) => Some(root),
         None => None,
     }
 }
 
 /// The first state that equals an earlier one.
-fn first_equal(alloc: Global, states: &[State]) -> Mem<Option<usize>>
+fn first_equal(alloc: Global, states: &States) -> Mem<Option<usize>>
     ensures { IfOk result (IsFirst (EqualsEarlier states.now)) }
 {
     let mut seen = IndexSet::new(alloc);
-    for (number, state) in states.iter().enumerate() {
-        if !seen.insert(state)? {
+    for number in 0..states.len() {
+        let look = Look {
+            code: states.code(number),
+            edges: states.edges(number),
+        };
+        if !seen.insert(look)? {
             return Ok(Some(number));
         }
     }

@@ -1,6 +1,7 @@
 //! Reading states, each of which is tested by itself.
 
-ghost use Rattle.std.specs.Prelude.{◌≡◌, ◌*◌, ◌≤◌, ◌<◌, ◌^◌, ◌↔◌, IfErr, IfOk, IsTrue, SomeIff, length};
+ghost use Rattle.std.specs.Prelude.{◌≡◌, ◌*◌, ◌≤◌, ◌<◌, ◌^◌, ◌↔◌, IfErr, IfOk, IsTrue, OnOk, SomeIff, length, take};
+ghost use Rattle.ux_dawg.specs.Flat.{state_of};
 ghost use Rattle.ux_image_reader.specs.Layout.{final_number, place_behind, written, written_edge};
 ghost use Rattle.ux_image_reader.specs.Reading.{EdgePasses, IsAbove, IsNextLetter, Passes, ReadsEdges, ReadsStates, Stops, StopsStates, letters_of, numbers_left};
 ghost use Rattle.ux_image_reader.specs.Tests.{used_by, IsWhole, Pass, PassAsEdges};
@@ -10,7 +11,7 @@ use crate::error::ImageError;
 use crate::limits::{Limits, is_alive, is_list};
 use crate::numbers::read_number;
 use std::alloc::Global;
-use ux_dawg::{Edge, Items, State};
+use ux_dawg::{Edge, States};
 
 /// Reads so many states.
 pub(crate) fn read_states(
@@ -18,12 +19,13 @@ pub(crate) fn read_states(
     count: u32,
     lists: u32,
     cursor: &mut Cursor<'_>,
-) -> Result<Vec<State>, ImageError>
-    ensures ok { IfOk result (λ states.
-        ReadsStates count lists count cursor.old cursor.new states.items) }
+) -> Result<States, ImageError>
+    ensures ok { IfOk result (ReadsStates count lists count cursor.old cursor.new) }
     ensures err { IfErr result (StopsStates count lists cursor.old) }
 {
-    let mut states = Vec::new(alloc);
+    let mut states = States::new(alloc);
+    // Filled again for each state, so that none has to ask for memory of its own.
+    let mut edges = Vec::new(alloc);
     let mut used = 0;
     for number in 0..count {
         let limits = Limits {
@@ -32,17 +34,23 @@ pub(crate) fn read_states(
             number,
             used,
         };
-        let state = read_state(alloc, limits, cursor)?;
-        used = used.max(number_of_list(state.code));
-        states.push(state)?;
+        let code = read_state(limits, &mut edges, cursor)?;
+        used = used.max(number_of_list(code));
+        states.push(code, edges.as_slice())?;
     }
     Ok(states)
 }
 
-/// Reads a state, which is tested against the limits.
-fn read_state(alloc: Global, limits: Limits, cursor: &mut Cursor<'_>) -> Result<State, ImageError>
-    ensures ok { IfOk result (λ state. Passes cursor.old cursor.new (written state)) }
-    ensures passed { IfOk result (λ state. Pass limits (written state)) }
+/// Reads a state, which is tested against the limits: its list, and its edges, which take the place
+/// of those that were there.
+fn read_state(
+    limits: Limits,
+    edges: &mut Vec<Edge>,
+    cursor: &mut Cursor<'_>,
+) -> Result<Option<u32>, ImageError>
+    ensures ok { IfOk result (λ code.
+        Passes cursor.old cursor.new (written (state_of code edges.new.items))) }
+    ensures passed { IfOk result (λ code. Pass limits (written (state_of code edges.new.items))) }
     ensures err { IfErr result (Stops (Pass limits (numbers_left cursor.old))
         (IsWhole (numbers_left cursor.old)) cursor.old.place) }
 {
@@ -55,33 +63,31 @@ fn read_state(alloc: Global, limits: Limits, cursor: &mut Cursor<'_>) -> Result<
     if !is_alive(limits, list, many) {
         return Err(ImageError::BadState { offset });
     }
-    let edges = read_edges(alloc, limits.number, many, offset, cursor)?;
-    Ok(State {
-        code: list.checked_sub(1),
-        edges,
-    })
+    read_edges(limits.number, many, offset, edges, cursor)?;
+    Ok(list.checked_sub(1))
 }
 
 /// How many lists the states use, where they take them in the order of their numbers.
-pub(crate) fn count_used(states: &[State]) -> u32
+pub(crate) fn count_used(states: &States) -> u32
     requires { used_by states.now < 2 ^ 32 }
     ensures { result ≡ used_by states.now }
 {
     let mut used = 0;
-    for state in states {
-        used = used.max(number_of_list(state.code));
+    for number in 0..states.len() {
+        used = used.max(number_of_list(states.code(number)));
     }
     used
 }
 
-/// The place of the byte behind the states.
-pub(crate) fn place_behind(states: &[State]) -> usize
-    requires { place_behind states.now < 2 ^ 64 }
-    ensures { result ≡ place_behind states.now }
+/// The place of the byte behind the first states, of which there are so many.
+pub(crate) fn place_behind(states: &States, many: usize) -> usize
+    requires within { many ≤ length states.now }
+    requires fits { place_behind states.now < 2 ^ 64 }
+    ensures { result ≡ place_behind (take many states.now) }
 {
     let mut place = 16;
-    for state in states {
-        place += 8 + 8 * state.edges.as_slice().len();
+    for number in 0..many {
+        place += 8 + 8 * states.edges(number).len();
     }
     place
 }
@@ -97,24 +103,25 @@ fn number_of_list(list: Option<u32>) -> u32
     }
 }
 
-/// Reads so many edges of the state of this number, which begins at the offset.
+/// Reads so many edges of the state of this number, which begins at the offset, in the place of those
+/// that were there.
 fn read_edges(
-    alloc: Global,
     number: u32,
     many: u32,
     offset: usize,
+    edges: &mut Vec<Edge>,
     cursor: &mut Cursor<'_>,
-) -> Result<Items<Edge>, ImageError>
-    ensures ok { IfOk result (ReadsEdges number many cursor.old cursor.new) }
+) -> Result<(), ImageError>
+    ensures ok { OnOk result (ReadsEdges number many cursor.old cursor.new edges.new.items) }
     ensures err { IfErr result (Stops (PassAsEdges number many (numbers_left cursor.old))
         (2 * many ≤ length (numbers_left cursor.old)) offset) }
 {
-    let mut edges = Items::empty(alloc);
+    edges.clear();
     for _ in 0..many {
         let edge = read_edge(number, edges.as_slice(), offset, cursor)?;
         edges.push(edge)?;
     }
-    Ok(edges)
+    Ok(())
 }
 
 /// Reads the edge behind these ones.

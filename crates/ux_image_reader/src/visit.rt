@@ -10,7 +10,7 @@ ghost use Rattle.ux_image_reader.specs.Visiting.{GoesOn, IsFrame, Leaves};
 
 use std::alloc::Global;
 use ux_base::Mem;
-use ux_dawg::{Edge, State};
+use ux_dawg::{Edge, States};
 
 /// A state that was entered and not left.
 #[derive(Clone, Copy)]
@@ -24,7 +24,7 @@ struct Frame {
 /// The first number at which the visit leaves another state, or none. While states are left in the
 /// order of their numbers, those that were left are those below the next number. The time is linear
 /// in the edges.
-pub(crate) fn first_numbered_else(alloc: Global, states: &[State]) -> Mem<Option<usize>>
+pub(crate) fn first_numbered_else(alloc: Global, states: &States) -> Mem<Option<usize>>
     requires states { AreStates states.now }
     requires some { 0 < length states.now }
     ensures { IfOk result (IsFirst (IsNumberedElse states.now)) }
@@ -47,7 +47,7 @@ pub(crate) fn first_numbered_else(alloc: Global, states: &[State]) -> Mem<Option
 
 /// Goes on from the frame, and down as far as edges lead to states that weren't left. Gives the state
 /// that is left then.
-fn leave_next(states: &[State], left: usize, frame: Frame, stack: &mut Vec<Frame>) -> Mem<usize>
+fn leave_next(states: &States, left: usize, frame: Frame, stack: &mut Vec<Frame>) -> Mem<usize>
     requires states { AreStates states.now }
     requires frame { IsFrame states.now frame }
     requires stack { All (IsFrame states.now) stack.old.items }
@@ -62,7 +62,7 @@ fn leave_next(states: &[State], left: usize, frame: Frame, stack: &mut Vec<Frame
 }
 
 /// The frame behind its next edge to a state that wasn't left, and the frame of that state.
-fn next_edge(states: &[State], left: usize, frame: Frame) -> Option<(Frame, Frame)>
+fn next_edge(states: &States, left: usize, frame: Frame) -> Option<(Frame, Frame)>
     requires states { AreStates states.now }
     requires frame { IsFrame states.now frame }
     ensures { GoesOn states.now left frame result }
@@ -82,11 +82,10 @@ fn next_edge(states: &[State], left: usize, frame: Frame) -> Option<(Frame, Fram
 }
 
 /// The edges of the state of this number.
-fn edges_at(states: &[State], number: usize) -> &[Edge]
-    requires { number < length states.now }
+fn edges_at(states: &States, number: usize) -> &[Edge]
     ensures { result.now ≡ edges_at states.now number }
 {
-    states[number].edges.as_slice()
+    states.edges(number)
 }
 
 /// The place of the first edge to a state that wasn't left.

@@ -11,37 +11,18 @@ ghost use Rattle.ux_outputs.specs.declared.event.Event.{Event};
 ghost use Rattle.ux_text_chart.specs.TextCharts.{IsTextChart, chart_setting};
 ghost use Rattle.ux_walk.specs.Noting.{Includes};
 ghost use Rattle.ux_walk.specs.Settings.{Derives};
-ghost use Rattle.ux_locate.specs.ByChart.{AsksChart, tells_in};
 ghost use Rattle.ux_locate.specs.Finding.{AreAllHits, AreKeptFor, HasMasks, IsHitAt, setting_in, tokens_in};
 
+use crate::chart_contexts::{ChartContexts, derives_some};
 use crate::from_start::best_hits;
 use crate::search::Search;
 use crate::walks::is_start;
 use std::alloc::Global;
 use ux_base::{Mem, Policy};
-use ux_net::Edge;
 use ux_outputs::Hit;
 use ux_parts::Parts;
 use ux_text_chart::TextChart;
-use ux_walk::Contexts;
 use ux_walk::look_ups::LookUps;
-
-/// The contexts of a net, as the chart of a text tells them.
-#[derive(Drop)]
-pub struct ChartContexts<'a> {
-    /// The chart.
-    pub chart: &'a TextChart<'a>,
-}
-
-impl<'a> Contexts for ChartContexts<'a> {
-    ghost asks = { λ contexts. AsksChart contexts.chart.now };
-
-    ghost applies = { λ contexts. tells_in contexts.chart.now };
-
-    fn closers(&self, graph: u32, edge: &Edge, at: usize) -> &[u32] {
-        self.chart.closers(graph, edge, at)
-    }
-}
 
 /// The hits from all starts, in no order. Equal ones may stand there twice.
 pub fn all_hits(alloc: Global, search: &Search) -> Mem<Vec<Hit>>
@@ -111,7 +92,7 @@ fn add_hits<'t>(
     if !may_derive(chart, start) {
         return Ok(());
     }
-    let contexts = ChartContexts { chart };
+    let contexts = ChartContexts::of(chart);
     let mut found = best_hits(alloc, search, Policy::All, &contexts, look_ups, start)?;
     hits.append(&mut found)?;
     Ok(())
@@ -126,5 +107,5 @@ fn may_derive(chart: &TextChart, start: usize) -> bool
 {
     // A net has a main graph.
     let _graphs = chart.basis.text.net.graphs();
-    !chart.ends(1, start).is_empty()
+    derives_some(chart, 1, start)
 }

@@ -13,9 +13,9 @@ ghost use Rattle.ux_locate.specs.Finding.{AreKeptFor, HasMasks, IsFound, IsHitFr
 ghost use Rattle.ux_locate.specs.Keeping.{AreKept, first_of, last_of};
 ghost use Rattle.ux_locate.specs.Searchable.{IsSearchable};
 
-use crate::by_chart::ChartContexts;
+use crate::chart_contexts::ChartContexts;
 use crate::ends::{ChartEnds, Ends};
-use crate::expanding::suits_walks;
+use crate::expanding::{has_calls, suits_walks};
 use crate::from_start::best_hits;
 use crate::keeping::{hits_reach, is_reached};
 use crate::search::Search;
@@ -29,8 +29,9 @@ use ux_walk::look_ups::LookUps;
 use ux_walk::{Contexts, NoContexts};
 use ux_walker::Walker;
 
-/// The hits that are kept, in the order in which they are found. Walks tell the ends, where they suit the
-/// net, otherwise a chart does.
+/// The hits that are kept, in the order in which they are found. Walks tell the ends of a net without
+/// calls, where they suit it. Otherwise a chart does; so the derivations are listed by walks that enter no
+/// call without an end.
 pub fn kept_hits(alloc: Global, search: &Search) -> Mem<Vec<Hit>>
     requires masks { HasMasks search.now }
     requires uncut { CutNothing search.now.masked.now.net.now }
@@ -38,6 +39,9 @@ pub fn kept_hits(alloc: Global, search: &Search) -> Mem<Vec<Hit>>
     ensures { IfOk result (λ hits. AreKept search.now.policy first_of last_of
         (IsFound (tokens_in search.now) (IsHitFrom search.now)) hits.items) }
 {
+    if has_calls(search.masked.net) {
+        return hits_by_chart(alloc, search);
+    }
     if suits_walks(alloc, search.masked.net)? {
         return hits_by_walker(alloc, search);
     }
@@ -84,7 +88,7 @@ fn hits_in_chart(alloc: Global, search: &Search, chart: &TextChart) -> Mem<Vec<H
         alloc,
         search,
         &mut ChartEnds::of(chart),
-        &ChartContexts { chart },
+        &ChartContexts::of(chart),
     )
 }
 

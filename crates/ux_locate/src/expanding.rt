@@ -29,6 +29,23 @@ pub fn suits_walks(alloc: Global, net: &Net) -> Mem<bool>
     Ok(suits)
 }
 
+/// Whether a graph of the net calls one. Looks at each edge once.
+pub fn has_calls(net: &Net) -> bool {
+    for before in 0..net.graphs() {
+        for state in 0..net.states(before + 1) {
+            if net.edges(before + 1, state).iter().any(|edge| calls(edge)) {
+                return true;
+            }
+        }
+    }
+    false
+}
+
+/// Whether the edge calls a graph.
+fn calls(edge: &Edge) -> bool {
+    matches!(&edge.label, Label::Call(_))
+}
+
 /// Whether each graph has so few states, and none comes back to itself.
 fn is_small(alloc: Global, net: &Net) -> Mem<bool> {
     let calls = calls_of(alloc, net)?;

@@ -7,7 +7,7 @@ use std::process::Abort;
 use std::test::Fail;
 use ux_alphabet::Alphabet;
 use ux_dela::{DelaError, Entry, print_delaf, read_delaf};
-use ux_dict::{ListLexicon, different};
+use ux_dict::{ListLexicon, Stored, content_in, content_of, different, store_all};
 use ux_lexicon::{AnyLexicon, Lexicon};
 
 /// The pairs of letters in all rows: `X` has none.
@@ -248,5 +248,39 @@ fn equal_entries_stand_once(rt: HostRuntime) -> Result<(), Fail> {
         lines.as_str(),
         "[b,.N][a,.N][b,.V]",
     );
+    Ok(())
+}
+
+/// The entries as they are kept, each between brackets: its form, its lemma and its codes.
+fn kept(alloc: Global, entries: &[Stored]) -> Result<String, AllocError> {
+    let mut out = String::new(alloc);
+    for entry in entries {
+        let form = entry.form();
+        let lemma = entry.lemma();
+        let codes = entry.printed_codes();
+        out.push_str(format!(in alloc; "[{form} {lemma} {codes}]")?.as_str())?;
+    }
+    Ok(out)
+}
+
+#[test]
+fn a_content_is_in_order_of_form_and_each_entry_stands_once(rt: HostRuntime) -> Result<(), Fail> {
+    let alloc = rt.alloc();
+    let lines = "b,.V\nab,a.N+x:y:z\nb,.V\nb,.N\nab,a.N+x:y:z";
+    let of_file = content_in(alloc, lines)?;
+    let of_entries = content_of(alloc, read_delaf(alloc, lines)?)?;
+    let all = store_all(alloc, read_delaf(alloc, "b,.V\nab,a.N\nb,.V")?)?;
+    let cases = [
+        ("of a file", &of_file, "[ab a N+x:y:z][b b V][b b N]"),
+        ("of entries", &of_entries, "[ab a N+x:y:z][b b V][b b N]"),
+        (
+            "all entries, in their order",
+            &all,
+            "[b b V][ab a N][b b V]",
+        ),
+    ];
+    for (name, entries, want) in cases {
+        compare(&rt, name, kept(alloc, entries)?.as_str(), want);
+    }
     Ok(())
 }

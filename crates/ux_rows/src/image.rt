@@ -6,6 +6,7 @@ use std::test::Fail;
 use ux_base::{Mem, Txt};
 use ux_dawg::Items;
 use ux_dela::{Entry, print_delaf, read_delaf};
+use ux_dict::{Stored, store_all};
 use ux_image::{Code, Pair, code_of, image_of, is_content, is_short, rebuild};
 
 /// A name, a line of forms, and its code: each pair between brackets, and the codes.
@@ -36,23 +37,24 @@ fn shown(alloc: Global, code: &Code) -> Result<String, AllocError> {
 /// The code of the line's first entry, from which the entry is made again.
 fn coded(alloc: Global, line: &str) -> Result<String, Fail> {
     let entries = read_delaf(alloc, line)?;
-    coded_first(alloc, &entries)
+    let stored = store_all(alloc, read_delaf(alloc, line)?)?;
+    coded_first(alloc, &entries, &stored)
 }
 
-/// The same of a list of entries.
-fn coded_first(alloc: Global, entries: &[Entry]) -> Result<String, Fail> {
-    match entries.first() {
-        Some(entry) => coded_entry(alloc, entry),
-        None => Ok(String::from_str(alloc, "no entry")?),
+/// The same of a list of entries, and of these as they are kept.
+fn coded_first(alloc: Global, entries: &[Entry], stored: &[Stored]) -> Result<String, Fail> {
+    match (entries.first(), stored.first()) {
+        (Some(entry), Some(stored)) => coded_entry(alloc, entry, stored),
+        _ => Ok(String::from_str(alloc, "no entry")?),
     }
 }
 
 /// The same of an entry.
-fn coded_entry(alloc: Global, entry: &Entry) -> Result<String, Fail> {
-    if !is_short(entry) {
+fn coded_entry(alloc: Global, entry: &Entry, stored: &Stored) -> Result<String, Fail> {
+    if !is_short(stored) {
         return Ok(String::from_str(alloc, "too long")?);
     }
-    let code = code_of(alloc, entry)?;
+    let code = code_of(alloc, stored)?;
     coded_as(alloc, entry, &code)
 }
 
@@ -204,13 +206,13 @@ fn codes_make_entries(rt: HostRuntime) -> Result<(), Fail> {
 
 /// The bytes in base 16, or `unsorted` where the entries aren't a content.
 fn image(alloc: Global, lines: &str) -> Result<String, Fail> {
-    let entries = read_delaf(alloc, lines)?;
-    image_in(alloc, &entries)
+    let entries = store_all(alloc, read_delaf(alloc, lines)?)?;
+    image_in(alloc, entries)
 }
 
 /// The same of a list of entries.
-fn image_in(alloc: Global, entries: &[Entry]) -> Result<String, Fail> {
-    if !is_content(entries) {
+fn image_in(alloc: Global, entries: Vec<Stored>) -> Result<String, Fail> {
+    if !is_content(&entries) {
         return Ok(String::from_str(alloc, "unsorted")?);
     }
     let bytes = image_of(alloc, entries)?;

@@ -7,8 +7,7 @@ use std::alloc::Global;
 use std::process::Abort;
 use std::test::Fail;
 use ux_alphabet::Alphabet;
-use ux_dela::{Entry, read_delaf};
-use ux_dict::{ListLexicon, different};
+use ux_dict::{ListLexicon, Stored, content_in};
 use ux_image::{image_of, is_content};
 use ux_image_lexicon::{ImageLexicon, read_image};
 
@@ -34,8 +33,8 @@ const ALIKE: &[u8] = b"UXUDI\x02\r\n\x02\0\0\0\x01\0\0\0\
 \x01\0\0\0\x05\0\0\0\x01\0\0\0a\x01\0\0\0N";
 
 /// The image of the entries, or nothing where they aren't a content.
-fn image(alloc: Global, entries: &[Entry]) -> Result<Vec<u8>, Fail> {
-    if !is_content(entries) {
+fn image(alloc: Global, entries: Vec<Stored>) -> Result<Vec<u8>, Fail> {
+    if !is_content(&entries) {
         return Ok(Vec::new(alloc));
     }
     Ok(image_of(alloc, entries)?)
@@ -51,9 +50,8 @@ fn lexicon(alloc: Global, bytes: &[u8]) -> Result<ImageLexicon, Fail> {
 
 /// The dictionary of the lines, as an image.
 pub(crate) fn image_lexicon(alloc: Global, lines: &str) -> Result<ImageLexicon, Fail> {
-    let mut entries = different(alloc, read_delaf(alloc, lines)?)?;
-    entries.sort_by(|entry, other| entry.form.as_str().cmp(&other.form.as_str()))?;
-    let bytes = image(alloc, &entries)?;
+    let content = content_in(alloc, lines)?;
+    let bytes = image(alloc, content)?;
     lexicon(alloc, &bytes)
 }
 

@@ -34,7 +34,7 @@ fn shown(alloc: Global, bytes: &[u8]) -> Result<String, AllocError> {
                 Version::One => 1,
                 Version::Two => 2,
             };
-            let states = front.states.as_slice().len();
+            let states = front.states.len();
             let lists = front.lists;
             let end = front.end;
             format!(in alloc; "version {version}, {states} states, {lists} lists from byte {end}")
@@ -232,6 +232,29 @@ fn refuses_each_front_of_an_image(rt: HostRuntime) -> Result<(), Fail> {
     for end in 0..image.len() {
         let got = shown(rt.alloc(), &image.as_slice()[..end])?;
         compare(&rt, "a front", got.as_str(), "Short");
+    }
+    Ok(())
+}
+
+#[test]
+fn steps_along_the_states_of_a_front(rt: HostRuntime) -> Result<(), Fail> {
+    const ROWS: &[(&str, usize, char, Option<u32>)] = &[
+        ("from the root", 4, 'c', Some(3)),
+        ("to the end of cat", 2, 't', Some(1)),
+        ("to the end of cats", 1, 's', Some(0)),
+        ("a lower letter", 4, 'b', None),
+        ("a higher letter", 4, 'd', None),
+        ("from a state without edges", 0, 's', None),
+        ("from no state", 5, 'c', None),
+    ];
+    let image = image_of(rt.alloc(), CATS)?;
+    match read_front(rt.alloc(), &image) {
+        Ok(front) => {
+            for (name, number, letter, want) in ROWS {
+                compare(&rt, name, front.states.step(*number, *letter), *want);
+            }
+        },
+        Err(_) => compare(&rt, "read", false, true),
     }
     Ok(())
 }

@@ -31,6 +31,8 @@ mod image_lexicon;
 #[cfg(test)]
 mod image_reader;
 #[cfg(test)]
+mod states;
+#[cfg(test)]
 mod tokens;
 #[cfg(test)]
 mod words;

@@ -22,9 +22,8 @@ use Rattle.ux_tokenize.proofs.TokenizeLaws.{laws as tokenize_laws}
 use Rattle.ux_check.proofs.CheckLaws.{entries_laws, stems_laws}
 use Rattle.ux_compress.proofs.CompressLaws.{laws as compress_laws}
 use Rattle.ux_dico.proofs.DicoLaws.{laws as dico_laws}
-use Rattle.ux_bench.proofs.BenchLaws.{laws as bench_laws}
 use Rattle.ux_run.specs.Requests.{is_drawn}
-use Rattle.ux_run.specs.Running.{Asked, Denies, EndsBy, IsAnswer, IsAnswerable, IsAsked, asked_if, asked_of, asks, nothing, only_if, same_told, status_of, text_command, told_of}
+use Rattle.ux_run.specs.Running.{Asked, Denies, EndsBy, IsAnswer, IsAnswerable, IsAsked, asked_if, asked_of, asks, nothing, only_if, same_told, status_of, told_of, unread_command}
 
 -- THE LAWS OF PLANS
 
@@ -56,7 +55,7 @@ laws_of (Fst2 graph alphabet chars) = tt
 laws_of (Inflect stems) = tt
 laws_of (Tfst text alphabet dics chars) = tt
 laws_of (Elag tfst rules) = tt
-laws_of (Bench n) = bench_laws n
+laws_of (Bench n) = tt
 laws_of (Cascade text alphabet steps dics trace) = tt
 laws_of (Flatten graph alphabet depth) = tt
 laws_of (Tfind graph tfst alphabet) = tt
@@ -96,34 +95,6 @@ module _ {R : Type 0} (command : Command R) (told_as : R → Reason)
       by (Ok v) halts = tt
       by (Err s) halts = record { by = s; halts = halts; is = refl }
 
-  -- the same of a command that reads no file
-  pub answers_anywhere : IfOk answer (λ a. (files : Option Files) → plan.Answers command files a.items) →
-      IfOk result (λ a. (files : Option Files) → IsAnswer (asks command told_as) files a.items)
-  answers_anywhere answers =
-      subst (λ (r : Result (Vec ℕ Global) Status).
-      IfOk r (λ a. (files : Option Files) → IsAnswer (asks command told_as) files a.items)) (sym told)
-      (by answer answers)
-    where
-      by : (a : Result (Vec ℕ Global) (Stop R)) →
-          IfOk a (λ v. (files : Option Files) → plan.Answers command files v.items) →
-          IfOk (told_of told_as a)
-          (λ v. (files : Option Files) → IsAnswer (asks command told_as) files v.items)
-      by (Ok v) answers = answers
-      by (Err s) answers = tt
-
-  pub denies_anywhere : IfErr answer (λ s. (old new : Seen) → Halts command.plan old new s) →
-      IfErr result (λ s. (old new : Seen) → Denies (asks command told_as) old new s)
-  denies_anywhere halts =
-      subst (λ (r : Result (Vec ℕ Global) Status).
-      IfErr r (λ s. (old new : Seen) → Denies (asks command told_as) old new s)) (sym told)
-      (by answer halts)
-    where
-      by : (a : Result (Vec ℕ Global) (Stop R)) →
-          IfErr a (λ s. (old new : Seen) → Halts command.plan old new s) →
-          IfErr (told_of told_as a) (λ s. (old new : Seen) → Denies (asks command told_as) old new s)
-      by (Ok v) halts = tt
-      by (Err s) halts = λ old new. record { by = s; halts = halts old new; is = refl }
-
 module _ (test : Bool) (asked : Asked) (result : Result (Vec ℕ Global) Status) where
   pub built_answers : test ≡ true → (files : Option Files) →
       IfOk result (λ a. IsAnswer asked files a.items) →
@@ -142,32 +113,35 @@ pub unbuilt : (test : Bool) (asked : Asked) (old new : Seen) → test ≡ false 
 unbuilt test asked old new is =
     subst (λ (t : Bool). Denies (only_if t asked) old new Usage) (sym is) (inl refl)
 
--- a text that is there is its command's answer
-pub text_answer : (text answer : List ℕ) (told : Option Files) → answer ≡ text →
-    IsAnswer (asks (text_command text) same_told) told answer
-text_answer text answer told is =
-    record { read = text; comes = comes_gives Reason text told; answers = is }
-
--- the same of what makes the text
-pub text_answers : (text : List ℕ) (result : Result (Vec ℕ Global) Status) (told : Option Files) →
-    IfOk result (λ a. a.items ≡ text) →
-    IfOk result (λ a. IsAnswer (asks (text_command text) same_told) told a.items)
-text_answers text (Ok answer) told is = text_answer text answer.items told is
-text_answers text (Err status) told is = tt
-
--- and memory may run out before
+-- memory may run out before anything is answered
 pub memory_denies : (asked : Asked) (old new : Seen) → Denies asked old new NoMemory
 memory_denies nothing old new = inr refl
 memory_denies (asks command told_as) old new =
     record { by = stop.NoMemory; halts = halts_memory command.plan old new; is = refl }
 
-pub text_denies : (text : List ℕ) (result : Result (Vec ℕ Global) Status) (old new : Seen) →
-    IfErr result (λ status. status ≡ NoMemory) →
-    IfErr result (Denies (asks (text_command text) same_told) old new)
-text_denies text (Ok answer) old new is = tt
-text_denies text (Err status) old new is =
-    subst (Denies (asks (text_command text) same_told) old new) (sym is)
-    (memory_denies (asks (text_command text) same_told) old new)
+-- a command that reads nothing
+module _ (IsSo : List ℕ → Type 0) (result : Result (Vec ℕ Global) Status) where
+  -- is answered by what is so
+  pub unread_answers : (told : Option Files) → IfOk result (λ a. IsSo a.items) →
+      IfOk result (λ a. IsAnswer (asks (unread_command IsSo) same_told) told a.items)
+  unread_answers told = by result
+    where
+      by : (r : Result (Vec ℕ Global) Status) → IfOk r (λ a. IsSo a.items) →
+          IfOk r (λ a. IsAnswer (asks (unread_command IsSo) same_told) told a.items)
+      by (Ok answer) is = record { read = tt; comes = comes_gives Reason tt told; answers = is }
+      by (Err status) is = tt
+
+  -- and memory alone runs out before
+  pub unread_denies : (old new : Seen) → IfErr result (λ status. status ≡ NoMemory) →
+      IfErr result (Denies (asks (unread_command IsSo) same_told) old new)
+  unread_denies old new = by result
+    where
+      by : (r : Result (Vec ℕ Global) Status) → IfErr r (λ status. status ≡ NoMemory) →
+          IfErr r (Denies (asks (unread_command IsSo) same_told) old new)
+      by (Ok answer) is = tt
+      by (Err status) is =
+          subst (Denies (asks (unread_command IsSo) same_told) old new) (sym is)
+          (memory_denies (asks (unread_command IsSo) same_told) old new)
 
 -- HOW A RUN ENDS
 
@@ -324,9 +298,5 @@ module _ (request : Option Request) (old new : Seen) (status result : Status)
       by (inr cut) = absurd (wrote cut.1)
 
 pub ruleset telling = (told_answers, told_denies)
-
-pub ruleset telling_anywhere = (answers_anywhere, denies_anywhere)
-
-pub ruleset answering = (text_answer, memory_denies)
 
 pub ruleset endings = (ended_by, ended_usage, ended_memory, whole_line, front_line)

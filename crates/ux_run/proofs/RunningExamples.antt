@@ -1,6 +1,14 @@
 -- What words of the command line ask for, at small values.
-use Rattle.std.proofs.Common.{[], ◌∷◌, codes}
-use Rattle.ux_run.specs.Running.{IsAsked, asked_by}
+use Rattle.std.proofs.Common.{◌≡◌, ℕ, [], ◌∷◌, codes}
+use Rattle.ux_base.specs.Outside.{Seen}
+use Rattle.ux_plan.specs.declared.stop.Stop.{Stop}
+use Rattle.ux_plan.specs.declared.stop.Stop.TheVariants as stop
+use Rattle.ux_plan.specs.Plans.{Halts, IsMemory}
+use Rattle.ux_words.specs.declared.request.Request.TheVariants.{Bench}
+use Rattle.ux_status.specs.declared.status.Reason.{Reason}
+use Rattle.ux_status.specs.declared.status.Status.{Status}
+use Rattle.ux_status.specs.declared.status.Status.TheVariants.{NoMemory}
+use Rattle.ux_run.specs.Running.{Denies, IsAsked, asked_by, asked_of, same_told, status_of}
 
 -- a compiled graph is not searched by yet
 compiled_graph :
@@ -57,6 +65,19 @@ images = tt
 
 a_made_text : IsAsked (asked_by (codes "bench" ∷ codes "5" ∷ []))
 a_made_text = tt
+
+-- it is refused by nothing: want of memory alone stops its search
+stopped_by_memory : (n : ℕ) (old new : Seen) (status : Status) →
+    Denies (asked_of (Bench n)) old new status → status ≡ NoMemory
+unfolding Halts
+stopped_by_memory n old new status denies = by denies.by denies.halts denies.is
+  where
+    by : (why : Stop Reason) → IsMemory why → status ≡ status_of same_told why → status ≡ NoMemory
+    by (stop.Absent name) memory is = absurd memory
+    by (stop.ReadFault name) memory is = absurd memory
+    by (stop.TooLarge name) memory is = absurd memory
+    by (stop.Refused name reason) memory is = absurd memory
+    by stop.NoMemory memory is = is
 
 -- the last commands are read, and not built
 a_cascade : IsAsked (asked_by (codes "cascade" ∷ codes "t.txt" ∷ codes "a.txt"

@@ -11,8 +11,6 @@ use Rattle.ux_compress.specs.declared.reason.Reason as compress
 use Rattle.ux_compress.specs.declared.reason.Reason.TheVariants as compress_reason
 use Rattle.ux_dico.specs.declared.reason.Reason as dico
 use Rattle.ux_dico.specs.declared.reason.Reason.TheVariants as dico_reason
-use Rattle.ux_bench.specs.declared.reason.Reason as bench
-use Rattle.ux_bench.specs.declared.reason.Reason.TheVariants as bench_reason
 
 abbrev pub search_told : search.Reason → Reason
 search_told (search_reason.Decode error) = reason.Decode error
@@ -42,9 +40,3 @@ dico_told (dico_reason.Decode error) = reason.Decode error
 dico_told (dico_reason.Alphabet error) = reason.Alphabet error
 dico_told (dico_reason.Dela error) = reason.Dela error
 dico_told (dico_reason.Image error) = reason.Image error
-
-abbrev pub bench_told : bench.Reason → Reason
-bench_told (bench_reason.Alphabet error) = reason.Alphabet error
-bench_told (bench_reason.Dela error) = reason.Dela error
-bench_told (bench_reason.Grf error) = reason.Grf error
-bench_told (bench_reason.Net error) = reason.Net error

@@ -17,11 +17,11 @@ use Rattle.ux_tokenize.specs.Tokenize.{tokenize}
 use Rattle.ux_check.specs.Check.{check_entries, check_stems}
 use Rattle.ux_compress.specs.Compress.{compress}
 use Rattle.ux_dico.specs.Dico.{dico}
-use Rattle.ux_bench.specs.Bench.{bench}
+use Rattle.ux_bench.specs.Bench.{IsSummaryOf}
 use Rattle.ux_status.specs.declared.status.Status.{Status}
 use Rattle.ux_status.specs.declared.status.Status.TheVariants.{Done, Usage, Absent, Refused, ReadFault, WriteFault, TooLarge, NoMemory}
 use Rattle.ux_status.specs.declared.status.Reason.{Reason}
-use Rattle.ux_run.specs.Reasons.{bench_told, check_told, compress_told, dico_told, search_told, tokenize_told}
+use Rattle.ux_run.specs.Reasons.{check_told, compress_told, dico_told, search_told, tokenize_told}
 use Rattle.ux_run.specs.Requests.{is_drawn}
 
 -- what is asked for: nothing that there is, or a command, whose reasons are told so
@@ -34,10 +34,13 @@ abbrev pub only_if : Bool → Asked → Asked
 only_if true asked = asked
 only_if false asked = nothing
 
--- the command that reads nothing, and whose answer is this text
+-- the command that reads nothing, and whose answer is so
+abbrev pub unread_command : (List ℕ → Type 0) → Command Reason
+unread_command IsSo = record { Read = ⊤; plan = gives tt; Answers = λ read answer. IsSo answer }
+
+-- the command whose answer is this text
 abbrev pub text_command : List ℕ → Command Reason
-text_command text =
-    record { Read = List ℕ; plan = gives text; Answers = λ read answer. answer ≡ read }
+text_command text = unread_command (λ answer. answer ≡ text)
 
 abbrev pub same_told : Reason → Reason
 same_told reason = reason
@@ -55,7 +58,7 @@ asked_of (Check false file) = asks (check_entries file) check_told
 asked_of (Check true file) = asks (check_stems file) check_told
 asked_of (Compress dic) = asks (compress dic) compress_told
 asked_of (Dico text alphabet dics chars) = asks (dico text alphabet dics chars) dico_told
-asked_of (Bench n) = asks (bench n) bench_told
+asked_of (Bench n) = asks (unread_command (IsSummaryOf n)) same_told
 asked_of Help = asks (text_command HELP.now) same_told
 asked_of Version = asks (text_command VERSION.now) same_told
 asked_of request = nothing

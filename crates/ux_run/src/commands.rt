@@ -3,6 +3,7 @@
 ghost use Rattle.std.specs.Prelude.{◌≡◌, true, false, IfOk, IfErr, Option};
 ghost use Rattle.ux_base.specs.Outside.{Files, IsLater, Seen};
 ghost use Rattle.ux_words.specs.declared.request.Request.TheVariants as request;
+ghost use Rattle.ux_bench.specs.Bench.{IsSummaryOf};
 ghost use Rattle.ux_run.specs.Running.{Denies, IsAnswer, asked_of};
 
 use crate::built::is_drawn;
@@ -206,19 +207,19 @@ fn report_of<F: Folder>(
     with_status(dico(alloc, text.as_str(), alphabet.as_str(), dics, chars, folder))
 }
 
-/// `bench`: what is told of a search in a text that is made up. It reads no file.
-#[tactic(auto, using(crate::proofs::Ending::telling_anywhere))]
+/// `bench`: what is told of a search in a text that is made up. It reads no file, and nothing that is
+/// made up is refused.
 fn summary_of(alloc: Global, n: u32) -> Result<Vec<u8>, Status>
-    ensures ok { IfOk result (λ answer. (told : Option Files) →
-        IsAnswer (asked_of (request.Bench n)) told answer.items) }
-    ensures err { IfErr result (λ status. (old new : Seen) →
-        Denies (asked_of (request.Bench n)) old new status) }
+    ensures ok { IfOk result (λ answer. IsSummaryOf n answer.items) }
+    ensures err { IfErr result (λ status. status ≡ Status.NoMemory) }
 {
-    with_status(bench(alloc, n))
+    match bench(alloc, n) {
+        Ok(summary) => Ok(summary),
+        Err(_) => Err(Status::NoMemory),
+    }
 }
 
 /// `--help` and `--version`: a text that is there.
-#[tactic(auto, using(crate::proofs::Ending::answering))]
 fn text_of(alloc: Global, text: &str) -> Result<Vec<u8>, Status>
     ensures ok { IfOk result (λ answer. answer.items ≡ text.now) }
     ensures err { IfErr result (λ status. status ≡ Status.NoMemory) }

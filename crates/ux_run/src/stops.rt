@@ -3,7 +3,6 @@
 ghost use Rattle.std.specs.Prelude.{◌≡◌};
 ghost use Rattle.ux_run.specs.Running.{status_of, told_of};
 
-use ux_bench::Reason as BenchReason;
 use ux_check::Reason as CheckReason;
 use ux_compress::Reason as CompressReason;
 use ux_dico::Reason as DicoReason;
@@ -121,21 +120,6 @@ impl CommandReason for DicoReason {
             DicoReason::Alphabet(error) => Reason::Alphabet(error),
             DicoReason::Dela(error) => Reason::Dela(error),
             DicoReason::Image(error) => Reason::Image(error),
-        }
-    }
-}
-
-impl CommandReason for BenchReason {
-    ghost use Rattle.ux_run.specs.Reasons.{bench_told};
-
-    ghost told_as = { bench_told };
-
-    fn told(self) -> Reason {
-        match self {
-            BenchReason::Alphabet(error) => Reason::Alphabet(error),
-            BenchReason::Dela(error) => Reason::Dela(error),
-            BenchReason::Grf(error) => Reason::Grf(error),
-            BenchReason::Net(error) => Reason::Net(error),
         }
     }
 }

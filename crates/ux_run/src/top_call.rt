@@ -70,7 +70,7 @@ pub fn run<F: Folder, S: Sink, E: Sink>(
 }
 
 /// The result that the words ask for, or how the run ends without one.
-#[tactic(auto, using(crate::proofs::Ending::answering))]
+#[tactic(auto, using(crate::proofs::Ending::memory_denies))]
 fn answer<F: Folder>(alloc: Global, words: &[String], folder: &mut F) -> Result<Vec<u8>, Status>
     ensures later { IsLater (F.seen folder.old) (F.seen folder.new) }
     ensures ok { IfOk result (λ answer.

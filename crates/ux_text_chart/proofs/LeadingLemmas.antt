@@ -1,20 +1,13 @@
 -- A text as an input: what a label takes lies ahead, and where a label leads.
-use Rattle.std.proofs.Common.{arith, ◌≡◌, ℕ, zero, suc, List, [], ◌∷◌, ◌++◌, ◌⊎◌, ◌↔◌, Option, Some, None, inl, inr, refl, sym, ap, subst, ◌∙◌, length, Bool}
-use Rattle.std.specs.Prelude.{Contains, IsTrue, is_some, slice_get}
-use Rattle.std.specs.List.{flat_map}
+use Rattle.std.proofs.Common.{◌≡◌, ℕ, List, [], ◌∷◌, ◌++◌, ◌⊎◌, ◌↔◌, Option, Some, None, inl, inr, refl, sym, ap, subst, ◌∙◌, length, Bool}
+use Rattle.std.specs.Prelude.{Contains, IsTrue, is_some}
 use Rattle.std.proofs.lemmas.List.Elements.{Contains-append_left, Contains-append_right, Contains-append_cases, Contains-push, Contains-push_cases}
-use Rattle.std.proofs.lemmas.Option.{same_Some, slice_get_within, none-some}
+use Rattle.std.proofs.lemmas.Option.{same_Some, none-some}
 use Rattle.ux_alphabet.specs.Letters.{Letters}
 use Rattle.ux_tokens.specs.Tokens.{Token}
 use Rattle.ux_masks.specs.declared.mask.Mask.{Mask}
-use Rattle.ux_base.proofs.FirstsLemmas.{Contains-cases, Contains-from_place, Contains-none}
 use Rattle.ux_net.specs.declared.label.Label.{Label}
 use Rattle.ux_net.specs.declared.label.Label.TheVariants as label
-use Rattle.ux_net.specs.declared.net_graph.NetGraph.{NetGraph}
-use Rattle.ux_net.specs.declared.state.Edge.{Edge}
-use Rattle.ux_net.specs.declared.state.State.{State}
-use Rattle.ux_net.specs.Masks.{masks_of, masks_of_edge, masks_of_graph, masks_of_state}
-use Rattle.ux_net.specs.Nets.{states_in, states_of}
 use Rattle.ux_apply.specs.Accepting.{Accepts}
 use Rattle.ux_apply.specs.Belonging.{Belongs}
 use Rattle.ux_apply.specs.Tables.{Tables}
@@ -27,7 +20,7 @@ use Rattle.ux_parts.specs.Ordered.{GoesAhead, IsTaking}
 use Rattle.ux_parts.specs.Runs.{Plain}
 use Rattle.ux_walk.specs.Settings.{applied_text}
 use Rattle.ux_walk.proofs.Onward.{takes_forward}
-use Rattle.ux_mask_table.specs.MaskedTexts.{AddsEnds, IsMaskIn}
+use Rattle.ux_mask_table.specs.MaskedTexts.{AddsEnds}
 use Rattle.ux_text_chart.specs.Leading.{MayLead, without_masks}
 
 module _ (alphabet : Letters) (tokens : List Token) (tables : Tables) where

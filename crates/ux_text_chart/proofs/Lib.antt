@@ -2,3 +2,4 @@ pub mod LeadingLemmas
 pub mod PartIndexLemmas
 pub mod StateIndexLemmas
 pub mod LikelyLemmas
+pub mod AlikeLemmas

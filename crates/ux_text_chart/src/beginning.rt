@@ -21,7 +21,7 @@ ghost use Rattle.ux_text_chart.specs.Likely.{IsLikelyRow, IsListed, MayBegin, Ma
 
 use crate::leading::may_lead;
 use crate::part_index::PartIndex;
-use crate::state_indexes::{has_index, token_at};
+use crate::state_indexes::token_at;
 use ux_base::Mem;
 use ux_mask_table::MaskedText;
 use ux_net::{Edge, Label};
@@ -79,8 +79,8 @@ fn add_part(
     Ok(())
 }
 
-/// Whether a part that is tried at a position may reach something from there. One that the index
-/// lists with the token may, and one of many edges isn't tested, since a search looks them up.
+/// Whether a part that is tried at a position may reach something from there. One that isn't tested
+/// may.
 fn may_reach(
     text: &MaskedText<'_>,
     parts: &Parts,
@@ -95,21 +95,10 @@ fn may_reach(
         MayBegin (input_of (masked_setting text.now)) text.now.net.now parts.now row.now part at →
         IsTrue result }
 {
-    if !index.is_everywhere(number) || has_many(text, parts, number) {
+    if !index.is_tested(number) {
         return true;
     }
     may_begin(text, parts, number, at, row)
-}
-
-/// Whether the first state of a part gets an index.
-fn has_many(text: &MaskedText<'_>, parts: &Parts, number: u32) -> bool {
-    let Some(part) = parts.part(number) else {
-        return false;
-    };
-    match text.net.state(part.graph, part.first) {
-        Some(state) => has_index(state.edges.as_slice()),
-        None => false,
-    }
 }
 
 /// Whether there is a part of this number, and it may reach something from a position. Those before it

@@ -2,9 +2,10 @@
 //!
 //! What masks take is told by the table of masks; any other label is tried.
 
-ghost use Rattle.std.specs.Prelude.{◌≡◌, ℕ, ◌↔◌, ◌⊎◌, Some, Contains, IsTrue, OnOk};
+ghost use Rattle.std.specs.Prelude.{◌≡◌, ℕ, ◌<◌, ◌≤◌, ◌↔◌, ◌⊎◌, Some, Contains, IfSome, IsTrue, OnOk, length};
 ghost use Rattle.ux_mask_table.specs.MaskedTexts.{IsKnown};
 ghost use Rattle.ux_meaning.specs.Texts.{IsSpaceAt};
+ghost use Rattle.ux_outputs.specs.Rendering.{skip as skip_of};
 ghost use Rattle.ux_parts.specs.Runs.{Plain};
 ghost use Rattle.ux_text_chart.specs.Leading.{MayLead, input_of, without_masks};
 ghost use Rattle.ux_walk.specs.Settings.{masked_setting};
@@ -60,6 +61,19 @@ pub fn may_lead(masked: &MaskedText<'_>, label: &Label, at: usize) -> bool
         | Label::Cut
         | Label::Call(_) => true,
     }
+}
+
+/// The position after a space that stands at this one, where no further one stands there. Only a
+/// label that asks for spaces tells the two apart.
+pub fn alike_after(text: &Text, at: usize) -> Option<usize>
+    ensures later { IfSome result (λ later. at < later) }
+    ensures inside { IfSome result (λ later. later ≤ length text.now) }
+    ensures same { IfSome result (λ later. skip_of text.now later ≡ skip_of text.now at) }
+{
+    if !is_space(text, at) || is_space(text, at + 1) {
+        return None;
+    }
+    Some(at + 1)
 }
 
 /// The position to which a label leads that is no mask and no call, and opens or closes no context.

@@ -16,6 +16,7 @@ ghost use Rattle.ux_walk.specs.Literals.{AreReady, IsLiteral};
 ghost use Rattle.ux_text_chart.specs.PartIndexes.{AreIndexed, AreListed, IsLiteralState, IsNoLater, IsPartIndex, IsTried, begins_at, order_of};
 ghost use Rattle.ux_text_chart.specs.declared.part_index.Beginning.{Beginning as TheBeginning};
 
+use crate::state_indexes::has_index;
 use std::alloc::Global;
 use ux_alphabet::Alphabet;
 use ux_base::{Mem, NoMemory};
@@ -47,6 +48,8 @@ pub struct PartIndex {
     beginnings: Vec<Beginning>,
     /// The numbers of all other parts, ascending.
     everywhere: Vec<u32>,
+    /// For each part whether it is tested where it is tried, before it is searched.
+    tested: Vec<bool>,
 }
 
 impl PartIndex {
@@ -76,9 +79,11 @@ impl PartIndex {
             &mut everywhere,
         )?;
         sort(&mut beginnings);
+        let tested = tested_parts(alloc, net, parts, everywhere.as_slice())?;
         Ok(PartIndex {
             beginnings,
             everywhere,
+            tested,
         })
     }
 
@@ -98,9 +103,38 @@ impl PartIndex {
         least(next_in(self.everywhere.as_slice(), from), here)
     }
 
-    /// Whether the part is tried everywhere. It is looked up by halving.
-    pub fn is_everywhere(&self, part: u32) -> bool {
-        self.everywhere.as_slice().binary_search(&part).is_ok()
+    /// Whether the part is tested where it is tried, before it is searched: not where the token tells
+    /// that it may begin, nor where its first state has an index, since a search looks its edges up.
+    pub fn is_tested(&self, part: u32) -> bool {
+        match self.tested.get(part as usize) {
+            Some(is_tested) => *is_tested,
+            None => false,
+        }
+    }
+}
+
+/// For each part whether it is tested where it is tried.
+fn tested_parts(alloc: Global, net: &Net, parts: &Parts, everywhere: &[u32]) -> Mem<Vec<bool>> {
+    let mut tested = Vec::new(alloc);
+    for _part in parts.list.as_slice() {
+        tested.push(false)?;
+    }
+    for number in everywhere {
+        if let Some(is_tested) = tested.get_mut(*number as usize) {
+            *is_tested = !has_many(net, parts, *number);
+        }
+    }
+    Ok(tested)
+}
+
+/// Whether the first state of a part gets an index.
+fn has_many(net: &Net, parts: &Parts, number: u32) -> bool {
+    let Some(part) = parts.part(number) else {
+        return false;
+    };
+    match net.state(part.graph, part.first) {
+        Some(state) => has_index(state.edges.as_slice()),
+        None => false,
     }
 }
 

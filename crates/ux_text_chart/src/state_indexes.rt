@@ -89,18 +89,21 @@ fn meet_state<'t>(
 pub fn has_index(edges: &[Edge]) -> bool
     ensures { IsTrue result → length edges.now < 4294967296 }
 {
-    edges.len() < 4_294_967_296 && FEW < literals(edges)
+    edges.len() < 4_294_967_296 && has_many_literals(edges)
 }
 
-/// How many of the edges are literals.
-fn literals(edges: &[Edge]) -> usize {
+/// Whether more than a few of the edges are literals. Looks at no more edges than it takes to know.
+fn has_many_literals(edges: &[Edge]) -> bool {
     let mut count = 0usize;
     for edge in edges {
         if matches!(&edge.label, Label::Fold(_) | Label::Exact(_)) {
             count = count.saturating_add(1);
         }
+        if FEW < count {
+            return true;
+        }
     }
-    count
+    false
 }
 
 /// The number of the token at a position, after an optional space.

@@ -6,7 +6,7 @@ ghost use Rattle.ux_parts.specs.Parts.{ArePartsOf};
 ghost use Rattle.ux_text_chart.specs.TextBases.{TellsParts};
 
 use crate::beginning::likely_parts;
-use crate::leading::add_ends;
+use crate::leading::{add_ends, alike_after};
 use crate::part_index::PartIndex;
 use crate::state_indexes::{indexes_of, places_at};
 use std::alloc::Global;
@@ -69,6 +69,10 @@ impl<'a> Basis for TextBasis<'a> {
 
     fn plain(&self, label: &Label, at: usize, positions: &mut Vec<usize>) -> Mem<()> {
         add_ends(self.text, label, at, positions)
+    }
+
+    fn alike(&self, at: usize) -> Option<usize> {
+        alike_after(self.text.text, at)
     }
 
     fn likely(&self, net: &Net, parts: &Parts, at: usize, row: &mut Vec<u32>) -> Mem<()> {

@@ -15,7 +15,7 @@ use Rattle.ux_walk.specs.declared.config.Frame.{Frame}
 use Rattle.ux_walk.specs.Contexts.{Applying, ApplyAsMeant}
 use Rattle.ux_walk.specs.Courses.{Course, GoesOn, passing, put_events}
 use Rattle.ux_walk.specs.Settings.{applied_text}
-use Rattle.ux_walk.proofs.OneStep.{Goes, Onward, goes_only}
+use Rattle.ux_walk.proofs.OneStep.{Goes, Onward, goes_entered, goes_only}
 use Rattle.ux_walk.proofs.Onward.{AreForward, next_lighter}
 use Rattle.ux_walk.proofs.Weights.{weight_of}
 
@@ -78,8 +78,20 @@ module _ (alphabet : Letters) (tokens : List Token) (tables : Tables) (applies :
       (inr (inr (inl (h, m, called, later, label, goes, on, e)))) =
       let put : List Event = reverse (put_events edge.output) ++ [] in
       let next : List Frame = frame g edge.target ∷ fs in
-      let one = stepped g n i fs inside (record { frames = frame h 0 ∷ next; at = i; before = put })
-      (state, found, inl (edge, of_state, inr (inr (inl (h, label, refl))))) in
+      let one = stepped g n i fs inside (record { frames = frame h 0 ∷ next; at = i; before = put }) (
+        state,
+        found,
+        inl (
+          edge,
+          of_state,
+          inr (inr (inl (
+            h,
+            label,
+            goes_entered alphabet tokens tables applies graphs meant h i m called goes,
+            refl,
+          ))),
+        ),
+      ) in
       let two = below h 0 i m called next (omega (arith, less, one.1)) one.0 goes in
       let three = below g edge.target m k later fs (omega (arith, less, one.1, two.1)) two.0 on in
       (three.0, omega (arith, one.1, two.1, three.1))

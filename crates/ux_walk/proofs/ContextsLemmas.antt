@@ -39,14 +39,14 @@ module _ (input : Input) (net : List NetGraph) where
   closed_by levels g other o i c opening applies = let mark = opening.1 in cc
 
   module _ (applies : Applying) (meant : ApplyAsMeant input net applies) where
-    pub is_closed : (g : ℕ) (x : Label) (o i c : ℕ) → Opens x → applies g x o i c →
-        ClosesInto (net_grammar net) g o c
+    pub is_closed : (g : ℕ) (x : Label) (o i c : ℕ) → Opens x →
+        applies.contexts g x o i c → ClosesInto (net_grammar net) g o c
     is_closed g x o i c opening applied =
         closed_by meant.levels g x o i c opening ((meant.exact g x o i c opening).0 applied)
 
     -- an edge that opens a context leads lower behind it
     pub lower_behind : (g from to : ℕ) (x : Label) (i c : ℕ) → Opens x →
-        Falls net g from to x → applies g x to i c → IsLower net g from c
+        Falls net g from to x → applies.contexts g x to i c → IsLower net g from c
     lower_behind g from to Positive i c opening falls applied =
         falls.1 c (is_closed g Positive to i c opening applied)
     lower_behind g from to Negative i c opening falls applied =
@@ -128,6 +128,7 @@ module _ (net : List NetGraph) (are : ArePlain net) where
           let body = closed_by input net 1 g x o i c opening applied in
           no_body g o c body.0 body.1,
     );
+    entered = λ h at end events derives. tt;
   }
 
 -- so a walk through it is told that none applies

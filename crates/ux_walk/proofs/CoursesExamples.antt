@@ -44,15 +44,15 @@ module _ (alphabet : Letters) (tokens : List Token) (tables : Tables) (applies :
       })
   output_before_end = inr (inl (tt, refl))
 
-  -- and before what a called graph gives
-  output_before_call : IsOver alphabet tokens tables applies frame back at before
+  -- and before what a called graph gives, where that is entered
+  output_before_call : applies.enters graph at → IsOver alphabet tokens tables applies frame back at before
       (record { label = Call graph; output = Chars text ∷ []; target = state })
       (record {
         frames = record { graph = graph; state = 0 } ∷ there ∷ back;
         at = at;
         before = event.Put text ∷ before;
       })
-  output_before_call = inr (inr (inl (graph, refl, refl)))
+  output_before_call enters = inr (inr (inl (graph, refl, enters, refl)))
 
   -- a cut takes nothing, and its event comes last
   cut_gives_its_event : IsBehind alphabet tokens tables applies Cut there back at before
@@ -60,7 +60,8 @@ module _ (alphabet : Letters) (tokens : List Token) (tables : Tables) (applies :
   cut_gives_its_event = inr (inl (tt, refl))
 
   -- a context takes nothing and gives no event: the walk goes on where it is closed
-  context_leads_behind : (closing : ℕ) → applies frame.graph Positive state at closing →
+  context_leads_behind : (closing : ℕ) →
+      applies.contexts frame.graph Positive state at closing →
       IsBehind alphabet tokens tables applies Positive there back at before (record {
         frames = record { graph = frame.graph; state = closing } ∷ back;
         at = at;

@@ -39,7 +39,7 @@ module _ (setting : Setting) where
         let at : w.at ≡ p = ap (λ (x : Course). x.at) is in
         (omega (arith, at), λ within. omega (arith, at, within))
     goes_forward forward f fs p w
-        (state, found, inl (edge, inside, inr (inr (inl (h, label, is))))) =
+        (state, found, inl (edge, inside, inr (inr (inl (h, label, enters, is))))) =
         let at : w.at ≡ p = ap (λ (x : Course). x.at) is in
         (omega (arith, at), λ within. omega (arith, at, within))
     goes_forward forward f fs p w

@@ -257,7 +257,7 @@ module _ (alphabet : Letters) (tokens : List Token) (tables : Tables) (applies :
       × (events ≡ passing x ++ later))
       ⊎ (((h k : ℕ) × (inside later : List Event) × (x ≡ Call h) × Goes h 0 i k inside
       × Goes g n k j later × (events ≡ inside ++ later))
-      ⊎ ((c : ℕ) × Opens x × applies g x n i c × Goes g c i j events)))
+      ⊎ ((c : ℕ) × Opens x × applies.contexts g x n i c × Goes g c i j events)))
 
   -- over an edge of the state, with its output first
   abbrev pub Ahead : (g n i j : ℕ) → List Event → Type 0
@@ -322,7 +322,7 @@ module _ (alphabet : Letters) (tokens : List Token) (tables : Tables) (applies :
       (body word : List Letter) (events : List Event) →
       IsBody g (net_graph (states_of graphs g)) o c body →
       Applies (context sign g o c ∷ word) p j events →
-      applies g x o p c × Applies word p j events
+      applies.contexts g x o p c × Applies word p j events
   first_context positive Positive mark g o c p j body word events is s =
       let first = first_holds s in
       ((meant.exact g Positive o p c (positive, mark)).1 first.0, first.1)
@@ -393,7 +393,7 @@ module _ (alphabet : Letters) (tokens : List Token) (tables : Tables) (applies :
             inr (inr (inr (
               t.to,
               (sign, marked),
-              subst (λ o. applies g edge.label o i t.to) is.to first.0,
+              subst (λ o. applies.contexts g edge.label o i t.to) is.to first.0,
               record { last = b; ends = ends; word = word; run = run; seq = first.1 },
             ))),
             rest.2,
@@ -464,8 +464,9 @@ module _ (alphabet : Letters) (tokens : List Token) (tables : Tables) (applies :
 
   goes_across : (g n i j : ℕ) (rest : List Event) (state : State) →
       slice_get (states_of graphs g) n ≡ Some state → (edge : Edge) → Contains state.edges edge →
-      (x : Label) → edge.label ≡ x → Opens x → (c : ℕ) → applies g x edge.target i c →
-      Goes g c i j rest → Goes g n i j (put_events edge.output ++ rest)
+      (x : Label) → edge.label ≡ x → Opens x → (c : ℕ) →
+      applies.contexts g x edge.target i c → Goes g c i j rest →
+      Goes g n i j (put_events edge.output ++ rest)
   goes_across g n i j rest state found edge inside Positive is opening c applied on =
       let h = (meant.exact g Positive edge.target i c opening).0 applied in
       by_context g n i j rest state found edge inside positive
@@ -494,6 +495,14 @@ module _ (alphabet : Letters) (tokens : List Token) (tables : Tables) (applies :
       (inr (inr (h, k, called, later, label, goes, on.seq, is)))
   goes_by g n i j rest state found edge inside (inr (inr (inr (c, opening, applied, on)))) =
       goes_across g n i j rest state found edge inside edge.label refl opening c applied on
+
+  -- a graph that goes through from its start is entered
+  pub goes_entered : (h i k : ℕ) (inside : List Event) → Goes h 0 i k inside → applies.enters h i
+  goes_entered h i k inside goes = meant.entered h i k inside (record {
+    word = goes.word;
+    of_graph = record { last = goes.last; ends = goes.ends; run = goes.run };
+    seq = goes.seq;
+  })
 
   goes_at_end : (g n i : ℕ) → IsNetEnd (states_of graphs g) n → Goes g n i i []
   goes_at_end g n i ends =
@@ -565,7 +574,11 @@ module _ (alphabet : Letters) (tokens : List Token) (tables : Tables) (applies :
             let start : Frame = record { graph = h; state = 0 } in
             let put : List Event = reverse (put_events edge.output) ++ before in (
               record { frames = start ∷ next ∷ fs; at = i; before = put },
-              (state, found, inl (edge, inside, inr (inr (inl (h, label, refl))))),
+              (
+                state,
+                found,
+                inl (edge, inside, inr (inr (inl (h, label, goes_entered h i m called goes, refl)))),
+              ),
               (
                 called ++ (later ++ rest),
                 (m, called, later ++ rest, goes, (k, later, rest, on, through, refl), refl),
@@ -651,7 +664,7 @@ module _ (alphabet : Letters) (tokens : List Token) (tables : Tables) (applies :
         let u = whole.1 in
         back_over state found edge inside u.0 u.1 u.2 whole.0
         (inr (inr (inr (c, opening, applied, u.3)))) u.4 whole.2 u.5
-    step_back w (state, found, inl (edge, inside, inr (inr (inl (h, label, is))))) ends =
+    step_back w (state, found, inl (edge, inside, inr (inr (inl (h, label, enters, is))))) ends =
         let next : Frame = record { graph = f.graph; state = edge.target } in
         let start : Frame = record { graph = h; state = 0 } in
         let put : List Event = reverse (put_events edge.output) ++ before in

@@ -132,7 +132,8 @@ module _ (graphs : List NetGraph) where
                 f.state edge.target edge.label i c opening
                 (measured.falls f.graph f.state state edge found of_state) applied),
           )
-      next_lighter w (state, found, inl (edge, of_state, inr (inr (inl (h, label, is))))) =
+      next_lighter w
+          (state, found, inl (edge, of_state, inr (inr (inl (h, label, enters, is))))) =
           subst (λ (v : Course). IsLighter v) (sym is) (
             inside,
             calls_lighter graphs f edge.target h ((length tokens - i) + 1) fs (omega arith)

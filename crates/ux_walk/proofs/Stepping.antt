@@ -44,16 +44,16 @@ module _ (alphabet : Letters) (tokens : List Token) (tables : Tables) (applies :
   by_passage : (Wanted : Type 0) →
       ((k : ℕ) → TakesUpTo r k → IsPast i f before k w → Wanted) →
       (r ≡ passage.Stays → w ≡ course (f ∷ []) i (passing label ++ before) → Wanted) →
-      ((h : ℕ) → r ≡ passage.Calls h →
+      ((h : ℕ) → r ≡ passage.Calls h → applies.enters h i →
       w ≡ course (record { graph = h; state = 0 } ∷ f ∷ []) i before → Wanted) →
-      (r ≡ passage.Opens → (c : ℕ) → applies f.graph label f.state i c →
+      (r ≡ passage.Opens → (c : ℕ) → applies.contexts f.graph label f.state i c →
       IsClosed f [] i before c w → Wanted) → Behind → Wanted
   by_passage Wanted takes stays calls opens b = elim b [
     | inl t ↦ takes t.0 ((is.takes t.0).1 t.1) t.2
     | inr o ↦ elim o [
       | inl s ↦ stays (is.stays.1 s.0) s.1
       | inr p ↦ elim p [
-        | inl h ↦ calls h.0 ((is.calls h.0).1 h.1) h.2
+        | inl h ↦ calls h.0 ((is.calls h.0).1 h.1) h.2 h.3
         | inr c ↦ opens (is.opens.1 c.1) c.0 c.2 c.3
       ]
     ]
@@ -74,7 +74,7 @@ module _ (alphabet : Letters) (tokens : List Token) (tables : Tables) (applies :
         (λ m takes e. e ∙ ap (λ n. course (f ∷ []) n (Take i n ∷ before))
         (upto (passage.Takes k) this m takes))
         (λ that e. let no : passage.Takes k ≡ passage.Stays = sym this ∙ that in cc)
-        (λ h that e. let no : passage.Takes k ≡ passage.Calls h = sym this ∙ that in cc)
+        (λ h that enters e. let no : passage.Takes k ≡ passage.Calls h = sym this ∙ that in cc)
         (λ that c applied e. let no : passage.Takes k ≡ passage.Opens = sym this ∙ that in cc),
   )
 
@@ -85,7 +85,7 @@ module _ (alphabet : Letters) (tokens : List Token) (tables : Tables) (applies :
     by_passage ((k : ℕ) × Contains ends.items k × IsPast i f before k w)
         (λ m takes e. (m, upto (passage.Spans ends) this m takes, e))
         (λ that e. let no : passage.Spans ends ≡ passage.Stays = sym this ∙ that in cc)
-        (λ h that e. let no : passage.Spans ends ≡ passage.Calls h = sym this ∙ that in cc)
+        (λ h that enters e. let no : passage.Spans ends ≡ passage.Calls h = sym this ∙ that in cc)
         (λ that c applied e. let no : passage.Spans ends ≡ passage.Opens = sym this ∙ that in cc),
   )
 
@@ -96,31 +96,33 @@ module _ (alphabet : Letters) (tokens : List Token) (tables : Tables) (applies :
     by_passage (w ≡ course (f ∷ []) i (passing label ++ before))
         (λ m takes e. absurd (upto passage.Stays this m takes))
         (λ that e. e)
-        (λ h that e. let no : passage.Stays ≡ passage.Calls h = sym this ∙ that in cc)
+        (λ h that enters e. let no : passage.Stays ≡ passage.Calls h = sym this ∙ that in cc)
         (λ that c applied e. let no : passage.Stays ≡ passage.Opens = sym this ∙ that in cc),
   )
 
-  pub behind_calls : (h : ℕ) → r ≡ passage.Calls h →
-      (w ≡ course (record { graph = h; state = 0 } ∷ f ∷ []) i before) ↔ Behind
+  -- the course over a call of the graph, which is entered
+  abbrev Enters : ℕ → Type 0
+  Enters h =
+      applies.enters h i × (w ≡ course (record { graph = h; state = 0 } ∷ f ∷ []) i before)
+
+  pub behind_calls : (h : ℕ) → r ≡ passage.Calls h → Enters h ↔ Behind
   behind_calls h this = (
-    λ e. inr (inr (inl (h, (is.calls h).0 this, e))),
-    by_passage (w ≡ course (record { graph = h; state = 0 } ∷ f ∷ []) i before)
-        (λ m takes e. absurd (upto (passage.Calls h) this m takes))
+    λ (enters, e). inr (inr (inl (h, (is.calls h).0 this, enters, e))),
+    by_passage (Enters h) (λ m takes e. absurd (upto (passage.Calls h) this m takes))
         (λ that e. let no : passage.Calls h ≡ passage.Stays = sym this ∙ that in cc)
-        (λ g that e. e ∙ ap (λ n. course (record { graph = n; state = 0 } ∷ f ∷ []) i before)
-        (sym (calls_once h g (sym this ∙ that))))
+        (λ g that enters e. subst Enters (sym (calls_once h g (sym this ∙ that))) (enters, e))
         (λ that c applied e. let no : passage.Calls h ≡ passage.Opens = sym this ∙ that in cc),
   )
 
   pub behind_opens : r ≡ passage.Opens → (closers : List ℕ) →
-      ((c : ℕ) → Contains closers c ↔ applies f.graph label f.state i c) →
+      ((c : ℕ) → Contains closers c ↔ applies.contexts f.graph label f.state i c) →
       ((c : ℕ) × Contains closers c × IsClosed f [] i before c w) ↔ Behind
   behind_opens this closers exact = (
     λ (c, inside, e). inr (inr (inr (c, is.opens.0 this, (exact c).0 inside, e))),
     by_passage ((c : ℕ) × Contains closers c × IsClosed f [] i before c w)
         (λ m takes e. absurd (upto passage.Opens this m takes))
         (λ that e. let no : passage.Opens ≡ passage.Stays = sym this ∙ that in cc)
-        (λ h that e. let no : passage.Opens ≡ passage.Calls h = sym this ∙ that in cc)
+        (λ h that enters e. let no : passage.Opens ≡ passage.Calls h = sym this ∙ that in cc)
         (λ that c applied e. (c, (exact c).1 applied, e)),
   )
 
@@ -128,7 +130,7 @@ module _ (alphabet : Letters) (tokens : List Token) (tables : Tables) (applies :
   behind_closed this = by_passage ⊥
       (λ m takes e. upto passage.Closed this m takes)
       (λ that e. let no : passage.Closed ≡ passage.Stays = sym this ∙ that in cc)
-      (λ h that e. let no : passage.Closed ≡ passage.Calls h = sym this ∙ that in cc)
+      (λ h that enters e. let no : passage.Closed ≡ passage.Calls h = sym this ∙ that in cc)
       (λ that c applied e. let no : passage.Closed ≡ passage.Opens = sym this ∙ that in cc)
 
 -- what some element of the list leads to

@@ -68,20 +68,20 @@ module _ (alphabet : Letters) (tokens : List Token) (tables : Tables) where
       IsPlain label × Takes alphabet tokens (Accepts alphabet tokens tables) label p k
 
   module _ (applies : Applying) where
-    -- the course after a label, which leads to a frame: the label takes tokens, or passes, or calls;
-    -- where it opens a context that applies, the frame goes on behind that
+    -- the course after a label, which leads to a frame: the label takes tokens, or passes, or calls a
+    -- graph that is entered; where it opens a context that applies, the frame goes on behind that
     abbrev pub IsBehind : Label → Frame → List Frame → ℕ → List Event → Course → Type 0
     IsBehind label f fs i before w =
         ((k : ℕ) × TakesPlainly label i k
         × (w ≡ record { frames = f ∷ fs; at = k; before = event.Take i k ∷ before }))
         ⊎ ((Passes tokens label i
         × (w ≡ record { frames = f ∷ fs; at = i; before = passing label ++ before }))
-        ⊎ (((h : ℕ) × (label ≡ Call h) × (w ≡ record {
+        ⊎ (((h : ℕ) × (label ≡ Call h) × applies.enters h i × (w ≡ record {
           frames = record { graph = h; state = 0 } ∷ f ∷ fs;
           at = i;
           before = before;
         }))
-        ⊎ ((c : ℕ) × Opens label × applies f.graph label f.state i c
+        ⊎ ((c : ℕ) × Opens label × applies.contexts f.graph label f.state i c
         × IsClosed f fs i before c w)))
 
     -- the course after an edge: its output comes before what its label gives

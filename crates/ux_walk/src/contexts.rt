@@ -1,11 +1,12 @@
-//! Which contexts apply, as a walk asks for it.
+//! Which contexts apply, and which calls lead to an end, as a walk asks for it.
 
-ghost use Rattle.std.specs.Prelude.{◌↔◌, ℕ, Contains};
+ghost use Rattle.std.specs.Prelude.{◌↔◌, ℕ, Contains, IsTrue};
 ghost use Rattle.ux_walk.specs.Contexts.{Applying, Asking, all_asked, none_apply};
 
 use ux_net::Edge;
 
-/// Which contexts apply at a position, and where a walk goes on behind them.
+/// Which contexts apply at a position, and where a walk goes on behind them; and which called graphs
+/// a walk enters.
 pub trait Contexts {
     ghost asks: { Self → Asking };
 
@@ -16,10 +17,15 @@ pub trait Contexts {
     fn closers(&self, graph: u32, edge: &Edge, at: usize) -> &[u32]
         requires { asks self.now graph edge.now at }
         ensures { (c : ℕ) → Contains result.now c
-            ↔ applies self.now graph edge.now.label edge.now.target at c };
+            ↔ (applies self.now).contexts graph edge.now.label edge.now.target at c };
+
+    /// Whether a walk enters the graph from a position. Where that derives nothing, no walk that
+    /// enters it comes to an end.
+    fn enters(&self, graph: u32, at: usize) -> bool
+        ensures { IsTrue result ↔ (applies self.now).enters graph at };
 }
 
-/// The contexts of a net that has none: none applies.
+/// The contexts of a net that has none: none applies. Each graph is entered.
 pub struct NoContexts;
 
 impl Contexts for NoContexts {
@@ -29,5 +35,9 @@ impl Contexts for NoContexts {
 
     fn closers(&self, graph: u32, edge: &Edge, at: usize) -> &[u32] {
         &[]
+    }
+
+    fn enters(&self, graph: u32, at: usize) -> bool {
+        true
     }
 }

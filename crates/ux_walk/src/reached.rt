@@ -343,7 +343,7 @@ impl<'t> Reached<'t> {
             Passage::Takes(end) => self.take(config, here, end),
             Passage::Spans(ends) => self.take_each(config, here, ends.as_slice()),
             Passage::Stays => self.pass(config, here, &edge.label),
-            Passage::Calls(graph) => self.call(alloc, config, here, graph),
+            Passage::Calls(graph) => self.enter(alloc, contexts, config, here, graph),
             Passage::Opens => {
                 let closers = contexts.closers(here.graph, edge, config.at);
                 self.close_each(config, closers)
@@ -416,6 +416,28 @@ impl<'t> Reached<'t> {
             at: config.at,
             events,
         })
+    }
+
+    /// Visits a graph that is called, where it is entered.
+    fn enter<C: Contexts>(
+        &mut self,
+        alloc: Global,
+        contexts: &C,
+        config: Config,
+        here: Frame,
+        graph: u32,
+    ) -> Mem<()>
+        ensures { OnOk result (AddsFrom self.old self.new config (λ before w.
+            (C.applies contexts.now).enters graph config.at × (w ≡ record {
+              frames = record { graph = graph; state = 0 } ∷ here ∷ [];
+              at = config.at;
+              before = before;
+            }))) }
+    {
+        if !contexts.enters(graph, config.at) {
+            return Ok(());
+        }
+        self.call(alloc, config, here, graph)
     }
 
     /// Visits a graph, to go on in the frame behind each of its derivations.

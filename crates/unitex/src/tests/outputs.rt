@@ -448,17 +448,27 @@ fn renders_across_calls(rt: HostRuntime) -> Result<(), Fail> {
     Ok(())
 }
 
-/// A graph of so many stages of two boxes `a/[o]`, each of which goes to both boxes of the next.
-fn stages(alloc: Global, count: usize) -> Result<String, AllocError> {
+/// A graph of so many stages of two boxes, each of which goes to both boxes of the next. Both boxes of the
+/// last stage have one content.
+fn stages(
+    alloc: Global,
+    count: usize,
+    contents: [&str; 2],
+    last: &str,
+) -> Result<String, AllocError> {
     let boxes = count.saturating_mul(2).saturating_add(2);
     let mut graph = format!(in alloc; "#Unigraph\n#\n{boxes}\n\"\" 0 0 2 2 3 \n\"\" 0 0 0 \n")?;
     for stage in 1..count {
         let next = stage.saturating_mul(2).saturating_add(2);
-        let line = format!(in alloc; "\"a/[o]\" 0 0 2 {next} {} \n", next.saturating_add(1))?;
-        graph.push_str(line.as_str())?;
-        graph.push_str(line.as_str())?;
+        let behind = next.saturating_add(1);
+        for content in &contents {
+            let line = format!(in alloc; "\"{content}\" 0 0 2 {next} {behind} \n")?;
+            graph.push_str(line.as_str())?;
+        }
     }
-    graph.push_str("\"a/[o]\" 0 0 1 1 \n\"a/[o]\" 0 0 1 1 \n")?;
+    let line = format!(in alloc; "\"{last}\" 0 0 1 1 \n")?;
+    graph.push_str(line.as_str())?;
+    graph.push_str(line.as_str())?;
     Ok(graph)
 }
 
@@ -473,12 +483,34 @@ fn renders_equal_ways_once(rt: HostRuntime) -> Result<(), Fail> {
         index.push_str("[o] a")?;
     }
     index.push('\n')?;
+    let graph = stages(alloc, 40, ["a/[o]", "a/[o]"], "a/[o]")?;
     let mut files = Vec::new(alloc);
-    files.push(file(alloc, "g.grf", stages(alloc, 40)?.as_str().as_bytes())?)?;
+    files.push(file(alloc, "g.grf", graph.as_str().as_bytes())?)?;
     files.push(file(alloc, "a.txt", LETTERS.as_bytes())?)?;
     files.push(file(alloc, "t.txt", text.as_str().as_bytes())?)?;
     let words = &["locate", "--mode=merge", "g.grf", "t.txt", "a.txt"];
     let got = given(alloc, words, files)?;
     compare_given(&rt, "forty stages", &got, (index.as_str(), "", 0));
+    Ok(())
+}
+
+/// A called graph has 2^39 lists of events behind `e`, and no end there: a walk doesn't enter it.
+#[test]
+fn enters_no_call_without_an_end(rt: HostRuntime) -> Result<(), Fail> {
+    let alloc = rt.alloc();
+    let mut text = String::from_str(alloc, "e")?;
+    for _ in 1..40 {
+        text.push_str(" a")?;
+    }
+    let graph = drawn(alloc, &[&["e", ":Y"], &["e/[1]"]])?;
+    let called = stages(alloc, 40, ["a/x", "a/y"], "z")?;
+    let mut files = Vec::new(alloc);
+    files.push(file(alloc, "g.grf", graph.as_str().as_bytes())?)?;
+    files.push(file(alloc, "Y.grf", called.as_str().as_bytes())?)?;
+    files.push(file(alloc, "a.txt", LETTERS.as_bytes())?)?;
+    files.push(file(alloc, "t.txt", text.as_str().as_bytes())?)?;
+    let words = &["locate", "--mode=merge", "g.grf", "t.txt", "a.txt"];
+    let got = given(alloc, words, files)?;
+    compare_given(&rt, "no end", &got, ("#M\n0 0 [1]e\n", "", 0));
     Ok(())
 }

@@ -1,4 +1,4 @@
-use Rattle.std.proofs.Common.{List, arith, subst, sym, ap, ◌∙◌, ℕ}
+use Rattle.std.proofs.Common.{List, arith, subst}
 use Rattle.std.specs.Prelude.{All, IsUtf8}
 use Rattle.std.proofs.lemmas.List.{take_all}
 use Rattle.std.proofs.lemmas.List.Elements.{All-more}
@@ -8,7 +8,7 @@ use Rattle.ux_compress.proofs.content.are_texts.Goals as goal
 pub loop-entry-preserved : goal.loop-entry-preserved
 loop-entry-preserved c =
     let entries = c.args.entries.now in
-    let utf8 : IsUtf8 c.entry-item.result.form = subst IsUtf8 c.as_str-form.ensures c.as_str-form.utf8 in
+    let utf8 : IsUtf8 c.entry-item.result.form = subst IsUtf8 c.form-form.ensures c.form-form.utf8 in
     All-more (λ (e : Entry). IsUtf8 e.form) entries c.loop-entry.entry-index c.entry-item.result
     (omega arith) c.loop-entry.invariant
     (subst (λ (e : Entry). IsUtf8 e.form) c.entry-item.is utf8)

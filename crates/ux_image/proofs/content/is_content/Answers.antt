@@ -12,8 +12,8 @@ returns-then-not-may_follow c = (
   λ h. absurd (false≢true h),
   λ content.
       let follows = c.may_follow.ensures.1 (follows_there c.args.entries.now
-      c.loop-entry.entry-index c.entry-item.result c.loop-entry.last.now c.as_str-form.result.now
-      (omega arith) c.entry-item.is c.as_str-form.ensures c.loop-entry.invariant.2 content) in
+      c.loop-entry.entry-index c.entry-item.result c.loop-entry.last.now c.form-form.result.now
+      (omega arith) c.entry-item.is c.form-form.ensures c.loop-entry.invariant.2 content) in
       absurd (false≢true (sym c.if-not-may_follow.true ∙ follows)),
 )
 
@@ -21,14 +21,14 @@ pub loop-entry-preserved : goal.loop-entry-preserved
 loop-entry-preserved c =
     let entries = c.args.entries.now in
     let i = c.loop-entry.entry-index in
-    let form = c.as_str-form.result.now in
+    let form = c.form-form.result.now in
     let last = c.loop-entry.last.now in
     let follows = c.may_follow.ensures.0 c.if-not-may_follow.false in (
-      c.as_str-form.utf8,
+      c.form-form.utf8,
       some_more entries i c.entry-item.result last form (omega arith) c.entry-item.is
-          c.as_str-form.ensures follows c.loop-entry.invariant.1,
+          c.form-form.ensures follows c.loop-entry.invariant.1,
       order_more entries i c.entry-item.result last form (omega arith) c.entry-item.is
-          c.as_str-form.ensures follows c.loop-entry.invariant.2,
+          c.form-form.ensures follows c.loop-entry.invariant.2,
     )
 
 pub returns : goal.returns

@@ -14,8 +14,9 @@ loop-branch-init c =
     let next = c.enter.new.walk in
     let old = c.args.counts.now in
     let new = c.enter.new.counts in
-    let root = length c.states.result.now - 1 in
-    let last = ap (λ (l : List State). length l - 1) c.states.ensures.value in
+    let root = c.len-root.result - 1 in
+    let last = ap (λ n. n - 1) c.len-root.ensures
+    ∙ ap (λ (l : List State). length l - 1) c.states.ensures.value in
     let some = is.automaton.some in
     let going = first_walk coded is walk c.requires.branches in
     let left = first_left coded is old c.requires.counts walk c.requires.letters c.requires.branches

@@ -1,9 +1,12 @@
-use Rattle.std.proofs.Common.{List, [], ◌∷◌, ◌++◌, take, subst, sym, arith}
-use Rattle.std.proofs.lemmas.List.{take_all}
+use Rattle.std.proofs.Common.{rules, ◌≡◌, ◌∙◌, List, [], ◌∷◌, ◌++◌, length, subst, sym}
+use Rattle.std.specs.Vec.Iter.{into_iter_items, into_iter_len}
+use Rattle.std.proofs.lemmas.Iterator.Adapters.{YieldsList-from_vec}
+use Rattle.std.proofs.lemmas.Iterator.Consumers.{YieldsList-end, YieldsList-turn}
+use Rattle.std.proofs.lemmas.List.{map-id}
 use Rattle.ux_dawg.specs.declared.state.Form.{Form}
 use Rattle.ux_image_look_ups.specs.declared.ways.Way.{Way}
 use Rattle.ux_image_look_ups.specs.Ways.{forms_on, AreWays, IsWay}
-use Rattle.ux_image_look_ups.proofs.WayLemmas.{forms_on-more, ways_among, ways_none}
+use Rattle.ux_image_look_ups.proofs.WayLemmas.{forms_on-push, ways_among, ways_none}
 use Rattle.ux_image_look_ups.proofs.going_on.next_ways.Goals as goal
 
 pub loop-way-init : goal.loop-way-init
@@ -16,22 +19,29 @@ pub loop-way-preserved : goal.loop-way-preserved
 loop-way-preserved c front each =
     let states = c.args.states.now in
     let alphabet = c.args.alphabet.now in
-    let ways = c.args.ways.now in
-    let way = c.way-item.result in
-    let i = c.loop-way.way-index in
-    let is = subst (IsWay states alphabet front) (sym c.way-item.is) (each i way (omega arith)) in
+    let ways = c.args.ways.items in
+    let so_far = c.loop-way.yielded in
+    let way = c.in-Some.way in
+    let here : into_iter_items c.into_iter-way-iterator.result ≡ ways = search rules in
+    let long : into_iter_len c.into_iter-way-iterator.result ≡ length ways = search rules in
+    let turn = YieldsList-turn (YieldsList-from_vec ways here long) so_far c.loop-way.way-iterator
+    c.loop-way.yielded_by c.next.result c.next.new.self way c.in-Some.is c.next.ensures.steps in
+    let is = subst (IsWay states alphabet front) (sym turn.1) (each (length so_far) way turn.0) in
     subst (λ (l : List Form). AreWays states alphabet (front ++ c.args.c ∷ []) l
-    c.push_edges.new.next.items)
-    (sym (forms_on-more states ways i way (omega arith) c.way-item.is))
-    (c.in_ok-push_edges.ensures front (forms_on states (take i ways)) is
-    (c.loop-way.invariant front each))
+    c.push_next.new.next.items) (sym (forms_on-push states so_far way))
+    (c.in_ok-push_next.ensures front (forms_on states so_far) is (c.loop-way.invariant front each))
 
 pub returns : goal.returns
 returns c front forms are =
     let states = c.args.states.now in
     let alphabet = c.args.alphabet.now in
-    let ways = c.args.ways.now in
+    let ways = c.args.ways.items in
+    let here : into_iter_items c.into_iter-way-iterator.result ≡ ways = search rules in
+    let long : into_iter_len c.into_iter-way-iterator.result ≡ length ways = search rules in
+    let end = YieldsList-end (YieldsList-from_vec ways here long) c.loop-way.yielded
+    c.loop-way.way-iterator c.loop-way.yielded_by c.next.result c.next.new.self c.in-None.is
+    c.next.ensures.steps in
     ways_among states alphabet front (c.args.c ∷ []) forms ways c.loop-way.next.items are
     (subst (λ (l : List Way). AreWays states alphabet (front ++ c.args.c ∷ []) (forms_on states l)
-    c.loop-way.next.items) (take_all c.loop-way.way-index ways (omega arith))
+    c.loop-way.next.items) (sym (map-id c.loop-way.yielded) ∙ end.0)
     (c.loop-way.invariant front are.each))

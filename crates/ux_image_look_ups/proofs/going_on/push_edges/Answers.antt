@@ -17,14 +17,14 @@ loop-edge-preserved c front forms is so_far =
     let states = c.args.states.now in
     let way = c.args.way.now in
     let taken = c.args.taken.now in
-    let edges = c.edges_at-edge-items.result.now in
+    let edges = c.edges-edge-items.result.now in
     let i = c.loop-edge.edge-index in
     let bare_edge : Edge = record { letter = 0; target = 0 } in
     let edge = get_or edges i bare_edge in
     let less = c.loop-edge-test.true in
     let at = get_or_default edges i bare_edge edge less in
     let leads = edge_leads states c.requires.automaton.fit c.requires.forms way.state is.within edges
-    c.edges_at-edge-items.ensures i edge less at in
+    c.edges-edge-items.ensures i edge less at in
     let past = passed states way (take i edges) in
     subst (λ (l : List Form). AreWays states taken.alphabet.now (front ++ taken.c ∷ []) l
     c.push_edge.new.next.items)
@@ -39,9 +39,9 @@ returns c front forms is so_far =
     let states = c.args.states.now in
     let way = c.args.way.now in
     let taken = c.args.taken.now in
-    let edges = c.edges_at-edge-items.result.now in
+    let edges = c.edges-edge-items.result.now in
     let all = take_all c.loop-edge.edge-index edges (omega (arith, c.loop-edge-test.false))
-    ∙ c.edges_at-edge-items.ensures in
+    ∙ c.edges-edge-items.ensures in
     subst (λ (l : List Form). AreWays states taken.alphabet.now (front ++ taken.c ∷ []) (forms ++ l)
     c.loop-edge.next.items)
     (ap (passed states way) all ∙ sym (by_edges states c.requires.automaton.fit way is.within))

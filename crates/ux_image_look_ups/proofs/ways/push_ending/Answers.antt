@@ -14,9 +14,9 @@ returns-in_ok-push c alphabet text forms is so_far =
     (sym (c.in_ok-push.ensures.items
     ∙ ap (λ w. old ++ form_of w c.in-Some.code ∷ []) c.in_ok-letters.ensures))
     (ends_here states c.requires alphabet text way is forms old so_far c.in-Some.code
-    (sym c.code_at.ensures ∙ c.in-Some.is))
+    (sym c.code.ensures ∙ c.in-Some.is))
 
 pub returns-in_default : goal.returns-in_default
 returns-in_default c alphabet text forms is so_far =
     ends_nowhere c.args.states.now c.requires alphabet text c.args.way.now is forms
-    c.args.found.now.items so_far (sym c.code_at.ensures ∙ c.in_default.is)
+    c.args.found.now.items so_far (sym c.code.ensures ∙ c.in_default.is)

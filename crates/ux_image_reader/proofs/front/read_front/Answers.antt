@@ -1,8 +1,4 @@
-use Rattle.std.proofs.Common.{arith, List, ◌≤◌, inr, refl, subst, sym}
-use Rattle.ux_dawg.specs.declared.state.State.{State}
-use Rattle.ux_dawg.specs.Paths.{AreStates, MakeAutomaton}
-use Rattle.ux_image_reader.specs.Reading.{AreTogether, RefusesTogether}
-use Rattle.ux_image_reader.specs.Tests.{used_by}
+use Rattle.std.proofs.Common.{arith, inr, refl}
 use Rattle.std.proofs.lemmas.Result.{err_from_is_err_and}
 use Rattle.ux_image_reader.proofs.FrontLemmas.{states_fit, used_by-le, short_count, zero_count, short_lists, states_refused, together_refused, has_front}
 use Rattle.ux_image_reader.proofs.RefusalLaws.{front_excluded}
@@ -39,15 +35,13 @@ returns-in_err-states-clause-err c =
 
 pub accept_states-requires-clause-states : goal.accept_states-requires-clause-states
 accept_states-requires-clause-states c =
-    subst AreStates (sym c.as_slice.ensures.value)
-    (states_fit c.in_ok-count.count c.in_ok-lists.lists c.in_ok-states.states.items
-    c.in_ok-states.ensures.ok.passed)
+    states_fit c.in_ok-count.count c.in_ok-lists.lists c.in_ok-states.states
+    c.in_ok-states.ensures.ok.passed
 
 pub accept_states-requires-clause-used : goal.accept_states-requires-clause-used
 accept_states-requires-clause-used c =
-    subst (λ (l : List State). used_by l ≤ c.in_ok-lists.lists) (sym c.as_slice.ensures.value)
-    (used_by-le c.in_ok-count.count c.in_ok-lists.lists c.in_ok-states.states.items
-    c.in_ok-states.ensures.ok.passed)
+    used_by-le c.in_ok-count.count c.in_ok-lists.lists c.in_ok-states.states
+    c.in_ok-states.ensures.ok.passed
 
 pub returns-in_err-accept_states-clause-err : goal.returns-in_err-accept_states-clause-err
 returns-in_err-accept_states-clause-err c =
@@ -58,19 +52,16 @@ returns-in_err-accept_states-clause-err c =
     rw (p.1, p.2) (together_refused c.args.bytes.now c.in_ok-version.version
     c.in_ok-version.ensures.ok c.in_ok-count.count lists _ _ c.read_number-2.new.cursor refl refl
     c.in_ok-count.ensures.ok c.in_ok-lists.ensures.ok c.read_states.new.cursor
-    c.in_ok-states.states.items c.in_ok-states.ensures.ok c.if-count-eq0.false error
-    (subst (λ (l : List State). RefusesTogether lists l error) c.as_slice.ensures.value
-    c.in_err-accept_states.ensures.err))
+    c.in_ok-states.states c.in_ok-states.ensures.ok c.if-count-eq0.false error
+    c.in_err-accept_states.ensures.err)
 
 pub returns-clause-ok : goal.returns-clause-ok
 returns-clause-ok c =
     has_front c.args.bytes.now c.in_ok-version.version c.in_ok-version.ensures.ok
     c.in_ok-count.count c.in_ok-lists.lists _ _ c.read_number-2.new.cursor refl refl
     c.in_ok-count.ensures.ok c.in_ok-lists.ensures.ok c.read_states.new.cursor
-    c.in_ok-states.states.items c.in_ok-states.ensures.ok c.if-count-eq0.false _ refl c.new.ensures
-    refl refl
-    (subst (λ (l : List State). AreTogether c.in_ok-lists.lists l) c.as_slice.ensures.value
-    c.in_ok-accept_states.ensures.ok)
+    c.in_ok-states.states c.in_ok-states.ensures.ok c.if-count-eq0.false _ refl refl refl refl
+    c.in_ok-accept_states.ensures.ok
 
 pub returns-clause-exact : goal.returns-clause-exact
 returns-clause-exact c = λ error refuses.
@@ -79,10 +70,10 @@ returns-clause-exact c = λ error refuses.
 pub returns-clause-automaton : goal.returns-clause-automaton
 returns-clause-automaton c =
     let reads = c.in_ok-states.ensures.ok in
-    subst MakeAutomaton (sym c.new.ensures) (record {
+    record {
       some = let are = reads.many_are in let count = c.if-count-eq0.false in
           omega (arith, are, count);
       few = let are = reads.many_are in omega (arith, are);
-      fit = states_fit c.in_ok-count.count c.in_ok-lists.lists c.in_ok-states.states.items
+      fit = states_fit c.in_ok-count.count c.in_ok-lists.lists c.in_ok-states.states
           reads.passed;
-    })
+    }

@@ -3,5 +3,5 @@ use Rattle.ux_image_reader.specs.Tests.{used_by}
 use Rattle.ux_image_reader.proofs.states.count_used.Given as goal
 
 -- the lists that the states so far use
-abbrev pub invariant-loop-state : goal.invariant-loop-state
-invariant-loop-state l = l.used ≡ used_by (take l.state-index l.states)
+abbrev pub invariant-loop-number : goal.invariant-loop-number
+invariant-loop-number l = l.used ≡ used_by (take l.number l.states)

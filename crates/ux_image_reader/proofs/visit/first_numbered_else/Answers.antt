@@ -1,17 +1,20 @@
-use Rattle.std.proofs.Common.{List, [], ◌≡◌, ◌++◌, ◌∷◌, ◌∙◌, subst, ap, arith}
+use Rattle.std.proofs.Common.{◌-◌, List, [], ◌≡◌, ◌++◌, ◌∷◌, ◌∙◌, subst, ap, arith}
 use Rattle.std.specs.Prelude.{All}
 use Rattle.std.proofs.lemmas.List.{nil_from_length}
 use Rattle.ux_image_reader.specs.declared.visit.Frame.{Frame}
 use Rattle.ux_image_reader.specs.Visit.{visit_of}
 use Rattle.ux_image_reader.specs.Visiting.{below, left_at_end, IsFrame}
 use Rattle.ux_image_reader.proofs.EdgesLemmas.{standing}
-use Rattle.ux_image_reader.proofs.VisitingLemmas.{all_in_order, begins_visit, ends_early, leaves_else, leaves_on, root_frame}
+use Rattle.ux_image_reader.proofs.VisitingLemmas.{all_in_order, begins_visit, ends_early, leaves_else, leaves_on}
 use Rattle.ux_image_reader.proofs.visit.first_numbered_else.Goals as goal
 
 pub loop-number-init : goal.loop-number-init
 loop-number-init c =
     begins_visit c.args.states.now c.requires.states c.requires.some c.push.new.self.items
-    (c.in_ok-push.ensures.items ∙ ap (λ (l : List Frame). l ++ root_frame c.args.states.now ∷ []) c.new-stack.ensures.items)
+    (c.in_ok-push.ensures.items
+    ∙ ap (λ (l : List Frame). l ++ record { state = c.len.result - 1; place = 0 } ∷ [])
+    c.new-stack.ensures.items
+    ∙ ap (λ n. record { state = n - 1; place = 0 } ∷ []) c.len.ensures)
 
 pub returns-in_default : goal.returns-in_default
 returns-in_default c =

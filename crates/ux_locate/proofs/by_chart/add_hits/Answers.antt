@@ -9,6 +9,7 @@ use Rattle.ux_locate.proofs.by_chart.add_hits.Goals as goal
 pub best_hits-requires-clause-told : goal.best_hits-requires-clause-told
 best_hits-requires-clause-told c =
     chart_told c.args.chart.now (setting_in c.args.search.now) c.requires.chart c.requires.made
+    c.of-contexts.result c.of-contexts.ensures
 
 pub returns-then-not-is_start-clause-hits : goal.returns-then-not-is_start-clause-hits
 returns-then-not-is_start-clause-hits c =

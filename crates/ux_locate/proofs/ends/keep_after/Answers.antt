@@ -1,4 +1,4 @@
-use Rattle.std.proofs.Common.{ℕ, List, ltb, rules, subst, sym}
+use Rattle.std.proofs.Common.{ltb, rules, subst, sym}
 use Rattle.std.specs.List.Sorted.{IsStrictlyIncreasing}
 use Rattle.std.proofs.lemmas.Fn.{filter_same}
 use Rattle.std.proofs.lemmas.List.Kept.{IsStrictlyIncreasing-filter}

@@ -1,6 +1,7 @@
-use Rattle.std.proofs.lemmas.Result.{IfErr-weaker, IfOk-weaker}
+use Rattle.std.proofs.Common.{◌≡◌}
 use Rattle.ux_words.specs.declared.help.TheConstants.{HELP, VERSION}
-use Rattle.ux_run.proofs.Ending.{text_answers, text_denies}
+use Rattle.ux_bench.specs.Bench.{IsSummaryOf}
+use Rattle.ux_run.proofs.Ending.{unread_answers, unread_denies}
 use Rattle.ux_run.proofs.commands.answer_to.Goals as goal
 
 pub returns-in-Tokenize-clause-ok : goal.returns-in-Tokenize-clause-ok
@@ -22,33 +23,35 @@ returns-in-Dico-clause-err g c =
 pub returns-in-Help-clause-ok : goal.returns-in-Help-clause-ok
 returns-in-Help-clause-ok g c =
     let files = (g.F.Folder.seen c.args.folder.now).files in
-    rw c.in-Help.is (text_answers HELP.now c.text_of.result files c.text_of.ensures.ok)
+    rw c.in-Help.is
+    (unread_answers (λ a. a ≡ HELP.now) c.text_of.result files c.text_of.ensures.ok)
 
 pub returns-in-Help-clause-err : goal.returns-in-Help-clause-err
 returns-in-Help-clause-err g c =
     let seen = g.F.Folder.seen c.args.folder.now in
-    rw c.in-Help.is (text_denies HELP.now c.text_of.result seen seen c.text_of.ensures.err)
+    rw c.in-Help.is
+    (unread_denies (λ a. a ≡ HELP.now) c.text_of.result seen seen c.text_of.ensures.err)
 
 pub returns-in-Version-clause-ok : goal.returns-in-Version-clause-ok
 returns-in-Version-clause-ok g c =
     let files = (g.F.Folder.seen c.args.folder.now).files in
     let text = c.text_of-in-Version in
-    rw c.in-Version.is (text_answers VERSION.now text.result files text.ensures.ok)
+    rw c.in-Version.is (unread_answers (λ a. a ≡ VERSION.now) text.result files text.ensures.ok)
 
 pub returns-in-Version-clause-err : goal.returns-in-Version-clause-err
 returns-in-Version-clause-err g c =
     let seen = g.F.Folder.seen c.args.folder.now in
     let text = c.text_of-in-Version in
-    rw c.in-Version.is (text_denies VERSION.now text.result seen seen text.ensures.err)
+    rw c.in-Version.is (unread_denies (λ a. a ≡ VERSION.now) text.result seen seen text.ensures.err)
 
 pub returns-in-Bench-clause-ok : goal.returns-in-Bench-clause-ok
 returns-in-Bench-clause-ok g c =
     let files = (g.F.Folder.seen c.args.folder.now).files in
-    rw c.in-Bench.is (IfOk-weaker c.summary_of.result _ _ (λ answer answers. answers files)
-    c.summary_of.ensures.ok)
+    rw c.in-Bench.is
+    (unread_answers (IsSummaryOf c.in-Bench.n) c.summary_of.result files c.summary_of.ensures.ok)
 
 pub returns-in-Bench-clause-err : goal.returns-in-Bench-clause-err
 returns-in-Bench-clause-err g c =
     let seen = g.F.Folder.seen c.args.folder.now in
-    rw c.in-Bench.is (IfErr-weaker c.summary_of.result _ _ (λ status denies. denies seen seen)
-    c.summary_of.ensures.err)
+    rw c.in-Bench.is
+    (unread_denies (IsSummaryOf c.in-Bench.n) c.summary_of.result seen seen c.summary_of.ensures.err)

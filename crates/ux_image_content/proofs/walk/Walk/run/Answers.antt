@@ -1,4 +1,4 @@
-use Rattle.std.proofs.Common.{arith, ◌≡◌, ◌-◌, ◌++◌, List, [], length, sym, ◌∙◌, ap}
+use Rattle.std.proofs.Common.{arith, ◌≡◌, ◌-◌, ◌++◌, List, [], sym, ◌∙◌, ap}
 use Rattle.std.proofs.lemmas.List.{append-nil, nil_from_length}
 use Rattle.ux_dawg.specs.declared.state.Form.{Form}
 use Rattle.ux_image_content.specs.declared.walk.Frame.{Frame}
@@ -11,8 +11,9 @@ pub loop-frame-init : goal.loop-frame-init
 loop-frame-init c =
     let states = c.args.states.now in
     let some = c.requires.automaton.some in
-    begins states c.requires.automaton.fit (length states - 1) c.args.self.now c.enter.new.self
-    (omega (arith, some)) c.requires.stack c.requires.letters c.in_ok-enter.ensures
+    let long = c.len.ensures in
+    begins states c.requires.automaton.fit (c.len.result - 1) c.args.self.now c.enter.new.self
+    (omega (arith, some, long)) c.requires.stack c.requires.letters c.in_ok-enter.ensures
 
 pub returns : goal.returns
 returns c =

@@ -1,4 +1,4 @@
-use Rattle.std.proofs.Common.{◌≡◌, true, [], rules}
+use Rattle.std.proofs.Common.{rules}
 use Rattle.std.proofs.lemmas.List.{nil_from_length}
 use Rattle.ux_locate.proofs.AfterLemmas.{no_ends}
 use Rattle.ux_locate.proofs.ends.ChartEndsEnds.may_end.Goals as goal

@@ -38,12 +38,12 @@ returns-in-Stays g c = on_ok c.pass.result _ _
     c.args.config.at before c.args.passage passage w c.in-Stays.is)) c.pass.ensures
 
 pub returns-in-Calls : goal.returns-in-Calls
-returns-in-Calls g c = on_ok c.call.result _ _
+returns-in-Calls g c = on_ok c.enter.result _ _
     (λ adds alphabet tokens tables passage v before sound spells.
-    adds_of v _ _ c.args.self.now c.call.new.self (adds v before sound spells) (λ w.
+    adds_of v _ _ c.args.self.now c.enter.new.self (adds v before sound spells) (λ w.
     behind_calls alphabet tokens tables (g.C.Contexts.applies c.args.contexts.now)
     c.args.edge.now.label (at_state c.args.config.here c.args.edge.now.target)
-    c.args.config.at before c.args.passage passage w c.in-Calls.graph c.in-Calls.is)) c.call.ensures
+    c.args.config.at before c.args.passage passage w c.in-Calls.graph c.in-Calls.is)) c.enter.ensures
 
 pub returns-in-Opens : goal.returns-in-Opens
 returns-in-Opens g c = on_ok c.close_each.result _ _

@@ -1,0 +1,14 @@
+use Rattle.std.proofs.Common.{List, subst}
+use Rattle.std.specs.Prelude.{All, IsUtf8}
+use Rattle.ux_dela.specs.declared.entry.Entry.{Entry}
+use Rattle.ux_dict.proofs.ReadLemmas.{IsDictionary-file}
+use Rattle.ux_compress.proofs.ContentLaws.{has_image}
+use Rattle.ux_compress.proofs.content.content_in.Goals as goal
+
+pub returns-clause-ordered : goal.returns-clause-ordered
+returns-clause-ordered c =
+    let content = c.in_ok-content.content.items in
+    has_image content
+    (IsDictionary-file c.args.text.now content c.in_ok-content.ensures.ok)
+    (subst (λ (l : List Entry). All (λ (e : Entry). IsUtf8 e.form) l) c.deref.ensures.value
+    c.are_texts.ensures)

@@ -1,0 +1,153 @@
+//! The states of an automaton that is read and no longer built.
+//!
+//! A `State` has a list of edges of its own, wherever there was room for it. Here the edges of all
+//! states stand in one list, so that a step to another state is a step in memory, and no more.
+
+ghost use Rattle.std.specs.Prelude.{◌≡◌, ◌↔◌, ◌<◌, ◌≤◌, ◌∷◌, ◌++◌, ℕ, [], Contains, OnErr, OnOk, Some, get_or, length};
+ghost use Rattle.ux_dawg.specs.Building.{bare};
+ghost use Rattle.ux_dawg.specs.Flat.{between, start_at, state_of, KeepsRows, PutsRow};
+ghost use Rattle.ux_dawg.specs.Paths.{edge, AreAscending, AreStates, IsStep};
+
+use crate::state::Edge;
+use std::alloc::Global;
+use std::marker::Model;
+use ux_base::{Mem, NoMemory};
+
+/// A state among others: its number of a list, and where its edges end.
+#[derive(Clone, Copy, Debug)]
+struct Row {
+    code: Option<u32>,
+    end: usize,
+}
+
+/// The states of an automaton by number, with their edges in one list. Contracts see the list of
+/// the states.
+#[derive(Debug, Drop)]
+pub struct States {
+    /// A row for each state.
+    rows: Vec<Row>,
+    /// The edges of the first state, then those of the second, and so on.
+    edges: Vec<Edge>,
+}
+
+impl Model for States {
+    ghost use Rattle.std.specs.Prelude.{List, length};
+    ghost use Rattle.ux_dawg.specs.declared.state.State.{State};
+    ghost use Rattle.ux_dawg.specs.Flat.{states_from, AreRows};
+
+    ghost Value = { List State };
+
+    ghost view = { λ s. states_from 0 s.rows.items s.edges.items };
+
+    ghost invariant = { λ s. AreRows 0 (length s.edges.items) s.rows.items };
+}
+
+impl States {
+    /// No state. Takes no memory.
+    pub fn new(alloc: Global) -> States
+        ensures { result ≡ [] }
+    {
+        States {
+            rows: Vec::new(alloc),
+            edges: Vec::new(alloc),
+        }
+    }
+
+    /// How many states there are.
+    pub fn len(&self) -> usize
+        ensures { result ≡ length self.now }
+    {
+        self.rows.len()
+    }
+
+    /// Adds a state with this number of a list and copies of these edges.
+    pub fn push(&mut self, code: Option<u32>, edges: &[Edge]) -> Mem<()>
+        ensures ok { OnOk result (self.new ≡ self.old ++ state_of code edges.now ∷ []) }
+        ensures err { OnErr result (self.new ≡ self.old) }
+    {
+        push_row(&mut self.rows, &mut self.edges, code, edges)
+    }
+
+    /// The number of the list of the state of this number, if it has one; none, where there is no
+    /// such state. Takes no memory.
+    pub fn code(&self, number: usize) -> Option<u32>
+        ensures { result ≡ (get_or self.now number bare).code }
+    {
+        match self.rows.get(number) {
+            Some(row) => row.code,
+            None => None,
+        }
+    }
+
+    /// The edges of the state of this number, in the order in which they were given; none, where
+    /// there is no such state. Takes no memory.
+    pub fn edges(&self, number: usize) -> &[Edge]
+        ensures { result.now ≡ (get_or self.now number bare).edges }
+    {
+        let rows = self.rows.as_slice();
+        match rows.get(number) {
+            Some(row) => part(self.edges.as_slice(), start_of(rows, number), row.end),
+            None => &[],
+        }
+    }
+
+    /// The number of the state to which the character leads. Halves the edges of the state, and takes
+    /// no memory.
+    pub fn step(&self, number: usize, letter: char) -> Option<u32>
+        requires { AreStates self.now }
+        ensures { (t : ℕ) → (result ≡ Some t) ↔ IsStep self.now number letter t }
+    {
+        target_of(self.edges(number), letter)
+    }
+}
+
+/// Where the character leads by one of the edges, which ascend.
+fn target_of(edges: &[Edge], letter: char) -> Option<u32>
+    requires { AreAscending edges.now }
+    ensures { (t : ℕ) → (result ≡ Some t) ↔ Contains edges.now (edge letter t) }
+{
+    match edges.binary_search_by_key(&letter, |edge| edge.letter) {
+        Ok(place) => Some(edges[place].target),
+        Err(_) => None,
+    }
+}
+
+/// Puts a row for these edges last, and them; nothing, where memory runs out.
+fn push_row(rows: &mut Vec<Row>, all: &mut Vec<Edge>, code: Option<u32>, edges: &[Edge]) -> Mem<()>
+    ensures ok { OnOk result (PutsRow code edges.now rows.old.items rows.new.items all.old.items
+        all.new.items) }
+    ensures err { OnErr result (KeepsRows rows.old.items rows.new.items all.old.items
+        all.new.items) }
+{
+    let many = all.len();
+    all.extend_from_slice(edges)?;
+    let row = Row {
+        code,
+        end: all.len(),
+    };
+    if rows.push(row).is_err() {
+        all.truncate(many);
+        return Err(NoMemory);
+    }
+    Ok(())
+}
+
+/// The edges from one place to another.
+fn part(edges: &[Edge], start: usize, end: usize) -> &[Edge]
+    requires order { start ≤ end }
+    requires within { end ≤ length edges.now }
+    ensures { result.now ≡ between start end edges.now }
+{
+    &edges[start..end]
+}
+
+/// Where the edges of the state of this number begin.
+fn start_of(rows: &[Row], number: usize) -> usize
+    requires { number < length rows.now }
+    ensures { result ≡ start_at 0 rows.now number }
+{
+    match number.checked_sub(1) {
+        Some(before) => rows[before].end,
+        None => 0,
+    }
+}

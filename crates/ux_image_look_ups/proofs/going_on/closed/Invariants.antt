@@ -1,0 +1,6 @@
+use Rattle.std.proofs.Common.{◌≡◌}
+use Rattle.ux_image_look_ups.proofs.going_on.closed.Given as goal
+
+-- the ways so far
+abbrev pub invariant-loop-letters : goal.invariant-loop-letters
+invariant-loop-letters l = l.closed.items ≡ l.yielded

@@ -1,0 +1,75 @@
+//! States whose edges stand in one list, read by their numbers.
+
+use crate::comparing::compare;
+use std::alloc::Global;
+use std::test::Fail;
+use ux_base::Mem;
+use ux_dawg::{Edge, States};
+
+/// A state: its number of a list, if it has one, and its edges.
+type Row = (Option<u32>, &'static [(char, u32)]);
+
+/// The states of `cat` and `cot` with 0, and `cats` and `cots` with 1.
+const ROWS: &[Row] = &[
+    (Some(1), &[]),
+    (Some(0), &[('s', 0)]),
+    (None, &[('t', 1)]),
+    (None, &[('a', 2), ('o', 2)]),
+    (None, &[('c', 3)]),
+];
+
+/// The edges.
+fn edges_of(alloc: Global, row: &[(char, u32)]) -> Mem<Vec<Edge>> {
+    let mut edges = Vec::new(alloc);
+    for (letter, target) in row {
+        edges.push(Edge {
+            letter: *letter,
+            target: *target,
+        })?;
+    }
+    Ok(edges)
+}
+
+/// The states.
+fn states_of(alloc: Global) -> Mem<States> {
+    let mut states = States::new(alloc);
+    for (code, row) in ROWS {
+        let edges = edges_of(alloc, row)?;
+        states.push(*code, &edges)?;
+    }
+    Ok(states)
+}
+
+/// The state of this number: its number of a list or `-`, and its edges.
+fn shown(alloc: Global, states: &States, number: usize) -> Mem<String> {
+    let mut text = String::new(alloc);
+    match states.code(number) {
+        Some(code) => text.push_str(format!(in alloc; "{code}")?.as_str())?,
+        None => text.push('-')?,
+    }
+    for edge in states.edges(number) {
+        text.push(edge.letter)?;
+        text.push_str(format!(in alloc; "{}", edge.target)?.as_str())?;
+    }
+    Ok(text)
+}
+
+#[test]
+fn gives_each_state_its_own_edges(rt: HostRuntime) -> Result<(), Fail> {
+    const WANT: &[(&str, usize, &str)] = &[
+        ("an end without an edge", 0, "1"),
+        ("an end with an edge", 1, "0s0"),
+        ("behind one without an end", 2, "-t1"),
+        ("two edges", 3, "-a2o2"),
+        ("the last", 4, "-c3"),
+        ("past the last", 5, "-"),
+    ];
+    let states = states_of(rt.alloc())?;
+    compare(&rt, "how many", states.len(), 5);
+    for (name, number, want) in WANT {
+        let got = shown(rt.alloc(), &states, *number)?;
+        compare(&rt, name, got.as_str(), *want);
+    }
+    compare(&rt, "none", States::new(rt.alloc()).len(), 0);
+    Ok(())
+}
