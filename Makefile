@@ -5,11 +5,12 @@
 # `make install PREFIX=DIR` puts the built program and its manual page under DIR.
 # `make bench` times searches beside GNU grep, the tokens of a text beside a C program, dictionaries beside wc and
 # grep, and images beside a map of the crate fst, which it compiles from Debian's package of its sources.
+# `make images` changes each byte of two small images, and compares what the built program says with a reading by itself.
 # `make gate` is the merge gate and the test command.
 
 PREFIX ?= /usr/local
 
-.PHONY: example build tour install bench gate
+.PHONY: example build tour install bench images gate
 
 # A run by `rt try` is given copies of these, since it sees no files but those that it is handed.
 FILES := time.grf part.grf text.txt alphabet.txt
@@ -52,6 +53,9 @@ bench:
 	@bench/contexts.py
 	@bench/concord.py
 	@bench/images.py
+
+images:
+	@bench/image_bytes.py
 
 gate:
 	@rt ci

@@ -1,5 +1,5 @@
 -- The tables that the dictionaries give for a text belong to it.
-use Rattle.std.proofs.Common.{arith, ◌≡◌, ◌⊎◌, ℕ, zero, suc, ◌+◌, ◌<◌, ◌≤◌, List, [], ◌∷◌, ◌++◌, append-nil, length, map, refl, sym, ◌∙◌, ap, subst, inl, inr}
+use Rattle.std.proofs.Common.{arith, ◌≡◌, ◌⊎◌, ℕ, zero, suc, ◌+◌, ◌<◌, ◌≤◌, List, [], ◌∷◌, ◌++◌, append-nil, append_assoc, length, map, refl, sym, ◌∙◌, ap, subst, inl, inr}
 use Rattle.std.specs.Prelude.{Option, Some, None, All, AllPairs, IsSomeAnd, slice_get}
 use Rattle.std.proofs.lemmas.List.Elements.{All-append, All-contains, All-map, All-weaker}
 use Rattle.std.proofs.lemmas.Option.{same_Some}
@@ -10,10 +10,11 @@ use Rattle.ux_tokens.specs.declared.kind.Kind.{Kind}
 use Rattle.ux_tokens.specs.declared.kind.Kind.TheVariants.{Word, Space, Other, Sentence, Stop, Tag}
 use Rattle.ux_tokens.specs.Tokens.{Token}
 use Rattle.ux_apply.specs.declared.priority.Priority.{Priority}
-use Rattle.ux_apply.specs.Applying.{AreApplying, high, normal, low}
+use Rattle.ux_apply.specs.Applying.{AreApplying, AreOfFirst, priorities}
 use Rattle.ux_apply.specs.Belonging.{Belongs, MayHaveSimple, StandsOn}
 use Rattle.ux_apply.specs.Spans.{IsSpan, MayBound, MayStand}
-use Rattle.ux_apply.specs.Tables.{Tables, AreApplied, AreCompoundUpTo, AreOfSpan, AreOwnCompound, AreSimpleOf, IsOwnCompound, IsOwnSimple, IsSimpleForm, more, start}
+use Rattle.ux_apply.specs.Tables.{Tables, AreApplied, AreCompoundUpTo, AreOfSpan, AreOwnCompound, AreSimpleOf, IsOwnCompound, IsOwnSimple, IsSimpleForm, with_lasts}
+use Rattle.ux_apply.proofs.CompoundLemmas.{marked, with_lasts-none}
 use Rattle.ux_apply.proofs.LetterLemmas.{IsSettled, settled_below, settled_implies, settled_le, simple_settled}
 use Rattle.ux_apply.proofs.PairsLemmas.{pairs_append, pairs_map, pairs_short}
 use Rattle.ux_apply.proofs.ZipLemmas.{zip-at, zip-back, zip-length}
@@ -74,9 +75,14 @@ module _ (tokens : List Token) (first last : ℕ) where
 -- entries that apply stand once
 applying_once : (alphabet : Letters) (dics : List (Priority × List Entry)) (text : List ℕ)
     (row : List Entry) → AreApplying alphabet dics text row → AllPairs (λ a b. a ≡ b → ⊥) row
-applying_once alphabet dics text row (high found some) = found.once.once
-applying_once alphabet dics text row (normal none found some) = found.once.once
-applying_once alphabet dics text row (low none neither found) = found.once.once
+applying_once alphabet dics text row are = go priorities are
+  where
+    go : (priorities : List Priority) → AreOfFirst alphabet dics text priorities row →
+        AllPairs (λ a b. a ≡ b → ⊥) row
+    go [] none =
+        pairs_short (λ a b. a ≡ b → ⊥) row (omega (arith, ap (λ (l : List Entry). length l) none))
+    go (priority ∷ lower) (inl found) = found.0.once.once
+    go (priority ∷ lower) (inr neither) = go lower neither.1
 
 -- an own entry stands alone
 own_short : (alphabet : Letters) (text : List ℕ) (row : List Entry) →
@@ -238,28 +244,57 @@ module _ (alphabet : Letters) (dics : List (Priority × List Entry)) (tokens : L
                 (across NotBefore (λ a b below is less. omega (arith, below, is, less)));
           }
 
+  -- the members of the spans with these last tokens stand behind
+  spans_members : (spans : List (List Entry)) (last : ℕ) (row : List (ℕ × Entry)) →
+      AreMembers tokens first last row →
+      ((i : ℕ) (found : List Entry) → slice_get spans i ≡ Some found →
+      AreOfSpan alphabet dics tokens first (last + i) found) →
+      AreMembers tokens first (last + length spans) (row ++ with_lasts last spans)
+  spans_members [] last row before of =
+      let end : last ≡ last + 0 = omega arith in
+      subst (λ (n : ℕ). AreMembers tokens first n (row ++ [])) end
+      (subst (AreMembers tokens first last) (sym (append-nil row)) before)
+  spans_members (found ∷ spans) last row before of =
+      let at : last + 0 ≡ last = omega arith in
+      let end : last + 1 + length spans ≡ last + length (found ∷ spans) = omega arith in
+      let here = more_members last row found before
+      (subst (λ (n : ℕ). AreOfSpan alphabet dics tokens first n found) at (of 0 found refl)) in
+      let all = spans_members spans (last + 1) (row ++ marked last found) here
+      (λ i later there.
+      let place : last + suc i ≡ last + 1 + i = omega arith in
+      subst (λ (n : ℕ). AreOfSpan alphabet dics tokens first n later) place
+      (of (suc i) later there)) in
+      subst (λ (n : ℕ). AreMembers tokens first n
+      (row ++ (marked last found ++ with_lasts (last + 1) spans))) end
+      (subst (AreMembers tokens first (last + 1 + length spans))
+      (append_assoc row (marked last found) (with_lasts (last + 1) spans)) all)
+
   -- the members of a row
   members : {end : ℕ} {row : List (ℕ × Entry)} →
       AreCompoundUpTo alphabet dics tokens first end row → AreMembers tokens first end row
-  members (start row own) = start_members row (slice_get tokens first) refl own
-  members (more last row found before of) = more_members last row found (members before) of
+  members {row = row} are =
+      subst (λ (n : ℕ). AreMembers tokens first n row) are.up_to
+      (subst (AreMembers tokens first (first + 1 + length are.spans)) (sym are.row_is)
+      (spans_members are.spans (first + 1) are.own
+      (start_members are.own (slice_get tokens first) refl are.of_token) are.of_spans))
 
   -- a tag's row has its own entry alone
   own_row_of : {end : ℕ} {row : List (ℕ × Entry)} (token : Token) →
       slice_get tokens first ≡ Some token → token.kind ≡ Tag →
       AreCompoundUpTo alphabet dics tokens first end row →
       IsOwnCompound alphabet token.text first row
-  own_row_of token at tag (start row own) =
-      subst (λ (kind : Kind). AreOwnCompound alphabet kind token.text first row) tag
+  own_row_of {row = row} token at tag are =
+      let own : IsOwnCompound alphabet token.text first are.own =
+      subst (λ (kind : Kind). AreOwnCompound alphabet kind token.text first are.own) tag
       (subst
-      (λ (o : Option Token). IsSomeAnd o (λ t. AreOwnCompound alphabet t.kind t.text first row))
-      at own)
-  own_row_of token at tag (more last row found before of) =
-      let none = of.none (λ span. no_bound span.begins) in
-      let same : row ++ map (λ (entry : Entry). (last, entry)) found ≡ row =
-      ap (λ (l : List Entry). row ++ map (λ entry. (last, entry)) l) none ∙ append-nil row in
-      subst (IsOwnCompound alphabet token.text first) (sym same)
-      (own_row_of token at tag before)
+      (λ (o : Option Token). IsSomeAnd o (λ t. AreOwnCompound alphabet t.kind t.text first are.own))
+      at are.of_token) in
+      let none = with_lasts-none (first + 1) are.spans
+      (λ i found there. (are.of_spans i found there).none (λ span. no_bound span.begins)) in
+      let same : are.own ≡ row =
+      sym (append-nil are.own)
+      ∙ (ap (λ (l : List (ℕ × Entry)). are.own ++ l) (sym none) ∙ sym are.row_is) in
+      subst (IsOwnCompound alphabet token.text first) same own
     where
       no_bound : IsSomeAnd (slice_get tokens first) (λ t. MayBound t.kind) → ⊥
       no_bound may =

@@ -6,6 +6,7 @@ pub mod CursorLemmas
 pub mod OnceLemmas
 pub mod NothingLemmas
 pub mod FirstLemmas
+pub mod CompoundLemmas
 pub mod OwnLemmas
 pub mod SpanLemmas
 pub mod StartLemmas

@@ -1,5 +1,5 @@
 -- Where no form begins with characters that fit a text, no entry applies to it or to a longer one.
-use Rattle.std.proofs.Common.{arith, ℕ, Bool, true, false, cond, List, [], ◌∷◌, ◌++◌, get_or, subst}
+use Rattle.std.proofs.Common.{arith, ℕ, Bool, true, false, cond, List, [], ◌∷◌, ◌++◌, append-nil, get_or, inr, refl, subst}
 use Rattle.std.specs.Prelude.{All, IsUtf8}
 use Rattle.std.specs.List.{AllZip}
 use Rattle.std.specs.Str.{chars}
@@ -11,7 +11,7 @@ use Rattle.ux_dela.specs.declared.entry.Entry.{Entry}
 use Rattle.ux_dict.specs.Forms.{FitsForm, BeginsFitting, MayBegin, IsChosen, none, kept, left, IsFitting}
 use Rattle.ux_apply.specs.declared.priority.Priority.{Priority}
 use Rattle.ux_apply.specs.declared.priority.Priority.TheVariants.{High, Normal, Low}
-use Rattle.ux_apply.specs.Applying.{AreFound, AreApplying, low, content_at, is_same}
+use Rattle.ux_apply.specs.Applying.{AreFound, AreApplying, content_at, is_same}
 use Rattle.ux_apply.specs.Kept.{NoneBegins}
 use Rattle.ux_apply.proofs.OnceLemmas.{once-short}
 use Rattle.ux_apply.proofs.ZipLemmas.{zip-split}
@@ -71,7 +71,8 @@ module _ (alphabet : Letters) (text : List ℕ) where
     -- so no entry applies
     pub nothing-applies : (dics : List (Priority × List Entry)) → NoneBegins alphabet dics text →
         AreApplying alphabet dics (text ++ rest) []
-    nothing-applies dics begin = low (found High) (found Normal) (found Low)
+    nothing-applies dics begin =
+        inr (found High, inr (found Normal, inr (found Low, refl)))
       where
         found : (priority : Priority) → AreFound alphabet dics (text ++ rest) priority []
         found priority = record {
@@ -79,3 +80,10 @@ module _ (alphabet : Letters) (text : List ℕ) where
           fit = none-at priority dics begin;
           once = once-short [] (omega arith);
         }
+
+  -- and none applies to the text itself
+  pub nothing-there : IsUtf8 text → (dics : List (Priority × List Entry)) →
+      NoneBegins alphabet dics text → AreApplying alphabet dics text []
+  nothing-there utf8 dics begin =
+      subst (λ (t : List ℕ). AreApplying alphabet dics t []) (append-nil text)
+      (nothing-applies utf8 [] dics begin)

@@ -1,5 +1,5 @@
 -- A text and dictionaries have one table of applied entries. Public: crates above may cite it.
-use Rattle.std.proofs.Common.{arith, ◌≡◌, ◌≢◌, ℕ, suc, ◌+◌, ◌<◌, List, [], ◌∷◌, ◌++◌, length, map, refl, sym, ◌∙◌, ap, subst, inl, inr}
+use Rattle.std.proofs.Common.{arith, ◌≡◌, ℕ, suc, ◌+◌, ◌<◌, List, [], ◌∷◌, ◌++◌, length, refl, sym, ◌∙◌, ap, subst, inl, inr}
 use Rattle.std.specs.Prelude.{Option, None, Some, Contains, IsSomeAnd, slice_get}
 use Rattle.std.specs.List.{AllZip}
 use Rattle.std.proofs.lemmas.List.Kept.{AllPairs-from_increasing}
@@ -13,10 +13,9 @@ use Rattle.ux_tokens.specs.declared.kind.Kind.{Kind}
 use Rattle.ux_tokens.specs.declared.kind.Kind.TheVariants.{Word, Space, Other, Sentence, Stop, Tag}
 use Rattle.ux_tokens.specs.Tokens.{Token}
 use Rattle.ux_apply.specs.declared.priority.Priority.{Priority}
-use Rattle.ux_apply.specs.declared.priority.Priority.TheVariants.{High, Normal, Low}
-use Rattle.ux_apply.specs.Applying.{AreApplying, AreFound, high, normal, low}
+use Rattle.ux_apply.specs.Applying.{AreApplying, AreFound, AreOfFirst, priorities}
 use Rattle.ux_apply.specs.Spans.{text_of}
-use Rattle.ux_apply.specs.Tables.{Tables, AreApplied, AreCompoundUpTo, AreCompounds, AreOfSpan, AreOwnCompound, AreSimpleOf, AreUnknown, IsOwnCompound, IsSimpleForm, more, start}
+use Rattle.ux_apply.specs.Tables.{Tables, AreApplied, AreCompoundUpTo, AreCompounds, AreOfSpan, AreOwnCompound, AreSimpleOf, AreUnknown, IsOwnCompound, IsSimpleForm, with_lasts}
 use Rattle.ux_apply.proofs.BelongingLemmas.{span_settled}
 use Rattle.ux_apply.proofs.EqualRowLemmas.{one_own, one_tag}
 use Rattle.ux_apply.proofs.LetterLemmas.{IsSettled, simple_settled}
@@ -85,25 +84,20 @@ module _ (alphabet : Letters) (dics : List (Priority × List Entry)) (text : Lis
   one_found priority x y a b = one_different a.fitting x y a.once
       (subst (λ (l : List Entry). AreDifferent l y) (one_chosen b.fit a.fit) b.once)
 
+  one_of_first : (priorities : List Priority) (x y : List Entry) →
+      AreOfFirst alphabet dics text priorities x → AreOfFirst alphabet dics text priorities y → x ≡ y
+  one_of_first [] x y a b = a ∙ sym b
+  one_of_first (priority ∷ lower) x y (inl a) (inl b) = one_found priority x y a.0 b.0
+  one_of_first (priority ∷ lower) x y (inl a) (inr b) =
+      absurd (a.1 (one_found priority x [] a.0 b.0))
+  one_of_first (priority ∷ lower) x y (inr a) (inl b) =
+      absurd (b.1 (one_found priority y [] b.0 a.0))
+  one_of_first (priority ∷ lower) x y (inr a) (inr b) = one_of_first lower x y a.1 b.1
+
   -- a text has one list of entries that apply to it
   pub one_applying : {x y : List Entry} → AreApplying alphabet dics text x →
       AreApplying alphabet dics text y → x ≡ y
-  one_applying {x = x} {y = y} (high a some) (high b other) = one_found High x y a b
-  one_applying {x = x} {y = y} (high a some) (normal above b other) =
-      absurd (some (one_found High x [] a above))
-  one_applying {x = x} {y = y} (high a some) (low above next b) =
-      absurd (some (one_found High x [] a above))
-  one_applying {x = x} {y = y} (normal above a some) (high b other) =
-      absurd (other (one_found High y [] b above))
-  one_applying {x = x} {y = y} (normal above a some) (normal higher b other) =
-      one_found Normal x y a b
-  one_applying {x = x} {y = y} (normal above a some) (low higher next b) =
-      absurd (some (one_found Normal x [] a next))
-  one_applying {x = x} {y = y} (low above next a) (high b other) =
-      absurd (other (one_found High y [] b above))
-  one_applying {x = x} {y = y} (low above next a) (normal higher b other) =
-      absurd (other (one_found Normal y [] b next))
-  one_applying {x = x} {y = y} (low above next a) (low higher also b) = one_found Low x y a b
+  one_applying {x = x} {y = y} a b = one_of_first priorities x y a b
 
 -- ROWS
 
@@ -162,36 +156,23 @@ module _ (alphabet : Letters) (dics : List (Priority × List Entry)) where
       | inr isnt ↦ a.none isnt ∙ sym (b.none isnt)
     ]
 
-    ends_behind : {end : ℕ} {row : List (ℕ × Entry)} →
-        AreCompoundUpTo alphabet dics tokens first end row → first < end
-    ends_behind (start row own) = omega arith
-    ends_behind (more last row entries before of) =
-        let behind = ends_behind before in omega (arith, behind)
-
     -- a token has one row of compound entries up to a place
-    one_row : {e f : ℕ} {x y : List (ℕ × Entry)} →
-        AreCompoundUpTo alphabet dics tokens first e x →
-        AreCompoundUpTo alphabet dics tokens first f y → e ≡ f → x ≡ y
-    one_row (start x own) (start y also) is =
-        one_of_token alphabet first (slice_get tokens first) x y own also
-    one_row (start x own) (more last y entries before of) is =
-        let behind = ends_behind before in absurd (omega (arith, behind, is))
-    one_row (more last x entries before of) (start y own) is =
-        let behind = ends_behind before in absurd (omega (arith, behind, is))
-    one_row (more last x entries before of) (more other y others earlier also) is =
-        let same : last ≡ other = omega (arith, is) in
-        ap (λ (l : List (ℕ × Entry)). l ++ map (λ (e : Entry). (last, e)) entries)
-        (one_row before earlier same)
-        ∙ (ap (λ (n : ℕ). y ++ map (λ (e : Entry). (n, e)) entries) same
-        ∙ ap (λ (l : List Entry). y ++ map (λ (e : Entry). (other, e)) l)
-        (one_of_span other entries others
-        (subst (λ n. AreOfSpan alphabet dics tokens first n entries) same of) also))
+    one_row : {end : ℕ} {x y : List (ℕ × Entry)} →
+        AreCompoundUpTo alphabet dics tokens first end x →
+        AreCompoundUpTo alphabet dics tokens first end y → x ≡ y
+    one_row a b =
+        let own : a.own ≡ b.own =
+        one_of_token alphabet first (slice_get tokens first) a.own b.own a.of_token b.of_token in
+        let spans : a.spans ≡ b.spans =
+        by_places a.spans b.spans (omega (arith, a.up_to, b.up_to))
+        (λ i x y at also. one_of_span (first + 1 + i) x y (a.of_spans i x at) (b.of_spans i y also)) in
+        a.row_is ∙ ((λ i. own i ++ with_lasts (first + 1) (spans i)) ∙ sym b.row_is)
 
   module _ (tokens : List Token) where
     one_compounds : (x y : List (List (ℕ × Entry))) → AreCompounds alphabet dics tokens x →
         AreCompounds alphabet dics tokens y → x ≡ y
     one_compounds x y a b = by_places x y (a.each_token ∙ sym b.each_token)
-        (λ i row other at also. one_row tokens i (a.each i row at) (b.each i other also) refl)
+        (λ i row other at also. one_row tokens i (a.each i row at) (b.each i other also))
 
     one_unknown : (simple : List (List Entry)) (x y : List ℕ) → AreUnknown tokens simple x →
         AreUnknown tokens simple y → x ≡ y

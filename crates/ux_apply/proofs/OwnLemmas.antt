@@ -7,10 +7,11 @@ use Rattle.ux_tokens.specs.declared.kind.Kind.{Kind}
 use Rattle.ux_tokens.specs.declared.kind.Kind.TheVariants.{Word, Space, Other, Sentence, Stop, Tag}
 use Rattle.ux_tokens.specs.Tokens.{IsTag, Token}
 use Rattle.ux_apply.specs.Kept.{IsOwnRow}
+use Rattle.ux_apply.proofs.CompoundLemmas.{row-own}
 use Rattle.ux_apply.proofs.SpanLemmas.{none-unbounded, row-whole}
 use Rattle.ux_apply.specs.declared.priority.Priority.{Priority}
 use Rattle.ux_apply.specs.Spans.{MayBound}
-use Rattle.ux_apply.specs.Tables.{AreCompoundUpTo, AreOwnCompound, AreOwnSimple, AreSimpleOf, IsCompoundRow, IsSimpleForm, start}
+use Rattle.ux_apply.specs.Tables.{AreCompoundUpTo, AreOwnCompound, AreOwnSimple, AreSimpleOf, IsCompoundRow, IsSimpleForm}
 
 -- a token of another kind has no compound entry
 no_compound : (alphabet : Letters) (kind : Kind) (text : List ℕ) (place : ℕ) → (kind ≢ Tag) →
@@ -48,7 +49,7 @@ module _ (alphabet : Letters) (dics : List (Priority × List Entry)) (tokens : L
   -- so the row of another token begins with nothing
   pub start-other : IsSomeAnd (slice_get tokens first) (λ token. token.kind ≢ Tag) →
       AreCompoundUpTo alphabet dics tokens first (first + 1) []
-  start-other other = start [] (go (slice_get tokens first) other)
+  start-other other = row-own alphabet dics tokens first [] (go (slice_get tokens first) other)
     where
       go : (o : Option Token) → IsSomeAnd o (λ token. token.kind ≢ Tag) →
           IsSomeAnd o (λ token. AreOwnCompound alphabet token.kind token.text first [])
@@ -74,7 +75,7 @@ module _ (alphabet : Letters) (dics : List (Priority × List Entry)) (tokens : L
   own-row entry lt tag (Err e) letters others = tt
   own-row entry lt tag (Ok row) letters others =
       row-whole alphabet dics tokens first (first + 1) row.items (omega (arith, lt))
-      (start row.items (own (slice_get tokens first) tag))
+      (row-own alphabet dics tokens first row.items (own (slice_get tokens first) tag))
       (none-unbounded alphabet dics tokens first Tag (kind (slice_get tokens first) tag) (λ may. may))
     where
       own : (o : Option Token) → IsSomeAnd o (λ t. (t.kind ≡ Tag) × IsTag t.text entry) →

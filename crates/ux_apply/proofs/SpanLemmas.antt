@@ -11,8 +11,9 @@ use Rattle.ux_tokens.specs.Tokens.{Token, joined}
 use Rattle.ux_apply.specs.declared.priority.Priority.{Priority}
 use Rattle.ux_apply.specs.Applying.{AreApplying}
 use Rattle.ux_apply.specs.Spans.{IsSpan, MayBound, MayStand, text_of}
-use Rattle.ux_apply.specs.Tables.{AreOfSpan, AreCompoundUpTo, more}
+use Rattle.ux_apply.specs.Tables.{AreOfSpan, AreCompoundUpTo}
 use Rattle.ux_apply.specs.Kept.{HaveNone, IsFront, NoneBegins}
+use Rattle.ux_apply.proofs.CompoundLemmas.{row-more}
 use Rattle.ux_apply.proofs.NothingLemmas.{nothing-applies}
 
 -- what is known of a token's kind
@@ -206,7 +207,8 @@ module _ (alphabet : Letters) (dics : List (Priority × List Entry)) (tokens : L
       let end : last + n + 1 ≡ last + suc n = omega arith in
       subst (λ (k : ℕ). AreCompoundUpTo alphabet dics tokens first k row) end
       (subst (AreCompoundUpTo alphabet dics tokens first (last + n + 1)) same
-      (more (last + n) row [] before (nothing (last + n) (omega arith))))
+      (row-more alphabet dics tokens first (last + n) row [] before
+      (nothing (last + n) (omega arith))))
 
   pub row-whole : (last : ℕ) (row : List (ℕ × Entry)) → last ≤ length tokens →
       AreCompoundUpTo alphabet dics tokens first last row → HaveNone alphabet dics tokens first last →

@@ -12,8 +12,9 @@ use Rattle.ux_apply.specs.declared.priority.Priority.{Priority}
 use Rattle.ux_apply.specs.declared.starts.Start.{Start}
 use Rattle.ux_apply.specs.declared.starts.Start.TheVariants.{Never, Unspaced, Spaced}
 use Rattle.ux_apply.specs.Spans.{MayBound, text_of}
-use Rattle.ux_apply.specs.Tables.{AreCompoundUpTo, more}
+use Rattle.ux_apply.specs.Tables.{AreCompoundUpTo}
 use Rattle.ux_apply.specs.Kept.{HaveNone, IsFront, IsNearestLast, IsOver, IsSpaceAt, IsStart}
+use Rattle.ux_apply.proofs.CompoundLemmas.{row-more}
 use Rattle.ux_apply.proofs.OwnLemmas.{start-bound}
 use Rattle.ux_apply.proofs.SpanLemmas.{front-more, front-start, none-begins, none-first, none-here}
 use Rattle.ux_apply.proofs.ZipLemmas.{zip-at}
@@ -94,7 +95,7 @@ module _ (alphabet : Letters) (dics : List (Priority × List Entry)) (tokens : L
   row-start nearest bound (inr behind) =
       let end : first + 1 + 1 ≡ nearest = omega (arith, behind.0) in
       subst (λ (k : ℕ). AreCompoundUpTo alphabet dics tokens first k []) end
-      (more (first + 1) [] [] (start-bound alphabet dics tokens first bound)
+      (row-more alphabet dics tokens first (first + 1) [] [] (start-bound alphabet dics tokens first bound)
       (none-here alphabet dics tokens first (first + 1) Space
       (space_kind (slice_get tokens (first + 1)) behind.1) (λ may. may)))
 

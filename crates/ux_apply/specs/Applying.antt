@@ -1,6 +1,6 @@
 -- Which entries apply to one text, by the priorities of the dictionaries. The manual, on applying
 -- dictionaries. Public: the crate's public contracts speak of it.
-use Rattle.std.specs.Prelude.{◌≢◌, ℕ, Bool, true, false, cond, List, [], ◌∷◌, ◌++◌, map}
+use Rattle.std.specs.Prelude.{◌≡◌, ◌≢◌, ◌⊎◌, ℕ, Bool, true, false, cond, List, [], ◌∷◌, ◌++◌, map}
 use Rattle.ux_alphabet.specs.Letters.{Letters}
 use Rattle.ux_dela.specs.declared.entry.Entry.{Entry}
 use Rattle.ux_dict.specs.Content.{AreDifferent}
@@ -38,13 +38,18 @@ pub record AreFound (alphabet : Letters) (dics : List (Priority × List Entry)) 
   pub fit : IsFitting alphabet text (content_at priority dics) fitting
   pub once : AreDifferent fitting entries
 
--- the entries that apply to the text are those of the highest priority that has any
-pub data AreApplying (alphabet : Letters) (dics : List (Priority × List Entry)) (text : List ℕ) :
-    (entries : List Entry) → Type 0 where
-  high : {entries : List Entry} → AreFound alphabet dics text High entries → entries ≢ [] →
-      AreApplying alphabet dics text entries
-  normal : {entries : List Entry} → AreFound alphabet dics text High [] →
-      AreFound alphabet dics text Normal entries → entries ≢ [] → AreApplying alphabet dics text entries
-  low : {entries : List Entry} → AreFound alphabet dics text High [] →
-      AreFound alphabet dics text Normal [] → AreFound alphabet dics text Low entries →
-      AreApplying alphabet dics text entries
+-- the priorities, the highest first
+abbrev pub priorities : List Priority
+priorities = High ∷ (Normal ∷ (Low ∷ []))
+
+module _ (alphabet : Letters) (dics : List (Priority × List Entry)) (text : List ℕ) where
+  -- the entries are those found at the first of the priorities at which any are
+  abbrev pub AreOfFirst : List Priority → List Entry → Type 0
+  AreOfFirst [] entries = entries ≡ []
+  AreOfFirst (priority ∷ lower) entries =
+      (AreFound alphabet dics text priority entries × (entries ≢ []))
+      ⊎ (AreFound alphabet dics text priority [] × AreOfFirst lower entries)
+
+  -- the entries that apply to the text are those of the highest priority that has any
+  abbrev pub AreApplying : List Entry → Type 0
+  AreApplying entries = AreOfFirst priorities entries

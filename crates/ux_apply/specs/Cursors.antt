@@ -19,8 +19,8 @@ pub record AreReachedBy (alphabet : Letters) (dics : List (Priority × List Entr
   pub utf8 : IsUtf8 text
   pub each : AllZip (IsCursor alphabet text) dics cursors
 
--- it is so of each text that leads to the cursors
-abbrev pub WhereLed : List Cursor →
-    (Letters → List (Priority × List Entry) → List ℕ → Type 0) → Type 0
-WhereLed cursors IsSo = (alphabet : Letters) (dics : List (Priority × List Entry))
-    (text : List ℕ) → AreReachedBy alphabet dics text cursors → IsSo alphabet dics text
+-- it is so of all dictionaries in which the text leads to the cursors, by any alphabet
+abbrev pub WhereLed : (text : List ℕ) → List Cursor →
+    (Letters → List (Priority × List Entry) → Type 0) → Type 0
+WhereLed text cursors IsSo = (alphabet : Letters) (dics : List (Priority × List Entry)) →
+    AreReachedBy alphabet dics text cursors → IsSo alphabet dics

@@ -73,6 +73,13 @@ module _ (alphabet : Letters) (dics : List (Priority × List Entry)) where
   abbrev pub AreSimple : List Token → List (List Entry) → Type 0
   AreSimple tokens rows = AllZip (λ token entries. AreSimpleOf token.kind token.text entries) tokens rows
 
+-- each entry with the last token of its span: those of the first list have this one, those of the
+-- second list the next one, and so on
+abbrev pub with_lasts : (last : ℕ) (spans : List (List Entry)) → List (ℕ × Entry)
+with_lasts last [] = []
+with_lasts last (entries ∷ spans) =
+    map (λ entry. (last, entry)) entries ++ with_lasts (last + 1) spans
+
 module _ (alphabet : Letters) (dics : List (Priority × List Entry)) (tokens : List Token)
     (first : ℕ) where
   -- a span has the entries that apply to its text, and other neighbouring tokens have none
@@ -81,15 +88,17 @@ module _ (alphabet : Letters) (dics : List (Priority × List Entry)) (tokens : L
         AreApplying alphabet dics (text_of tokens first last) entries
     pub none : (IsSpan tokens first last → ⊥) → entries ≡ []
 
-  -- the row has the token's own compound entry, and those of all spans that begin there, have two
-  -- or more tokens and end before a place, in order of last token
-  pub data AreCompoundUpTo : (end : ℕ) (row : List (ℕ × Entry)) → Type 0 where
-    start : (row : List (ℕ × Entry)) → IsSomeAnd (slice_get tokens first)
-        (λ token. AreOwnCompound alphabet token.kind token.text first row) →
-        AreCompoundUpTo (first + 1) row
-    more : (last : ℕ) (row : List (ℕ × Entry)) (entries : List Entry) →
-        AreCompoundUpTo last row → AreOfSpan last entries →
-        AreCompoundUpTo (last + 1) (row ++ map (λ entry. (last, entry)) entries)
+  -- the row has the token's own compound entry, and then the entries of the longer spans that begin
+  -- there: one list for each later token as the last one, as far as an end
+  pub record AreCompoundUpTo (end : ℕ) (row : List (ℕ × Entry)) : Type 0 where
+    pub own : List (ℕ × Entry)
+    pub spans : List (List Entry)
+    pub of_token : IsSomeAnd (slice_get tokens first)
+        (λ token. AreOwnCompound alphabet token.kind token.text first own)
+    pub of_spans : (i : ℕ) (entries : List Entry) → slice_get spans i ≡ Some entries →
+        AreOfSpan (first + 1 + i) entries
+    pub up_to : first + 1 + length spans ≡ end
+    pub row_is : row ≡ own ++ with_lasts (first + 1) spans
 
 module _ (alphabet : Letters) (dics : List (Priority × List Entry)) (tokens : List Token) where
   -- the row has the compound entries that begin at a token

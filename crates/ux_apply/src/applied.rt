@@ -14,7 +14,7 @@ ghost use Rattle.std.specs.List.Sorted.{IsStrictlyIncreasing};
 
 use crate::compounds::{Rows, compounds};
 use crate::ends::accepted;
-use crate::numbered::{entries_by_number, first_places, starts_by_number, word_numbers};
+use crate::numbered::{ask_each, first_places, word_numbers};
 use crate::priority::Priority;
 use crate::tagged::{Tagged, own_at, tagged};
 use crate::unknown::{row_of_number, unknown_numbers};
@@ -69,15 +69,14 @@ impl Applied {
         ensures belongs { IfOk result (Belongs alphabet.now text.now) }
     {
         let places = first_places(alloc, text)?;
-        let entries = entries_by_number(alloc, text, &places, alphabet, dics)?;
-        let starts = starts_by_number(alloc, text, &places, alphabet, dics)?;
-        let compounds = compounds(alloc, text, &starts, alphabet, dics)?;
+        let asked = ask_each(alloc, text, &places, alphabet, dics)?;
+        let compounds = compounds(alloc, text, &asked.starts, alphabet, dics)?;
         let words = word_numbers(alloc, text)?;
         let tags = tagged(alloc, text, alphabet)?;
-        let unknown = unknown_numbers(alloc, &words, &entries)?;
+        let unknown = unknown_numbers(alloc, &words, &asked.entries)?;
         Ok(Applied {
             words,
-            entries,
+            entries: asked.entries,
             tags,
             compounds,
             unknown,

@@ -1,97 +1,91 @@
 //! The entries that apply to one text.
 
-ghost use Rattle.std.specs.Prelude.{ℕ, List, All, IfOk, OnOk};
+ghost use Rattle.std.specs.Prelude.{List, All, IfOk, OnOk};
 ghost use Rattle.ux_alphabet.specs.Letters.{Letters};
 ghost use Rattle.ux_dela.specs.Sound.{IsSound};
 ghost use Rattle.ux_dela.specs.declared.entry.Entry.{Entry};
 ghost use Rattle.ux_dict.specs.Content.{AreDifferent};
 ghost use Rattle.ux_dict.specs.Forms.{IsFitting};
 ghost use Rattle.ux_lexicon.specs.Reached.{IsReachedBy};
-ghost use Rattle.ux_apply.specs.Applying.{AreApplying, AreFound, content_at, contents};
+ghost use Rattle.ux_apply.specs.Applying.{AreApplying, AreFound, content_at};
 ghost use Rattle.ux_apply.specs.Cursors.{WhereLed};
 ghost use Rattle.ux_apply.specs.Kept.{AreAdded};
 
-use crate::cursors::{Cursor, reach};
+use crate::cursors::Cursor;
 use crate::priority::Priority;
 use std::alloc::Global;
-use ux_alphabet::Alphabet;
 use ux_base::Mem;
 use ux_dela::Entry;
 use ux_dict::different;
-use ux_lexicon::{Lexicon, Reached};
+use ux_lexicon::Reached;
 
-/// The entries that apply to the text. Takes one look-up a dictionary.
-pub(crate) fn applying<L: Lexicon>(
-    alloc: Global,
-    text: &str,
-    alphabet: &Alphabet,
-    dics: &[(Priority, L)],
-) -> Mem<Vec<Entry>>
-    ensures applies { IfOk result (λ entries.
-        AreApplying alphabet.now (contents L.content dics.now) text.now entries.items) }
-    ensures sound { IfOk result (λ entries. All IsSound entries.items) }
-{
-    let cursors = reach(alloc, text, alphabet, dics)?;
-    applying_there(alloc, &cursors)
-}
-
-/// The entries that apply to the text that led to the cursors: those of the highest priority of
+/// The entries that apply to the text, which led to the cursors: those of the highest priority of
 /// which some dictionary has any. Takes no memory where no form ends.
-pub(crate) fn applying_there(alloc: Global, cursors: &[Cursor<'_>]) -> Mem<Vec<Entry>>
-    ensures applies { IfOk result (λ entries. WhereLed cursors.now
-        (λ alphabet dics text. AreApplying alphabet dics text entries.items)) }
-    ensures sound { IfOk result (λ entries. WhereLed cursors.now
-        (λ _ _ _. All IsSound entries.items)) }
+pub(crate) fn applying_there(alloc: Global, cursors: &[Cursor<'_>], text: &str) -> Mem<Vec<Entry>>
+    ensures applies { IfOk result (λ entries. WhereLed text.now cursors.now
+        (λ alphabet dics. AreApplying alphabet dics text.now entries.items)) }
+    ensures sound { IfOk result (λ entries. WhereLed text.now cursors.now
+        (λ _ _. All IsSound entries.items)) }
 {
-    let high = found(alloc, cursors, Priority::High)?;
+    let high = found(alloc, cursors, text, Priority::High)?;
     if !high.is_empty() {
         return Ok(high);
     }
-    let normal = found(alloc, cursors, Priority::Normal)?;
+    let normal = found(alloc, cursors, text, Priority::Normal)?;
     if !normal.is_empty() {
         return Ok(normal);
     }
-    found(alloc, cursors, Priority::Low)
+    found(alloc, cursors, text, Priority::Low)
 }
 
 /// The entries that dictionaries of one priority have for the text, each once.
-fn found(alloc: Global, cursors: &[Cursor<'_>], priority: Priority) -> Mem<Vec<Entry>>
-    ensures found { IfOk result (λ entries. WhereLed cursors.now
-        (λ alphabet dics text. AreFound alphabet dics text priority entries.items)) }
-    ensures sound { IfOk result (λ entries. WhereLed cursors.now
-        (λ _ _ _. All IsSound entries.items)) }
+fn found(alloc: Global, cursors: &[Cursor<'_>], text: &str, priority: Priority) -> Mem<Vec<Entry>>
+    ensures found { IfOk result (λ entries. WhereLed text.now cursors.now
+        (λ alphabet dics. AreFound alphabet dics text.now priority entries.items)) }
+    ensures sound { IfOk result (λ entries. WhereLed text.now cursors.now
+        (λ _ _. All IsSound entries.items)) }
 {
-    let fitting = fitting_entries(alloc, cursors, priority)?;
+    let fitting = fitting_entries(alloc, cursors, text, priority)?;
     each_once(alloc, fitting)
 }
 
 /// The entries of all dictionaries of one priority that fit the text, one dictionary after the
 /// other.
-fn fitting_entries(alloc: Global, cursors: &[Cursor<'_>], priority: Priority) -> Mem<Vec<Entry>>
-    ensures fitting { IfOk result (λ entries. WhereLed cursors.now (λ alphabet dics text.
-        IsFitting alphabet text (content_at priority dics) entries.items)) }
-    ensures sound { IfOk result (λ entries. WhereLed cursors.now
-        (λ _ _ _. All IsSound entries.items)) }
+fn fitting_entries(
+    alloc: Global,
+    cursors: &[Cursor<'_>],
+    text: &str,
+    priority: Priority,
+) -> Mem<Vec<Entry>>
+    ensures fitting { IfOk result (λ entries. WhereLed text.now cursors.now (λ alphabet dics.
+        IsFitting alphabet text.now (content_at priority dics) entries.items)) }
+    ensures sound { IfOk result (λ entries. WhereLed text.now cursors.now
+        (λ _ _. All IsSound entries.items)) }
 {
     let mut entries = Vec::new(alloc);
     for cursor in cursors {
         if cursor.priority.is(priority) {
-            push_ending(&mut entries, alloc, &cursor.reached)?;
+            push_ending(&mut entries, alloc, &cursor.reached, text)?;
         }
     }
     Ok(entries)
 }
 
-/// Puts the entries of a dictionary last that fit the text that led to the place.
-fn push_ending(entries: &mut Vec<Entry>, alloc: Global, reached: &Reached<'_>) -> Mem<()>
-    ensures added { OnOk result ((alphabet : Letters) (content : List Entry) (text : List ℕ) →
-        IsReachedBy alphabet content text reached.now →
-        AreAdded alphabet text content entries.old.items entries.new.items) }
-    ensures sound { OnOk result ((alphabet : Letters) (content : List Entry) (text : List ℕ) →
-        IsReachedBy alphabet content text reached.now → All IsSound entries.old.items →
+/// Puts the entries of a dictionary last that fit the text, which led to the place.
+fn push_ending(
+    entries: &mut Vec<Entry>,
+    alloc: Global,
+    reached: &Reached<'_>,
+    text: &str,
+) -> Mem<()>
+    ensures added { OnOk result ((alphabet : Letters) (content : List Entry) →
+        IsReachedBy alphabet content text.now reached.now →
+        AreAdded alphabet text.now content entries.old.items entries.new.items) }
+    ensures sound { OnOk result ((alphabet : Letters) (content : List Entry) →
+        IsReachedBy alphabet content text.now reached.now → All IsSound entries.old.items →
         All IsSound entries.new.items) }
 {
-    let mut more = reached.ending(alloc)?;
+    let mut more = reached.ending(alloc, text)?;
     if entries.is_empty() {
         // Mostly one dictionary alone has any: its list serves as it is, with no room beyond.
         *entries = more;

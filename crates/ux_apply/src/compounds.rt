@@ -2,7 +2,6 @@
 
 ghost use Rattle.std.specs.Prelude.{◌≡◌, ◌↔◌, All, ◌<◌, ◌≤◌, ◌∷◌, ◌++◌, ◌≢◌, ℕ, List, [], IfOk, IsTrue, OnOk, IsSomeAnd, length, map, slice_get, slice_range};
 ghost use Rattle.std.specs.List.{AllZip};
-ghost use Rattle.ux_alphabet.specs.Letters.{Letters};
 ghost use Rattle.ux_dela.specs.Sound.{IsSound};
 ghost use Rattle.ux_dela.specs.declared.entry.Entry.{Entry};
 ghost use Rattle.ux_tokens.specs.Numbers.{different_texts};
@@ -151,7 +150,7 @@ fn spans_from<L: Lexicon>(
             return Ok(row);
         }
         next = last + 1;
-        let entries = entries_to(alloc, text, last, &cursors)?;
+        let entries = entries_to(alloc, text, first, last, &cursors)?;
         push_row(&mut row, last, entries)?;
     }
     Ok(row)
@@ -190,20 +189,26 @@ fn push_row(
     Ok(())
 }
 
-/// The entries of a span with this last token, whose text led to the cursors.
-fn entries_to(alloc: Global, text: &Text, last: usize, cursors: &[Cursor<'_>]) -> Mem<Vec<Entry>>
-    requires { last < length text.now }
-    ensures entries { IfOk result (λ entries. (alphabet : Letters)
-        (dics : List (Priority × List Entry)) (first : ℕ) → first < last →
-        IsFront text.now first last → AreReachedBy alphabet dics (text_of text.now first last) cursors.now →
-        AreOfSpan alphabet dics text.now first last entries.items) }
-    ensures sound { IfOk result (λ entries. WhereLed cursors.now
-        (λ _ _ _. All IsSound entries.items)) }
+/// The entries of a span of two or more tokens, if it is one. Its text led to the cursors.
+fn entries_to(
+    alloc: Global,
+    text: &Text,
+    first: usize,
+    last: usize,
+    cursors: &[Cursor<'_>],
+) -> Mem<Vec<Entry>>
+    requires longer { first < last }
+    requires within { last < length text.now }
+    requires front { IsFront text.now first last }
+    ensures entries { IfOk result (λ entries. WhereLed (text_of text.now first last) cursors.now
+        (λ alphabet dics. AreOfSpan alphabet dics text.now first last entries.items)) }
+    ensures sound { IfOk result (λ entries. WhereLed (text_of text.now first last) cursors.now
+        (λ _ _. All IsSound entries.items)) }
 {
     if !may_bound(text.kind(last)) {
         return Ok(Vec::new(alloc));
     }
-    applying_there(alloc, cursors)
+    applying_there(alloc, cursors, text.slice(first, last))
 }
 
 /// Whether a token of this kind may stand in a span.

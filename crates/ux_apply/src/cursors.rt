@@ -84,7 +84,8 @@ pub(crate) fn reach<'a, L: Lexicon>(
 
 /// Whether some form may begin with characters that fit the text so far.
 pub(crate) fn may_go_on(cursors: &[Cursor<'_>]) -> bool
-    ensures { IsFalse result → WhereLed cursors.now NoneBegins }
+    ensures { IsFalse result → (text : List ℕ) →
+        WhereLed text cursors.now (λ alphabet dics. NoneBegins alphabet dics text) }
 {
     for cursor in cursors {
         if cursor.reached.may_go_on() {

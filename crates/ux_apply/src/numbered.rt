@@ -7,9 +7,10 @@ ghost use Rattle.ux_tokens.specs.Numbers.{different_texts};
 ghost use Rattle.ux_apply.specs.Applying.{AreApplying, contents};
 ghost use Rattle.ux_apply.specs.Kept.{HasText, IsStart, IsWordNumber};
 
-use crate::applying::applying;
+use crate::applying::applying_there;
+use crate::cursors::{may_go_on, reach};
 use crate::priority::Priority;
-use crate::starts::{Start, start_of};
+use crate::starts::{Start, start_there};
 use crate::words::Words;
 use std::alloc::Global;
 use ux_alphabet::Alphabet;
@@ -18,6 +19,22 @@ use ux_dela::Entry;
 use ux_lexicon::Lexicon;
 use ux_tokens::Text;
 use ux_tokens::kind::Kind;
+
+/// What the dictionaries have for the different tokens of a text, by their numbers.
+#[derive(Drop)]
+pub(crate) struct Asked {
+    /// The entries that apply to each.
+    pub(crate) entries: Vec<Vec<Entry>>,
+    /// How spans with entries may begin with each.
+    pub(crate) starts: Vec<Start>,
+}
+
+/// What the dictionaries have for one token.
+#[derive(Drop)]
+struct Answer {
+    entries: Vec<Entry>,
+    start: Start,
+}
 
 /// The places where the different tokens first appear.
 pub(crate) fn first_places(alloc: Global, text: &Text) -> Mem<Vec<usize>>
@@ -34,47 +51,56 @@ pub(crate) fn first_places(alloc: Global, text: &Text) -> Mem<Vec<usize>>
     Ok(places)
 }
 
-/// The entries that apply to the text of each different token.
-pub(crate) fn entries_by_number<L: Lexicon>(
+/// What the dictionaries have for each different token. Asks them once for each.
+pub(crate) fn ask_each<L: Lexicon>(
     alloc: Global,
     text: &Text,
     places: &[usize],
     alphabet: &Alphabet,
     dics: &[(Priority, L)],
-) -> Mem<Vec<Vec<Entry>>>
+) -> Mem<Asked>
     requires { AllZip (HasText text.now) (different_texts text.now) places.now }
-    ensures applying { IfOk result (λ rows. AllZip
+    ensures applying { IfOk result (λ asked. AllZip
         (λ text row. AreApplying alphabet.now (contents L.content dics.now) text row.items)
-        (different_texts text.now) rows.items) }
-    ensures sound { IfOk result (λ rows. All (λ row. All IsSound row.items) rows.items) }
-{
-    let mut rows = Vec::new(alloc);
-    for place in places {
-        let row = applying(alloc, text.token(*place), alphabet, dics)?;
-        rows.push(row)?;
-    }
-    Ok(rows)
-}
-
-/// How spans with entries may begin with the text of each different token.
-pub(crate) fn starts_by_number<L: Lexicon>(
-    alloc: Global,
-    text: &Text,
-    places: &[usize],
-    alphabet: &Alphabet,
-    dics: &[(Priority, L)],
-) -> Mem<Vec<Start>>
-    requires { AllZip (HasText text.now) (different_texts text.now) places.now }
-    ensures { IfOk result (λ starts. AllZip
+        (different_texts text.now) asked.entries.items) }
+    ensures sound { IfOk result (λ asked. All (λ row. All IsSound row.items) asked.entries.items) }
+    ensures starts { IfOk result (λ asked. AllZip
         (IsStart alphabet.now (contents L.content dics.now)) (different_texts text.now)
-        starts.items) }
+        asked.starts.items) }
 {
+    let mut entries = Vec::new(alloc);
     let mut starts = Vec::new(alloc);
     for place in places {
-        let start = start_of(alloc, text.token(*place), alphabet, dics)?;
-        starts.push(start)?;
+        let answer = ask(alloc, text.token(*place), alphabet, dics)?;
+        entries.push(answer.entries)?;
+        starts.push(answer.start)?;
     }
-    Ok(starts)
+    Ok(Asked { entries, starts })
+}
+
+/// What the dictionaries have for a token of this text. Goes along each of them once.
+fn ask<L: Lexicon>(
+    alloc: Global,
+    token: &str,
+    alphabet: &Alphabet,
+    dics: &[(Priority, L)],
+) -> Mem<Answer>
+    ensures applying { IfOk result (λ answer. AreApplying alphabet.now
+        (contents L.content dics.now) token.now answer.entries.items) }
+    ensures sound { IfOk result (λ answer. All IsSound answer.entries.items) }
+    ensures start { IfOk result (λ answer.
+        IsStart alphabet.now (contents L.content dics.now) token.now answer.start) }
+{
+    let cursors = reach(alloc, token, alphabet, dics)?;
+    if !may_go_on(&cursors) {
+        return Ok(Answer {
+            entries: Vec::new(alloc),
+            start: Start::Never,
+        });
+    }
+    let entries = applying_there(alloc, &cursors, token)?;
+    let start = start_there(alloc, &cursors, alphabet)?;
+    Ok(Answer { entries, start })
 }
 
 /// The number of each token that is a word.

@@ -4,17 +4,17 @@
 //! of a token and a space is asked once for each different token, and not at each of its places.
 //! Where each letter is a word, it is mostly a letter, and the first step of the span asks.
 
-ghost use Rattle.std.specs.Prelude.{◌≡◌, ◌<◌, ◌⊎◌, ◌+◌, ◌≤◌, ◌^◌, IfOk, IsTrue, MatchOption, Some, length, slice_get};
-ghost use Rattle.ux_apply.specs.Applying.{contents};
+ghost use Rattle.std.specs.Prelude.{◌≡◌, ◌<◌, ◌⊎◌, ◌+◌, ◌≤◌, ◌^◌, ℕ, List, IfOk, IsTrue, MatchOption, Some, length, slice_get};
+ghost use Rattle.ux_dela.specs.declared.entry.Entry.{Entry};
+ghost use Rattle.ux_apply.specs.declared.priority.Priority.{Priority};
+ghost use Rattle.ux_apply.specs.Cursors.{AreReachedBy};
 ghost use Rattle.ux_apply.specs.Kept.{IsNearestLast, IsOver, IsSpaceAt, IsStart};
 ghost use Rattle.ux_apply.specs.declared.starts.Start.TheVariants.{Spaced};
 
-use crate::cursors::{go_on, may_go_on, reach};
-use crate::priority::Priority;
+use crate::cursors::{Cursor, go_on, may_go_on};
 use std::alloc::Global;
 use ux_alphabet::Alphabet;
 use ux_base::Mem;
-use ux_lexicon::Lexicon;
 use ux_tokens::Text;
 use ux_tokens::kind::Kind;
 
@@ -29,21 +29,12 @@ pub(crate) enum Start {
     Spaced,
 }
 
-/// How forms may begin with a token of this text.
-pub(crate) fn start_of<L: Lexicon>(
-    alloc: Global,
-    token: &str,
-    alphabet: &Alphabet,
-    dics: &[(Priority, L)],
-) -> Mem<Start>
-    ensures { IfOk result
-        (IsStart alphabet.now (contents L.content dics.now) token.now) }
+/// How forms may begin with a token whose text led to the cursors, where some may.
+pub(crate) fn start_there(alloc: Global, cursors: &[Cursor<'_>], alphabet: &Alphabet) -> Mem<Start>
+    ensures { IfOk result (λ start. (dics : List (Priority × List Entry)) (text : List ℕ) →
+        AreReachedBy alphabet.now dics text cursors.now → IsStart alphabet.now dics text start) }
 {
-    let cursors = reach(alloc, token, alphabet, dics)?;
-    if !may_go_on(&cursors) {
-        return Ok(Start::Never);
-    }
-    let spaced = go_on(alloc, &cursors, " ", alphabet)?;
+    let spaced = go_on(alloc, cursors, " ", alphabet)?;
     if !may_go_on(&spaced) {
         return Ok(Start::Unspaced);
     }

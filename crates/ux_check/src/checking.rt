@@ -90,7 +90,7 @@ fn count_forms<F: Folder>(alloc: Global, name: &str, folder: &mut F) -> Result<u
         (StopsFile text_format name.now (F.seen folder.old) (F.seen folder.new)) }
 {
     let text = read_decoded(alloc, name, folder)?;
-    match count_delaf(alloc, text.as_str()) {
+    match count_delaf(text.as_str()) {
         Ok(count) => Ok(count),
         Err(DelaError::NoMemory) => Err(Stop::NoMemory),
         Err(error) => Err(refused(alloc, name, Reason::Dela(error))),

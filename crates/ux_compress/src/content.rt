@@ -1,7 +1,7 @@
 //! The content of a dictionary: its entries, each once, in the order of their forms. An image can be
 //! made of it, since forms are texts, whose bytes stand in the order of their characters.
 
-ghost use Rattle.std.specs.Prelude.{◌≡◌, ◌⊎◌, All, IfErr, IfOk, IsUtf8};
+ghost use Rattle.std.specs.Prelude.{◌≡◌, ◌⊎◌, All, IfErr, IfOk};
 ghost use Rattle.ux_dela.specs.Files.{Refuses};
 ghost use Rattle.ux_dela.specs.Sound.{IsSound};
 ghost use Rattle.ux_dela.specs.declared.error.DelaError.TheVariants as dela;
@@ -13,6 +13,7 @@ use std::alloc::Global;
 use ux_base::Mem;
 use ux_dela::{DelaError, Entry};
 use ux_dict::Stored;
+use ux_image::dictionary_is_content;
 
 /// The content of a file of forms, or why its first bad line is refused. Takes a step a byte, and
 /// sorts the entries.
@@ -22,7 +23,7 @@ pub(crate) fn content_in(alloc: Global, text: &str) -> Result<Vec<Stored>, DelaE
     ensures refused { IfErr result (λ error. (error ≡ dela.NoMemory) ⊎ Refuses text.now error) }
 {
     let content = ux_dict::content_in(alloc, text)?;
-    are_texts(&content);
+    dictionary_is_content(&content);
     Ok(content)
 }
 
@@ -33,15 +34,6 @@ pub(crate) fn content_of(alloc: Global, entries: Vec<Entry>) -> Mem<Vec<Stored>>
     ensures ordered { IfOk result (λ content. IsImageable content.items) }
 {
     let content = ux_dict::content_of(alloc, entries)?;
-    are_texts(&content);
+    dictionary_is_content(&content);
     Ok(content)
-}
-
-/// The forms are texts, so that the order of their bytes is that of their characters.
-fn are_texts(entries: &[Stored])
-    ensures { All (λ entry. IsUtf8 entry.form) entries.now }
-{
-    for entry in entries {
-        let _form = entry.form();
-    }
 }

@@ -1,16 +1,16 @@
 -- The root is finished.
-use Rattle.std.proofs.Common.{arith, ◌≡◌, ℕ, zero, suc, ◌<◌, ◌+◌, ◌≤◌, ◌∙◌, List, [], ◌∷◌, ◌++◌, ◌⊎◌, ◌↔◌, inl, inr, refl, sym, ap, subst, length, length-append, cond, Bool, true, false, eq-eqb}
-use Rattle.std.specs.Prelude.{Option, Some, None, slice_get, Contains, find, nat_eq, option_map}
+use Rattle.std.proofs.Common.{arith, ◌≡◌, ℕ, zero, suc, ◌<◌, ◌+◌, ◌≤◌, ◌∙◌, List, [], ◌∷◌, ◌++◌, ◌⊎◌, ◌↔◌, inl, inr, refl, sym, ap, subst, length, length-append}
+use Rattle.std.specs.Prelude.{Some, slice_get, Contains}
 use Rattle.std.proofs.lemmas.Option.{same_Some, none-some, slice_get_within}
-use Rattle.std.proofs.lemmas.Bool.Decides.{eqb_tells}
 use Rattle.ux_dawg.specs.declared.state.State.{State}
 use Rattle.ux_dawg.specs.declared.state.Edge.{Edge}
 use Rattle.ux_dawg.specs.declared.pending.Frame.{Frame}
-use Rattle.ux_dawg.specs.Register.{AreOnce, IsKept}
-use Rattle.ux_dawg.specs.Paths.{edge, Right, IsPath, Leads, AreAscending, IsFit, IsAlive, IsStep}
+use Rattle.ux_dawg.specs.Flat.{state_of}
+use Rattle.ux_dawg.specs.Register.{AreOnce, AreOnceStates, IsKept, IsKeptState}
+use Rattle.ux_dawg.specs.Paths.{edge, Right, IsPath, Leads, IsFit, IsAlive}
 use Rattle.ux_dawg.proofs.OrderLemmas.{numbered}
 use Rattle.ux_dawg.specs.Building.{Held, IsSound, IsCut, IsReady, IsFinished, IsTarget, IsPending}
-use Rattle.ux_dawg.proofs.PathLemmas.{of_cons, in_front, behind, is_some_of, kept_at, kept_from, right_stays, right_back}
+use Rattle.ux_dawg.proofs.PathLemmas.{is_some_of, kept_at, kept_from, right_stays, right_back}
 use Rattle.ux_dawg.proofs.MinimalLemmas.{apart, have_paths, reached}
 
 -- the root is no state that is there: from each of these a way leads up to it
@@ -104,62 +104,13 @@ finished s a t s₁ a₁ t₁ s₂ r ready cut kept once =
     or_empty zero is = inl (ap (length {A = State}) (cut.still is) ∙ ready.empty is)
     or_empty (suc n) is = inr (cut.alive (omega (arith, is)))
 
--- the one step of a letter
-module _ (a t : ℕ) where
-  found_stands : (es : List Edge) → find (λ (e : Edge). nat_eq e.letter a) es ≡ Some (edge a t) → Contains es (edge a t)
-  found_stands [] h = absurd (none-some (edge a t) h)
-  found_stands (e ∷ es) h = by (nat_eq e.letter a) refl (λ k. found_stands es k)
-    where
-      by : (b : Bool) → nat_eq e.letter a ≡ b → (find (λ (d : Edge). nat_eq d.letter a) es ≡ Some (edge a t) → Contains es (edge a t)) → Contains (e ∷ es) (edge a t)
-      by true is rest = subst (Contains (e ∷ es)) (same_Some e (edge a t) (sym (ap (λ b. cond b (Some e) (find (λ (d : Edge). nat_eq d.letter a) es)) is) ∙ h)) (in_front e es)
-      by false is rest = behind e es (edge a t) (rest (sym (ap (λ b. cond b (Some e) (find (λ (d : Edge). nat_eq d.letter a) es)) is) ∙ h))
-
-  stands_found : (es : List Edge) → AreAscending es → Contains es (edge a t) → find (λ (e : Edge). nat_eq e.letter a) es ≡ Some (edge a t)
-  stands_found [] up has = absurd (none-some (edge a t) (is_some_of [] (edge a t) has).1)
-  stands_found (e ∷ es) up has = elim (of_cons e es (edge a t) has) [
-    | inl same ↦ ap (λ b. cond b (Some e) (find (λ (d : Edge). nat_eq d.letter a) es)) (eq-eqb e.letter a (ap (λ (d : Edge). d.letter) same)) ∙ ap Some same
-    | inr later ↦
-        let less = up.0 (edge a t) later in
-        let no : nat_eq e.letter a ≡ false = elim (eqb_tells e.letter a) [ inl same ↦ absurd (let e = same.1 in omega (arith, less, e)) | inr other ↦ other.0 ] in
-        ap (λ b. cond b (Some e) (find (λ (d : Edge). nat_eq d.letter a) es)) no ∙ stands_found es up.1 later
-  ]
-
-pub found : (es : List Edge) → AreAscending es → (a t : ℕ) → (find (λ (e : Edge). nat_eq e.letter a) es ≡ Some (edge a t)) ↔ Contains es (edge a t)
-found es up a t = (found_stands a t es, stands_found a t es up)
-
--- what is found has the letter
-pub found_letter : (es : List Edge) (a : ℕ) (e : Edge) → find (λ (d : Edge). nat_eq d.letter a) es ≡ Some e → e.letter ≡ a
-found_letter [] a e h = absurd (none-some e h)
-found_letter (x ∷ es) a e h = by (nat_eq x.letter a) refl (λ k. found_letter es a e k)
-  where
-    by : (b : Bool) → nat_eq x.letter a ≡ b → (find (λ (d : Edge). nat_eq d.letter a) es ≡ Some e → e.letter ≡ a) → e.letter ≡ a
-    by true is rest =
-        let same = same_Some x e (sym (ap (λ b. cond b (Some x) (find (λ (d : Edge). nat_eq d.letter a) es)) is) ∙ h) in
-        elim (eqb_tells x.letter a) [
-          | inl equal ↦ sym (ap (λ (d : Edge). d.letter) same) ∙ equal.1
-          | inr other ↦ absurd (let no = other.0 in let e : true ≡ false = sym is ∙ no in cc)
-        ]
-    by false is rest = rest (sym (ap (λ b. cond b (Some x) (find (λ (d : Edge). nat_eq d.letter a) es)) is) ∙ h)
-
-pub target_found : (es : List Edge) → AreAscending es → (a t : ℕ) → (option_map (λ (e : Edge). e.target) (find (λ (e : Edge). nat_eq e.letter a) es) ≡ Some t) ↔ Contains es (edge a t)
-target_found es up a t = (
-  λ h. by (find (λ (e : Edge). nat_eq e.letter a) es) refl h,
-  λ has. ap (option_map (λ (e : Edge). e.target)) ((found es up a t).1 has),
-)
-  where
-    by : (o : Option Edge) → find (λ (e : Edge). nat_eq e.letter a) es ≡ o → option_map (λ (e : Edge). e.target) (find (λ (e : Edge). nat_eq e.letter a) es) ≡ Some t → Contains es (edge a t)
-    by None is h = absurd (none-some t (sym (ap (option_map (λ (e : Edge). e.target)) is) ∙ h))
-    by (Some e) is h =
-        let target : e.target ≡ t = same_Some e.target t (sym (ap (option_map (λ (d : Edge). d.target)) is) ∙ h) in
-        let letter = found_letter es a e is in
-        (found es up a t).0 (is ∙ ap Some (λ j. record { letter = letter j; target = target j }))
-
-pub step_is : (states : List State) (i a : ℕ) (s : State) (es : List Edge) (o : Option ℕ) →
-    AreAscending s.edges → Some s ≡ slice_get states i → es ≡ s.edges →
-    option_map (λ (e : Edge). e.target) (find (λ (e : Edge). nat_eq e.letter a) es) ≡ o →
-    (t : ℕ) → (o ≡ Some t) ↔ IsStep states i a t
-step_is states i a s es o up at is gives t =
-    let f = target_found es (subst AreAscending (sym is) up) a t in (
-      λ h. (s, sym at, subst (λ (l : List Edge). Contains l (edge a t)) is (f.0 (gives ∙ h))),
-      λ h. sym gives ∙ f.1 (subst (λ (l : List Edge). Contains l (edge a t)) (ap (λ (x : State). x.edges) (same_Some h.0 s (sym h.1 ∙ sym at)) ∙ sym is) h.2),
-    )
+-- the same of the states that a register gives up
+pub finished_states : (s : List State) (a : List Frame) (t : State) (s₁ : List State)
+    (a₁ : List Frame) (t₁ : State) (edges : List Edge) (s₂ : List State) (r : ℕ)
+    (all : List State) → IsReady s a t → IsCut s a t s₁ a₁ t₁ 0 → edges ≡ t₁.edges →
+    IsKeptState s₁ s₂ (state_of t₁.code edges) r → all ≡ s₂ → AreOnceStates all →
+    IsFinished s a t s₂ r
+finished_states s a t s₁ a₁ t₁ edges s₂ r all ready cut is kept same once =
+    finished s a t s₁ a₁ t₁ s₂ r ready cut
+    (subst (λ (l : List Edge). IsKeptState s₁ s₂ (state_of t₁.code l) r) is kept)
+    (subst AreOnceStates same once)

@@ -3,12 +3,12 @@ use Rattle.std.proofs.Common.{arith, ◌≡◌, ◌↔◌, ◌⊎◌, inl, inr, 
 use Rattle.std.specs.Prelude.{slice_get, Contains, Option, Some, None, OnErr, OnOk, Result, Ok, Err}
 use Rattle.std.proofs.lemmas.List.{drop-append-le, drop_at, get_or_default, get_or_past, length-append, length-drop, take-append-le, take_all}
 use Rattle.std.proofs.lemmas.Bool.{cases_lt}
-use Rattle.std.proofs.lemmas.Option.{get_or_from_slice_get, slice_get_read}
+use Rattle.std.proofs.lemmas.Option.{get_or_from_slice_get, none-some, slice_get_read}
 use Rattle.ux_dawg.specs.declared.state.Edge.{Edge}
 use Rattle.ux_dawg.specs.declared.state.State.{State}
 use Rattle.ux_dawg.specs.declared.states.Row.{Row}
 use Rattle.ux_dawg.specs.Building.{bare}
-use Rattle.ux_dawg.specs.Paths.{edge, AreAscending, AreStates, IsStep}
+use Rattle.ux_dawg.specs.Paths.{edge, AreAscending, AreStates, IsEdge, IsPath, IsStep}
 use Rattle.ux_dawg.specs.Flat.{between, start_at, state_of, states_from, AreRows, KeepsRows, PutsRow}
 
 -- the last row ends no earlier than the first one begins
@@ -216,4 +216,34 @@ module _ (states : List State) (number : ℕ) where
     λ step. (found t).1 (subst (λ (l : List Edge). Contains l (edge letter t))
         (sym (is ∙ ap (λ (s : State). s.edges)
         (get_or_from_slice_get states number step.0 bare step.1))) step.2),
+  )
+
+  -- the number that is read is that of the form that ends there
+  pub code_tells : (code : Option ℕ) → code ≡ (get_or states number bare).code → (c : ℕ) →
+      (code ≡ Some c) ↔ IsPath states number [] c
+  code_tells code is c = (
+    λ some. elim read_at [
+      | inl within ↦ (get_or states number bare, state_stands states number within, sym is ∙ some)
+      | inr none ↦
+          absurd (none-some c (sym (ap (λ (s : State). s.code) none) ∙ (sym is ∙ some)))
+    ],
+    λ path. is ∙ (ap (λ (s : State). s.code)
+        (get_or_from_slice_get states number path.0 bare path.1) ∙ path.2),
+  )
+
+  -- an edge that is read at a place stands there
+  pub edge_tells : (edges : List Edge) → edges ≡ (get_or states number bare).edges → (place : ℕ) →
+      (found : Option Edge) → found ≡ slice_get edges place → (e : Edge) →
+      (found ≡ Some e) ↔ IsEdge states number place e
+  edge_tells edges is place found read e = (
+    λ some.
+        let at = subst (λ (l : List Edge). slice_get l place ≡ Some e) is (sym read ∙ some) in
+        elim read_at [
+          | inl within ↦ (get_or states number bare, state_stands states number within, at)
+          | inr none ↦ absurd (none-some e
+              (subst (λ (s : State). slice_get s.edges place ≡ Some e) none at))
+        ],
+    λ edge. read ∙ subst (λ (l : List Edge). slice_get l place ≡ Some e)
+        (sym (is ∙ ap (λ (s : State). s.edges)
+        (get_or_from_slice_get states number edge.0 bare edge.1))) edge.2,
   )

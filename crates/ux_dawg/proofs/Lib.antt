@@ -15,3 +15,4 @@ pub mod OrderLemmas
 pub mod OneLemmas
 pub mod FlatLemmas
 pub mod HalvingLemmas
+pub mod IndexLemmas

@@ -6,3 +6,5 @@ pub mod Building
 pub mod Listed
 pub mod Automaton
 pub mod Flat
+pub mod Hash
+pub mod Indexed

@@ -13,3 +13,6 @@ pub record IsKept {A : Type 0} (old new : List A) (item : A) (i : ℕ) : Type 0 
 
 abbrev pub IsKeptState : List State → List State → State → ℕ → Type 0
 IsKeptState old new state i = IsKept {A = State} old new state i
+
+abbrev pub AreOnceStates : List State → Type 0
+AreOnceStates states = AreOnce {A = State} states

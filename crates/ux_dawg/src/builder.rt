@@ -6,10 +6,9 @@ ghost use Rattle.ux_dawg.specs.Forms.{AreSorted, MayFollow, form_of, letters_in}
 ghost use Rattle.ux_dawg.specs.Automaton.{IsMinimalOf};
 
 use crate::dawg::Dawg;
-use crate::pending::{Frame, comes_next, cut, empty_state, grow, shared};
-use crate::register::{into_states, keep_state, states_stand_once};
+use crate::pending::{Pending, comes_next, cut, empty_state, grow, shared};
+use crate::register::Register;
 use crate::state::{Form, State};
-use indexmap::IndexSet;
 use std::alloc::Global;
 use std::marker::Model;
 use ux_base::Mem;
@@ -19,9 +18,9 @@ use ux_base::Mem;
 #[derive(Drop)]
 pub struct Builder {
     /// The states that no later form can change.
-    register: IndexSet<State>,
-    /// The states on the way of the last form, from the root down.
-    above: Vec<Frame>,
+    register: Register,
+    /// The states on the way of the last form, but for the deepest.
+    pending: Pending,
     /// The state in which the last form ends.
     top: State,
     /// How many characters the forms have together.
@@ -35,9 +34,9 @@ impl Model for Builder {
 
     ghost Value = { List Form };
 
-    ghost view = { λ b. forms_held b.register.keys b.above.items b.top };
+    ghost view = { λ b. forms_held b.register b.pending.above.items b.top };
 
-    ghost invariant = { λ b. IsBuilt b.register.keys b.above.items b.top b.many };
+    ghost invariant = { λ b. IsBuilt b.register b.pending.above.items b.top b.many };
 }
 
 impl Builder {
@@ -46,8 +45,11 @@ impl Builder {
         ensures { result ≡ [] }
     {
         Builder {
-            register: IndexSet::new(alloc),
-            above: Vec::new(alloc),
+            register: Register::new(alloc),
+            pending: Pending {
+                above: Vec::new(alloc),
+                spare: Vec::new(alloc),
+            },
             top: empty_state(alloc),
             many: 0,
         }
@@ -59,7 +61,7 @@ impl Builder {
         ensures { IsTrue result ↔ MayFollow self.now letters.now }
     {
         letters.len() <= (u32::MAX - self.many) as usize
-            && comes_next(self.above.as_slice(), letters)
+            && comes_next(self.pending.above.as_slice(), letters)
     }
 
     /// The builder with one more form. `may_add` tells what it asks.
@@ -69,18 +71,18 @@ impl Builder {
     {
         let Builder {
             mut register,
-            mut above,
+            mut pending,
             top,
             many,
         } = self;
-        let alloc = *above.allocator();
-        let depth = shared(above.as_slice(), letters);
-        let open = cut(&mut register, &mut above, top, depth)?;
-        let deepest = grow(alloc, &register, &mut above, open, &letters[depth..])?;
+        let alloc = *pending.above.allocator();
+        let depth = shared(pending.above.as_slice(), letters);
+        let open = cut(&mut register, &mut pending, top, depth)?;
+        let deepest = grow(alloc, &register, &mut pending, open, &letters[depth..])?;
         let State { code: _, edges } = deepest;
         Ok(Builder {
             register,
-            above,
+            pending,
             top: State {
                 code: Some(code),
                 edges,
@@ -95,15 +97,13 @@ impl Builder {
     {
         let Builder {
             mut register,
-            mut above,
+            mut pending,
             top,
             many: _,
         } = self;
-        let alloc = *above.allocator();
-        let open = cut(&mut register, &mut above, top, 0)?;
-        let root = keep_state(&mut register, open)?;
-        states_stand_once(&register);
-        Ok(Dawg::of(into_states(alloc, register)?))
+        let open = cut(&mut register, &mut pending, top, 0)?;
+        let root = register.keep(open.code, open.edges.as_slice())?;
+        Ok(Dawg::of(register.into_states()))
     }
 }
 

@@ -1,19 +1,23 @@
 //! The automaton, and the steps through it.
 
-ghost use Rattle.std.specs.Prelude.{◌≡◌, ℕ, ◌+◌, ◌<◌, ◌↔◌, List, [], IfSome, Some, Contains, find, length, nat_eq, option_copied, option_map, slice_get};
+ghost use Rattle.std.specs.Prelude.{◌≡◌, ℕ, ◌+◌, ◌<◌, ◌↔◌, List, [], IfOk, Some, Contains, get_or, length};
 ghost use Rattle.ux_dawg.specs.declared.state.Edge.{Edge as EdgeRecord};
 ghost use Rattle.ux_dawg.specs.declared.state.Form.{Form};
+ghost use Rattle.ux_dawg.specs.Building.{bare};
 ghost use Rattle.ux_dawg.specs.Forms.{form_of};
 ghost use Rattle.ux_dawg.specs.Automaton.{IsMinimalOf};
-ghost use Rattle.ux_dawg.specs.Paths.{Accepts, AreStates, IsEdge, IsFit, IsPath, IsStep, MakeAutomaton};
+ghost use Rattle.ux_dawg.specs.Paths.{Accepts, AreStates, IsEdge, IsPath, IsStep, MakeAutomaton};
 
 use crate::state::{Edge, State};
+use crate::states::States;
+use std::alloc::Global;
 use std::marker::Model;
+use ux_base::Mem;
 
 /// An acyclic automaton. Contracts see it as the list of its states, of which the last is the root.
 #[derive(Drop)]
 pub struct Dawg {
-    states: Vec<State>,
+    states: States,
 }
 
 impl Model for Dawg {
@@ -23,28 +27,39 @@ impl Model for Dawg {
 
     ghost Value = { List State };
 
-    ghost view = { λ d. d.states.items };
+    ghost view = { λ d. d.states };
 
-    ghost invariant = { λ d. AreStates d.states.items × (0 < length d.states.items) };
+    ghost invariant = { λ d. AreStates d.states × (0 < length d.states) };
 }
 
 impl Dawg {
-    /// The automaton of exactly these states, also of equal ones; the last one is the root. Takes
-    /// no memory. `are_states` tells what it asks.
-    pub fn of_states(states: Vec<State>) -> Dawg
-        requires { MakeAutomaton states.items }
-        ensures { result ≡ states.items }
+    /// The automaton of exactly these states, also of equal ones; the last one is the root.
+    /// `are_states` tells what it asks.
+    pub fn of_states(alloc: Global, states: &[State]) -> Mem<Dawg>
+        requires { MakeAutomaton states.now }
+        ensures { IfOk result (λ automaton. automaton ≡ states.now) }
     {
-        Dawg::of(states)
+        let mut all = States::new(alloc);
+        for state in states {
+            all.push(state.code, state.edges.as_slice())?;
+        }
+        Ok(Dawg::of(all))
     }
 
     /// The automaton of these states.
-    pub(crate) fn of(states: Vec<State>) -> Dawg
-        requires states { AreStates states.items }
-        requires some { 0 < length states.items }
-        ensures { result ≡ states.items }
+    pub(crate) fn of(states: States) -> Dawg
+        requires states { AreStates states }
+        requires some { 0 < length states }
+        ensures { result ≡ states }
     {
         Dawg { states }
+    }
+
+    /// The states, which a reader steps through as well.
+    pub fn into_states(self) -> States
+        ensures { result ≡ self }
+    {
+        self.states
     }
 
     /// How many states there are: one at least.
@@ -62,22 +77,27 @@ impl Dawg {
         self.states.len() - 1
     }
 
-    /// The states, by number. Edges ascend, and lead to lower numbers.
-    pub fn state(&self, number: usize) -> Option<&State>
-        ensures value { option_copied result ≡ slice_get self.now number }
-        ensures fit { IfSome result (λ state. IsFit number state.now) }
+    /// The number of the form that ends in the state of this number, if one does; none, where there
+    /// is no such state. Takes no memory.
+    pub fn code(&self, number: usize) -> Option<u32>
+        ensures { result ≡ (get_or self.now number bare).code }
     {
-        self.states.get(number)
+        self.states.code(number)
+    }
+
+    /// The edges of the state of this number, in ascending order of their characters; none, where
+    /// there is no such state. Takes no memory.
+    pub fn edges(&self, number: usize) -> &[Edge]
+        ensures { result.now ≡ (get_or self.now number bare).edges }
+    {
+        self.states.edges(number)
     }
 
     /// The number of the form that ends in the state, if one does. Takes no memory.
     pub fn final_of(&self, number: usize) -> Option<u32>
         ensures { (c : ℕ) → (result ≡ Some c) ↔ IsPath self.now number [] c }
     {
-        match self.state(number) {
-            Some(state) => state.code,
-            None => None,
-        }
+        self.states.code(number)
     }
 
     /// The edges of a state by their places, in ascending order of their characters. Takes no
@@ -87,14 +107,14 @@ impl Dawg {
             (result ≡ Some e) ↔ IsEdge self.now number place e }
         ensures order { AreStates self.now }
     {
-        match self.states.get(number) {
-            Some(state) => state.edges.as_slice().get(place).copied(),
+        match self.states.edges(number).get(place) {
+            Some(edge) => Some(*edge),
             None => None,
         }
     }
 
-    /// The number of the form of these characters, if it is one. Takes a look at each edge of the
-    /// states on the way, and no memory.
+    /// The number of the form of these characters, if it is one. Halves the edges of each
+    /// state on the way, and takes no memory.
     pub fn number_of(&self, letters: &[char]) -> Option<u32>
         ensures path { (c : ℕ) → (result ≡ Some c) ↔ Accepts self.now letters.now c }
         ensures form { (forms : List Form) → IsMinimalOf forms self.now → (c : ℕ) →
@@ -107,32 +127,11 @@ impl Dawg {
         self.final_of(state)
     }
 
-    /// The number of the state to which the character leads. Takes a look at each edge of the
-    /// state.
+    /// The number of the state to which the character leads. Halves the edges of the state, and
+    /// takes no memory.
     pub fn step(&self, number: usize, letter: char) -> Option<u32>
         ensures { (t : ℕ) → (result ≡ Some t) ↔ IsStep self.now number letter t }
     {
-        match self.state(number) {
-            Some(state) => target_of(state.edges.as_slice(), letter),
-            None => None,
-        }
-    }
-}
-
-/// The first edge of the character.
-fn edge_of(edges: &[Edge], letter: char) -> Option<&Edge>
-    ensures { option_copied result ≡ find (λ e. nat_eq e.letter letter) edges.now }
-{
-    edges.iter().find(|edge| edge.letter == letter)
-}
-
-/// Where the character leads.
-fn target_of(edges: &[Edge], letter: char) -> Option<u32>
-    ensures { option_map (λ (e : EdgeRecord). e.target)
-        (find (λ (e : EdgeRecord). nat_eq e.letter letter) edges.now) ≡ result }
-{
-    match edge_of(edges, letter) {
-        Some(edge) => Some(edge.target),
-        None => None,
+        self.states.step(number, letter)
     }
 }

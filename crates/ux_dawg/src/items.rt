@@ -40,12 +40,23 @@ impl<T> Items<T> {
 }
 
 impl<T: Drop> Items<T> {
-    /// Adds an item at the end.
+    /// Adds an item at the end. The room doubles from one on, since most lists have one item.
     pub fn push(&mut self, item: T) -> Mem<()>
         ensures { OnOk result (self.new ≡ self.old ++ item ∷ []) }
     {
+        let many = self.items.len();
+        if many == self.items.capacity() {
+            self.items.reserve_exact(many.max(1))?;
+        }
         self.items.push(item)?;
         Ok(())
+    }
+
+    /// Takes all items out. Their room stays.
+    pub fn clear(&mut self)
+        ensures { self.new ≡ [] }
+    {
+        self.items.clear();
     }
 }
 

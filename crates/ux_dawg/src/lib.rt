@@ -13,8 +13,8 @@
 //! Begin with `builder`. Contracts see a builder as the list of its forms (`specs/Forms.antt`), and
 //! the automaton as the list of its states. `specs/Automaton.antt` says what the automaton of some
 //! forms is: exact, minimal, and numbered by the least words that lead to its states. `laws` shows
-//! that there is only one. Inside, `pending` begins states and gives them up, and `register` keeps
-//! each once.
+//! that there is only one. Inside, `pending` begins states and gives them up, `register` keeps each
+//! once, in the list that `states` has, and `index` finds it by its `hash`.
 //!
 //! ```text
 //! let mut builder = Builder::new(alloc);
@@ -34,6 +34,8 @@
 mod builder;
 mod dawg;
 mod fit;
+mod hash;
+mod index;
 mod items;
 mod laws;
 mod pending;

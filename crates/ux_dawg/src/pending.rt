@@ -9,9 +9,8 @@ ghost use Rattle.ux_dawg.specs.declared.state.Edge.{Edge};
 ghost use Rattle.ux_dawg.specs.Building.{letters, IsSound, IsClosed, IsCut, IsGrown, IsShared, IsReady, bare};
 
 use crate::items::Items;
-use crate::register::keep_state;
+use crate::register::Register;
 use crate::state::{Edge, State};
-use indexmap::IndexSet;
 use std::alloc::Global;
 use ux_base::Mem;
 
@@ -22,6 +21,16 @@ pub struct Frame {
     pub state: State,
     /// The character of its last edge.
     pub letter: char,
+}
+
+/// The pending states above the deepest one.
+#[derive(Debug, Drop)]
+pub struct Pending {
+    /// These states, from the root down.
+    pub above: Vec<Frame>,
+    /// Lists of edges that finished states left, for states that are begun: so a state takes no
+    /// list from the allocator, unless the form is longer than all before it.
+    pub spare: Vec<Items<Edge>>,
 }
 
 /// Whether the word comes after the way to the deepest state.
@@ -59,36 +68,38 @@ fn count_same(above: &[Frame], word: &[char]) -> usize
 
 /// Finishes the states that are deeper than this.
 pub(crate) fn cut(
-    register: &mut IndexSet<State>,
-    above: &mut Vec<Frame>,
+    register: &mut Register,
+    pending: &mut Pending,
     mut top: State,
     depth: usize,
 ) -> Mem<State>
-    requires ready { IsReady register.old.keys above.old.items top }
-    requires most { depth ≤ vec_len above.old }
-    requires few { length register.old.keys + vec_len above.old < 2 ^ 32 }
-    ensures { IfOk result (λ state. IsCut register.old.keys above.old.items top
-        register.new.keys above.new.items state depth) }
+    requires ready { IsReady register.old pending.old.above.items top }
+    requires most { depth ≤ vec_len pending.old.above }
+    requires few { length register.old + vec_len pending.old.above < 2 ^ 32 }
+    ensures { IfOk result (λ state. IsCut register.old pending.old.above.items top
+        register.new pending.new.above.items state depth) }
 {
-    while above.len() > depth {
-        top = close(register, above, top)?;
+    while pending.above.len() > depth {
+        top = close(register, pending, top)?;
     }
     Ok(top)
 }
 
 /// Finishes the deepest state, and gives the one above it.
-fn close(register: &mut IndexSet<State>, above: &mut Vec<Frame>, top: State) -> Mem<State>
-    requires some { 0 < vec_len above.old }
-    requires few { length register.old.keys < 2 ^ 32 }
-    ensures { IfOk result (λ state. IsClosed register.old.keys above.old.items top
-        register.new.keys above.new.items state) }
+fn close(register: &mut Register, pending: &mut Pending, top: State) -> Mem<State>
+    requires some { 0 < vec_len pending.old.above }
+    requires few { length register.old < 2 ^ 32 }
+    ensures { IfOk result (λ state. IsClosed register.old pending.old.above.items top
+        register.new pending.new.above.items state) }
 {
-    let Some(frame) = above.pop() else {
+    let Some(frame) = pending.above.pop() else {
         unreachable!()
     };
     let Frame { mut state, letter } = frame;
-    let number = keep_state(register, top)?;
+    let State { code, edges } = top;
+    let number = register.keep(code, edges.as_slice())?;
     let target = number as u32;
+    pending.spare.push(edges)?;
     state.edges.push(Edge { letter, target })?;
     Ok(state)
 }
@@ -96,28 +107,39 @@ fn close(register: &mut IndexSet<State>, above: &mut Vec<Frame>, top: State) -> 
 /// Begins a state for each letter of the word.
 pub(crate) fn grow(
     alloc: Global,
-    register: &IndexSet<State>,
-    above: &mut Vec<Frame>,
+    register: &Register,
+    pending: &mut Pending,
     mut top: State,
     word: &[char],
 ) -> Mem<State>
-    requires sound { IsSound register.now.keys above.old.items top }
+    requires sound { IsSound register.now pending.old.above.items top }
     requires under { (a : ℕ) (e : Edge) → slice_get word.now 0 ≡ Some a →
         Contains top.edges e → e.letter < a }
-    ensures { IfOk result (λ state. IsGrown register.now.keys above.old.items top word.now
-        above.new.items state) }
+    ensures { IfOk result (λ state. IsGrown register.now pending.old.above.items top word.now
+        pending.new.above.items state) }
 {
     for letter in word {
-        above.push(Frame {
+        pending.above.push(Frame {
             state: top,
             letter: *letter,
         })?;
-        top = empty_state(alloc);
+        top = begin_state(alloc, &mut pending.spare);
     }
     Ok(top)
 }
 
-/// A state in which no form ends, and from which nothing leads.
+/// Begins a state, with a list that is to spare, if there is one.
+fn begin_state(alloc: Global, spare: &mut Vec<Items<Edge>>) -> State
+    ensures { result ≡ bare }
+{
+    let Some(mut edges) = spare.pop() else {
+        return empty_state(alloc);
+    };
+    edges.clear();
+    State { code: None, edges }
+}
+
+/// A state in which no form ends, and from which nothing leads. Takes no memory.
 pub(crate) fn empty_state(alloc: Global) -> State
     ensures { result ≡ bare }
 {

@@ -1,48 +1,70 @@
-//! Values that are numbered, each once.
+//! The states that no later form can change, each once.
+//!
+//! All their edges stand in one list, and a state is looked up by its hash, from what it would be:
+//! neither a look-up nor a state takes memory of its own. A state with one edge costs 32 to 36
+//! bytes, and up to twice as much where a list has just grown; a look-up takes a step for each edge
+//! of the states in one bucket.
 
-ghost use Rattle.std.specs.Prelude.{◌≡◌, true, IfOk};
-ghost use Rattle.ux_dawg.specs.Register.{AreOnce, IsKept, IsKeptState};
+ghost use Rattle.std.specs.Prelude.{◌≡◌, [], IfOk};
+ghost use Rattle.ux_dawg.specs.Flat.{state_of};
+ghost use Rattle.ux_dawg.specs.Register.{AreOnceStates, IsKeptState};
 
-use crate::state::State;
-use indexmap::IndexSet;
+use crate::index::{Index, bucket_of};
+use crate::state::Edge;
+use crate::states::States;
 use std::alloc::Global;
-use std::hash::Hash;
+use std::marker::Model;
 use ux_base::Mem;
 
-/// The number of the item, which is a new one where the item is new.
-fn keep<T: Eq + Hash + Drop>(set: &mut IndexSet<T>, item: T) -> Mem<usize>
-    requires { (a b : T) → T.eq a b ≡ true → a ≡ b }
-    ensures { IfOk result (λ i. IsKept set.old.keys set.new.keys item i) }
-{
-    let (index, _is_new) = set.insert_full(item)?;
-    Ok(index)
+/// States that are numbered, each once. Contracts see the list of them.
+#[derive(Debug, Drop)]
+pub struct Register {
+    states: States,
+    index: Index,
 }
 
-/// The number of the state, which is a new one where the state is new.
-pub(crate) fn keep_state(register: &mut IndexSet<State>, state: State) -> Mem<usize>
-    ensures { IfOk result (λ i. IsKeptState register.old.keys register.new.keys state i) }
-{
-    keep(register, state)
+impl Model for Register {
+    ghost use Rattle.std.specs.Prelude.{List};
+    ghost use Rattle.ux_dawg.specs.declared.state.State.{State};
+    ghost use Rattle.ux_dawg.specs.Indexed.{IsRegister};
+
+    ghost Value = { List State };
+
+    ghost view = { λ r. r.states };
+
+    ghost invariant = { λ r. IsRegister r.states r.index };
 }
 
-/// The states by their numbers, moved out of the register.
-pub(crate) fn into_states(alloc: Global, register: IndexSet<State>) -> Mem<Vec<State>>
-    ensures { IfOk result (λ states. states.items ≡ register.keys) }
-{
-    Ok(register.into_iter().collect(alloc)?)
-}
+impl Register {
+    /// No state. Takes no memory.
+    pub(crate) fn new(alloc: Global) -> Register
+        ensures { result ≡ [] }
+    {
+        Register {
+            states: States::new(alloc),
+            index: Index::new(alloc),
+        }
+    }
 
-/// No value stands in a set twice.
-fn stand_once<T: Eq + Hash>(set: &IndexSet<T>)
-    requires { (a : T) → T.eq a a ≡ true }
-    ensures { AreOnce set.now.keys }
-{
-    set.len();
-}
+    /// The number of the state with this number of a list and these edges, which is a new one where
+    /// the state is new.
+    pub(crate) fn keep(&mut self, code: Option<u32>, edges: &[Edge]) -> Mem<usize>
+        ensures { IfOk result (λ i.
+            IsKeptState self.old self.new (state_of code edges.now) i) }
+    {
+        self.index.widen(&self.states)?;
+        let bucket = bucket_of(self.index.len(), code, edges);
+        match self.index.place(&self.states, bucket, code, edges) {
+            Some(number) => Ok(number),
+            None => self.index.store(&mut self.states, bucket, code, edges),
+        }
+    }
 
-/// No state stands in a register twice.
-pub(crate) fn states_stand_once(register: &IndexSet<State>)
-    ensures { AreOnce register.now.keys }
-{
-    stand_once(register);
+    /// The states by their numbers.
+    pub(crate) fn into_states(self) -> States
+        ensures states { result ≡ self }
+        ensures once { AreOnceStates result }
+    {
+        self.states
+    }
 }

@@ -13,7 +13,7 @@ pub struct Edge {
 }
 
 /// A state.
-#[derive(Debug, Drop, PartialEq, Eq, Hash)]
+#[derive(Debug, Drop)]
 pub struct State {
     /// The number of the form that ends here, if one does.
     pub code: Option<u32>,

@@ -1,7 +1,7 @@
-//! The states of an automaton that is read and no longer built.
+//! The states of an automaton, with the edges of all of them in one list.
 //!
-//! A `State` has a list of edges of its own, wherever there was room for it. Here the edges of all
-//! states stand in one list, so that a step to another state is a step in memory, and no more.
+//! So a step to another state is a step in memory, and no more, and a state has no list of its own:
+//! it takes 16 bytes, and 8 for each edge.
 
 ghost use Rattle.std.specs.Prelude.{◌≡◌, ◌↔◌, ◌<◌, ◌≤◌, ◌∷◌, ◌++◌, ℕ, [], Contains, OnErr, OnOk, Some, get_or, length};
 ghost use Rattle.ux_dawg.specs.Building.{bare};

@@ -21,20 +21,16 @@ module _ {T : Type 0} (Says : List ℕ → List T → Type 0)
     is = refl;
   }
 
-  -- a line was read into an empty list, and what it says was counted
+  -- what one more line says was counted
   pub count_more : (all left rest : List (List ℕ)) (number count more : ℕ) (line : List ℕ)
-      (old new here : List T) → IsCountedTo all left number count → left ≡ line ∷ rest →
-      Says line here → old ≡ [] → new ≡ old ++ here → more ≡ count + length new →
-      IsCountedTo all rest (number + 1) more
-  count_more all left rest number count more line old new here so_far is says empty added counted =
-      let alone = added ∙ ap (λ (t : List T). t ++ here) empty in
-      record {
-        said = so_far.said ++ here;
-        read = read_more Says Refuses all left rest number line so_far.said (so_far.said ++ here) here
-            so_far.read is says refl;
-        is = counted ∙ ap (λ t. count + length t) alone ∙ ap (λ t. t + length here) so_far.is
-            ∙ sym (length-append so_far.said here);
-      }
+      (here : List T) → IsCountedTo all left number count → left ≡ line ∷ rest → Says line here →
+      more ≡ count + length here → IsCountedTo all rest (number + 1) more
+  count_more all left rest number count more line here so_far is says counted = record {
+    said = so_far.said ++ here;
+    read = read_more Says Refuses all left rest number line so_far.said (so_far.said ++ here) here
+        so_far.read is says refl;
+    is = counted ∙ ap (λ t. t + length here) so_far.is ∙ sym (length-append so_far.said here);
+  }
 
   -- all lines of the text were read
   pub count_whole : (text : List ℕ) (left : List (List ℕ)) (number count : ℕ) →

@@ -16,6 +16,7 @@ pub mod RoundTripLemmas
 pub mod RunLemmas
 pub mod ShieldLemmas
 pub mod SoundLemmas
+pub mod SoundStemLemmas
 pub mod StemExclusionLemmas
 pub mod StemLaws
 pub mod StemLemmas

@@ -7,7 +7,7 @@ use Rattle.ux_dela.specs.Written.{bare, written, meant_as, all_meant}
 use Rattle.ux_dela.specs.Codes.{IsEmptyAt}
 use Rattle.ux_dela.specs.Delaf.{IsSkipped, DelafParts, IsDelafLine, DelafSays, entries, entries_of, entry_as, has_mark, lemma_of, HasEmptyCode}
 use Rattle.ux_dela.specs.Delaf as delaf
-use Rattle.ux_dela.specs.Reading.{characters, IsCutOf, IsListed, entry_in, entries_in, has_mark_in, AddsSaid}
+use Rattle.ux_dela.specs.Reading.{characters, IsCutOf, IsListed, entry_in, entries_in, has_mark_in, AddsSaid, HasList, SaysSoMany}
 use Rattle.ux_dela.specs.declared.entry.Entry.{Entry}
 use Rattle.ux_dela.specs.declared.entry.Codes.{Codes}
 use Rattle.ux_dela.specs.declared.delaf.Cut.{Cut}
@@ -111,6 +111,18 @@ adds_nothing line old is = record {
   says = delaf.skipped line is;
   added = sym (append-nil old);
 }
+
+-- how many entries the line says, whatever its codes mean
+pub says_many : (line : List ℕ) (cut : Cut) (count : ℕ) → IsCutOf line cut → HasList cut.codes.now →
+    (IsSkipped line → ⊥) → ((codes : Codes) → count ≡ length (entries_in cut codes)) →
+    SaysSoMany line count
+says_many line cut count is has counts many =
+    let codes = has.0 in
+    let adds = adds_entries line cut codes [] (entries_in cut codes) is has.1 counts refl in
+    (adds.said, adds.says, many codes ∙ ap length adds.added)
+
+pub says_none : (line : List ℕ) → IsSkipped line → SaysSoMany line 0
+says_none line is = ([], delaf.skipped line is, refl)
 
 pub parts_comment : (cut : Cut) (codes : Codes) (l : IsListed cut.codes.now codes) →
     (parts_of cut codes l).comment ≡ cut.comment.now

@@ -8,10 +8,9 @@ use Rattle.ux_dela.specs.Written.{Written, bare, protected, written, IsPart, mea
 use Rattle.ux_dela.specs.Codes.{IsCode, EndsCode, IsEmptyAt, no_gram, no_sem, no_infl}
 use Rattle.ux_dela.specs.Delas.{IsStemList, IsStemEmptyAt, no_class}
 use Rattle.ux_dela.specs.Delas as delas
-use Rattle.ux_dela.specs.Reading.{characters, IsPartEnd, IsSplit, IsRun, StopsRun, IsListed, StopsList, IsStemListed, StopsStemList}
+use Rattle.ux_dela.specs.Reading.{characters, IsPartEnd, IsSplit, IsRunOf, IsBehindRun, StopsRun, HasList, IsListed, StopsList, HasStemList, IsStemListed, StopsStemList}
 use Rattle.ux_dela.specs.declared.part.Stop.TheVariants.{Code, Plus}
 use Rattle.ux_dela.specs.declared.codes.Kind.TheVariants.{Sem, Infl, StemSem}
-use Rattle.ux_dela.specs.declared.codes.Run.{Run}
 use Rattle.ux_dela.specs.declared.codes.CodeFault.{CodeFault}
 use Rattle.ux_dela.specs.declared.codes.CodeFault.TheVariants.{Empty, NoRoom}
 use Rattle.ux_dela.specs.declared.entry.Codes.{Codes}
@@ -114,17 +113,19 @@ both_runs behind rest later v w e f =
     ∙ ap (λ t. t ++ later) (sym (written-append v w))
 
 -- the list was read
-pub list_read : (text front behind : List ℕ) (sem infl : Run) (codes : Codes) →
-    IsSplit is_code_sign text front behind → 0 < length front → IsRun Sem behind sem →
-    IsRun Infl sem.rest.now infl → codes.gram ≡ meant (characters front) →
-    codes.sem ≡ sem.codes.items → codes.infl ≡ infl.codes.items → IsListed text codes
-list_read text front behind sem infl codes split some s i is_first are_sem are_infl =
+pub list_read : (text front behind sem_rest infl_rest : List ℕ) (sem infl : List (List ℕ))
+    (codes : Codes) → IsSplit is_code_sign text front behind → 0 < length front →
+    IsRunOf Sem behind sem sem_rest → IsRunOf Infl sem_rest infl infl_rest →
+    codes.gram ≡ meant (characters front) → codes.sem ≡ sem → codes.infl ≡ infl →
+    IsListed text codes
+list_read text front behind sem_rest infl_rest sem infl codes split some s i is_first are_sem
+    are_infl =
     let v = all_behind PLUS s.codes in
     let w = all_behind COLON i.codes in
-    let none : infl.rest.now ≡ [] = no_rest COLON infl.rest.now i.ends i.all in
+    let none : infl_rest ≡ [] = no_rest COLON infl_rest i.ends i.all in
     let whole : text ≡ written (characters front ++ (v ++ w)) ++ [] =
     gram_and text front behind [] is_code_sign (v ++ w) split
-    (both_runs behind sem.rest.now [] v w s.whole
+    (both_runs behind sem_rest [] v w s.whole
     (i.whole ∙ ap (λ t. written w ++ t) none)) in
     let closed : IsClosed (characters front ++ (v ++ w)) =
     gram_closed text front behind is_code_sign (v ++ w) split
@@ -145,6 +146,16 @@ list_read text front behind sem infl codes split some s i is_first are_sem are_i
       is_sem = are_sem ∙ s.meant;
       is_infl = are_infl ∙ i.meant;
     }
+
+-- the list is there, whatever its codes mean
+pub list_there : (text front behind sem_rest infl_rest : List ℕ) →
+    IsSplit is_code_sign text front behind → 0 < length front →
+    IsBehindRun Sem behind sem_rest → IsBehindRun Infl sem_rest infl_rest → HasList text
+list_there text front behind sem_rest infl_rest split some s i =
+    let codes : Codes = record { gram = meant (characters front); sem = s.0; infl = i.0 } in (
+      codes,
+      list_read text front behind sem_rest infl_rest s.0 i.0 codes split some s.1 i.1 refl refl refl,
+    )
 
 -- the first code is empty
 pub gram_stops : (text front behind : List ℕ) → IsPart is_slash (characters text) →
@@ -187,10 +198,10 @@ sem_stops text front behind (Empty rest) split some stops =
 sem_stops text front behind NoRoom split some stops = tt
 
 -- the inflection codes stop
-pub infl_stops : (text front behind : List ℕ) (sem : Run) (fault : CodeFault) →
-    IsSplit is_code_sign text front behind → 0 < length front → IsRun Sem behind sem →
-    StopsRun Infl sem.rest.now fault → StopsList text fault
-infl_stops text front behind sem (Empty rest) split some s stops =
+pub infl_stops : (text front behind left : List ℕ) (sem : List (List ℕ)) (fault : CodeFault) →
+    IsSplit is_code_sign text front behind → 0 < length front → IsRunOf Sem behind sem left →
+    StopsRun Infl left fault → StopsList text fault
+infl_stops text front behind left sem (Empty rest) split some s stops =
     let infl = stops.0 in
     let v = all_behind PLUS s.codes in
     let w = all_behind COLON infl in
@@ -200,7 +211,7 @@ infl_stops text front behind sem (Empty rest) split some s stops =
     (IsPart-append is_none_stop v w (all_behind-closed is_code_sign PLUS s.codes refl s.are_codes)
     (all_behind-closed is_colon COLON infl refl stops.1)) in
     let whole = gram_and text front behind (COLON ∷ rest.now) is_code_sign (v ++ w) split
-    (both_runs behind sem.rest.now (COLON ∷ rest.now) v w s.whole stops.2) in
+    (both_runs behind left (COLON ∷ rest.now) v w s.whole stops.2) in
     let both = front_and_sign text rest.now f COLON refl closed whole in (
       written (f ++ bare COLON ∷ []),
       both.0,
@@ -214,15 +225,15 @@ infl_stops text front behind sem (Empty rest) split some s stops =
             are_infl = stops.1;
           }) stops.3),
     )
-infl_stops text front behind sem NoRoom split some s stops = tt
+infl_stops text front behind left sem NoRoom split some s stops = tt
 
 -- the list of a stem was read
-pub stem_list_read : (text front behind : List ℕ) (sem : Run) (codes : StemCodes) →
-    IsSplit is_plus text front behind → 0 < length front → IsRun StemSem behind sem →
-    codes.class ≡ meant (characters front) → codes.sem ≡ sem.codes.items → IsStemListed text codes
-stem_list_read text front behind sem codes split some s is_first are_sem =
+pub stem_list_read : (text front behind left : List ℕ) (sem : List (List ℕ)) (codes : StemCodes) →
+    IsSplit is_plus text front behind → 0 < length front → IsRunOf StemSem behind sem left →
+    codes.class ≡ meant (characters front) → codes.sem ≡ sem → IsStemListed text codes
+stem_list_read text front behind left sem codes split some s is_first are_sem =
     let v = all_behind PLUS s.codes in
-    let none : sem.rest.now ≡ [] = no_rest PLUS sem.rest.now s.ends s.all in
+    let none : left ≡ [] = no_rest PLUS left s.ends s.all in
     let whole = gram_and text front behind [] is_plus v split
     (s.whole ∙ ap (λ t. written v ++ t) none) in
     let closed = gram_closed text front behind is_plus v split
@@ -239,6 +250,14 @@ stem_list_read text front behind sem codes split some s is_first are_sem =
       is_class = is_first;
       is_sem = are_sem ∙ s.meant;
     }
+
+-- the list of a stem is there, whatever its semantic codes mean
+pub stem_list_there : (text front behind left class : List ℕ) → IsSplit is_plus text front behind →
+    0 < length front → IsBehindRun StemSem behind left → class ≡ meant (characters front) →
+    HasStemList text class
+stem_list_there text front behind left class split some s is =
+    let codes : StemCodes = record { class = class; sem = s.0 } in
+    (codes, stem_list_read text front behind left s.0 codes split some s.1 is refl, refl)
 
 pub class_stops : (text front behind : List ℕ) → IsPart is_slash (characters text) →
     IsSplit is_plus text front behind → length front ≡ 0 →

@@ -1,16 +1,18 @@
 -- Codes behind signs, one after the other.
-use Rattle.std.proofs.Common.{◌≡◌, ℕ, ◌<◌, List, [], ◌∷◌, ◌++◌, Bool, true, false, inl, inr, refl, sym, ◌∙◌, ap, subst, append_assoc, length}
+use Rattle.std.proofs.Common.{arith, length-append, ◌≡◌, ℕ, ◌<◌, List, [], ◌∷◌, ◌++◌, Bool, true, false, inl, inr, refl, sym, ◌∙◌, ap, subst, append_assoc, length}
 use Rattle.std.specs.Prelude.{◌==◌}
 use Rattle.std.proofs.lemmas.Bool.{or_cases, or_from, or_parts, eqb-true, both_ways}
 use Rattle.std.proofs.lemmas.List.{append-nil}
 use Rattle.ux_dela.specs.Signs.{BACKSLASH, is_slash}
 use Rattle.ux_dela.specs.Written.{Written, bare, written, IsPart, meant, all_meant, all_behind}
 use Rattle.ux_dela.specs.Codes.{IsCode, AreCodes, EndsCode}
-use Rattle.ux_dela.specs.Reading.{characters, is_stop, IsPartEnd, IsSplit, ends_kind, sign_before, IsRun}
+use Rattle.ux_dela.specs.Reading.{characters, is_stop, IsPartEnd, IsSplit, ends_kind, sign_before, IsRunOf, IsNextCode, StopsAtSign, StopsRun}
 use Rattle.ux_dela.specs.declared.part.Stop.{Stop}
+use Rattle.ux_dela.specs.declared.part.Stop.TheVariants.{Code, Colon, Plus}
 use Rattle.ux_dela.specs.declared.codes.Kind.{Kind}
 use Rattle.ux_dela.specs.declared.codes.Kind.TheVariants.{Sem, Infl, StemSem}
-use Rattle.ux_dela.specs.declared.codes.Run.{Run}
+use Rattle.ux_dela.specs.declared.codes.CodeFault.{CodeFault}
+use Rattle.ux_dela.specs.declared.codes.CodeFault.TheVariants.{Empty, NoRoom}
 use Rattle.ux_dela.proofs.CharactersLemmas.{written-append, written-characters, IsPart-append, IsPart-rest, IsPart-weaker, characters_bare, characters-append}
 use Rattle.ux_dela.proofs.CutLemmas.{characters_some, no_text}
 use Rattle.ux_dela.proofs.StopLemmas.{stop_other}
@@ -154,6 +156,15 @@ run_more kind stop text items rest behind code left new same run e split some is
       closed = closed;
     }
 
+-- one more code of the kind
+pub run_next : (kind : Kind) (stop : Stop) (text : List ℕ) (items : List (List ℕ))
+    (rest code left : List ℕ) (new : List (List ℕ)) → is_stop stop ≡ ends_kind kind →
+    IsRunTo kind text items rest → IsNextCode kind rest code left →
+    new ≡ items ++ meant (characters code) ∷ [] → IsRunTo kind text new left
+run_next kind stop text items rest code left new same run next is =
+    run_more kind stop text items rest next.behind code left new same run next.sign
+    (subst (λ (s : ℕ → Bool). IsSplit s next.behind code left) (sym same) next.split) next.some is
+
 -- an empty code stops the run
 pub run_stops : (kind : Kind) (stop : Stop) (text : List ℕ) (items : List (List ℕ))
     (rest behind code left : List ℕ) → is_stop stop ≡ ends_kind kind →
@@ -174,15 +185,50 @@ run_stops kind stop text items rest behind code left same run e split none =
     )
 
 -- the run is whole where no sign follows
-pub run_whole : (kind : Kind) (text : List ℕ) (run : Run) (items : List (List ℕ)) →
-    IsRunTo kind text items run.rest.now → run.codes.items ≡ items →
-    ((behind : List ℕ) → run.rest.now ≡ sign_before kind ∷ behind → ⊥) → IsRun kind text run
-run_whole kind text run items to same all = record {
+pub run_whole : (kind : Kind) (text : List ℕ) (items : List (List ℕ)) (rest : List ℕ) →
+    IsRunTo kind text items rest →
+    ((behind : List ℕ) → rest ≡ sign_before kind ∷ behind → ⊥) → IsRunOf kind text items rest
+run_whole kind text items rest to all = record {
   codes = to.codes;
   whole = to.whole;
   are_codes = to.are_codes;
-  meant = same ∙ to.meant_items;
+  meant = to.meant_items;
   ends = to.ends;
   closed = to.closed;
   all = all;
 }
+
+-- the stop at which the codes of the kind end
+pub stop_for : Kind → Stop
+stop_for Sem = Code
+stop_for Infl = Colon
+stop_for StemSem = Plus
+
+pub stop_same : (kind : Kind) → is_stop (stop_for kind) ≡ ends_kind kind
+unfolding stop_for
+stop_same Sem = refl
+stop_same Infl = refl
+stop_same StemSem = refl
+
+-- the next code, for whatever stop its kind has
+pub run_on : (kind : Kind) (text : List ℕ) (items : List (List ℕ)) (rest code left : List ℕ)
+    (new : List (List ℕ)) → IsRunTo kind text items rest → IsNextCode kind rest code left →
+    new ≡ items ++ meant (characters code) ∷ [] → IsRunTo kind text new left
+run_on kind text items rest code left new run next is =
+    run_next kind (stop_for kind) text items rest code left new (stop_same kind) run next is
+
+-- an empty code behind the codes so far stops the run
+pub run_stops_at : (kind : Kind) (text : List ℕ) (items : List (List ℕ)) (rest : List ℕ)
+    (fault : CodeFault) → IsRunTo kind text items rest → StopsAtSign kind rest fault →
+    StopsRun kind text fault
+run_stops_at kind text items rest (Empty behind) run stops =
+    run_stops kind (stop_for kind) text items rest behind.now [] stops.1.0 (stop_same kind) run
+    stops.0 (subst (λ (s : ℕ → Bool). IsSplit s behind.now [] stops.1.0) (sym (stop_same kind))
+    stops.1.1) refl
+run_stops_at kind text items rest NoRoom run stops = tt
+
+-- a code leaves less than the text has
+pub next_shorter : (kind : Kind) (text code rest : List ℕ) → IsNextCode kind text code rest →
+    length rest < length text
+next_shorter kind text code rest next =
+    omega (arith, ap length next.sign, ap length next.split.whole, length-append code rest, next.some)

@@ -51,7 +51,7 @@ meant_some sign [] some e = some refl
 meant_some sign (bare b ∷ part) some e = omega (arith, ap length e)
 meant_some sign (protected b ∷ part) some e = omega (arith, ap length e)
 
-sound_part : (sign : ℕ) (part : List Written) → is_feed sign ≡ false → part ≢ [] →
+pub sound_part : (sign : ℕ) (part : List Written) → is_feed sign ≡ false → part ≢ [] →
     HasNoFeed (written part) → IsSoundText (meant_as sign part)
 sound_part sign part other some p = record {
   some = meant_some sign part some;
@@ -59,21 +59,21 @@ sound_part sign part other some p = record {
 }
 
 -- the parts of what is written without a line feed
-written_front : (v w : List Written) → HasNoFeed (written (v ++ w)) → HasNoFeed (written v)
+pub written_front : (v w : List Written) → HasNoFeed (written (v ++ w)) → HasNoFeed (written v)
 written_front v w p =
     no_feed-front (written v) (written w)
     (subst (λ (t : List ℕ). HasNoFeed t) (written-append v w) p)
 
-written_rest : (v w : List Written) → HasNoFeed (written (v ++ w)) → HasNoFeed (written w)
+pub written_rest : (v w : List Written) → HasNoFeed (written (v ++ w)) → HasNoFeed (written w)
 written_rest v w p =
     no_feed-rest (written v) (written w)
     (subst (λ (t : List ℕ). HasNoFeed t) (written-append v w) p)
 
-written_tail : (sign : ℕ) (w : List Written) → HasNoFeed (written (bare sign ∷ w)) →
+pub written_tail : (sign : ℕ) (w : List Written) → HasNoFeed (written (bare sign ∷ w)) →
     HasNoFeed (written w)
 written_tail sign w p = (or_parts (is_feed sign) (list_any is_feed (written w)) p).1
 
-sound_codes : (stops : ℕ → Bool) (sign : ℕ) (codes : List (List Written)) → AreCodes stops codes →
+pub sound_codes : (stops : ℕ → Bool) (sign : ℕ) (codes : List (List Written)) → AreCodes stops codes →
     HasNoFeed (written (all_behind sign codes)) → AreSoundTexts (all_meant codes)
 sound_codes stops sign [] are p = tt
 sound_codes stops sign (code ∷ codes) are p =
@@ -146,13 +146,20 @@ pub AreWithoutFeed : List (List ℕ) → Type 0
 AreWithoutFeed [] = Unit {0}
 AreWithoutFeed (line ∷ lines) = HasNoFeed line × AreWithoutFeed lines
 
+-- where what each line without a line feed says is good, so is what all lines say
+pub good_file : {T : Type 0} (Says : List ℕ → List T → Type 0) (IsGood : T → Type 0) →
+    ((line : List ℕ) (said : List T) → HasNoFeed line → Says line said → All IsGood said) →
+    (lines : List (List ℕ)) (said : List T) → AreWithoutFeed lines → AreSaid Says lines said →
+    All IsGood said
+unfolding AreWithoutFeed
+good_file Says IsGood each lines said none no_line = All-nil IsGood
+good_file Says IsGood each lines said none (line_then line rest here later says h) =
+    All-append IsGood here later (each line here none.0 says)
+    (good_file Says IsGood each rest later none.1 h)
+
 pub sound_file : (lines : List (List ℕ)) (said : List Entry) → AreWithoutFeed lines →
     AreSaid DelafSays lines said → All IsSound said
-unfolding AreWithoutFeed
-sound_file lines said none no_line = All-nil IsSound
-sound_file lines said none (line_then line rest here later says h) =
-    All-append IsSound here later (sound_said line here none.0 says)
-    (sound_file rest later none.1 h)
+sound_file lines said none are = good_file DelafSays IsSound sound_said lines said none are
 
 take_no_feed : (n : ℕ) (text : List ℕ) → HasNoFeed text → HasNoFeed (take n text)
 take_no_feed n text p =

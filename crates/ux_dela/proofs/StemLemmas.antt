@@ -6,7 +6,7 @@ use Rattle.ux_dela.specs.Written.{bare, written, IsPart, meant}
 use Rattle.ux_dela.specs.Delaf.{IsSkipped}
 use Rattle.ux_dela.specs.Delas.{IsStemCut, StemEndsInBackslash, in_lemma, in_codes, HasEmptyLemma, IsStemEmptyAt, HasEmptyStemCode, HasBadClass, IsClass, IsDelasLine, DelasSays}
 use Rattle.ux_dela.specs.Delas as delas
-use Rattle.ux_dela.specs.Reading.{characters, IsSplit, IsStemCutOf, IsStemListed, SaysStem, AddsStem}
+use Rattle.ux_dela.specs.Reading.{characters, IsSplit, IsStemCutOf, IsStemListed, HasStemList, SaysStem, SaysSoManyStems, AddsStem}
 use Rattle.ux_dela.specs.declared.entry.Stem.{Stem}
 use Rattle.ux_dela.specs.declared.delas.StemCut.{StemCut}
 use Rattle.ux_dela.specs.declared.codes.StemCodes.{StemCodes}
@@ -133,6 +133,22 @@ stem_says line cut codes stem is l class lemma code sem = λ counts. record {
   is_sem = sem ∙ l.is_sem;
 }
 
+-- the line says a stem, whatever its semantic codes mean
+pub stem_there : (line : List ℕ) (cut : StemCut) (class letters : List ℕ) → IsStemCutOf line cut →
+    HasStemList cut.codes.now class → IsClass class letters → (stem : Stem) × SaysStem line stem
+stem_there line cut class letters is has class_is =
+    let codes = has.0 in
+    let stem : Stem = record {
+      lemma = meant (characters cut.lemma.now);
+      class = codes.class;
+      gram = letters;
+      sem = codes.sem;
+    } in (
+      stem,
+      stem_says line cut codes stem is has.1
+          (subst (λ (t : List ℕ). IsClass t letters) (sym has.2) class_is) refl refl refl,
+    )
+
 pub adds_stem : (line : List ℕ) (stem : Stem) (old new : List Stem) → SaysStem line stem →
     (IsSkipped line → ⊥) → new ≡ old ++ stem ∷ [] → AddsStem line old new
 adds_stem line stem old new says counts e = record {
@@ -147,3 +163,11 @@ adds_no_stem line old is = record {
   says = delas.skipped line is;
   added = sym (append-nil old);
 }
+
+-- the line says one stem, or none
+pub says_one : (line : List ℕ) (stem : Stem) → SaysStem line stem → (IsSkipped line → ⊥) →
+    SaysSoManyStems line 1
+says_one line stem says counts = (stem ∷ [], delas.stem line stem (says counts), refl)
+
+pub says_no_stem : (line : List ℕ) → IsSkipped line → SaysSoManyStems line 0
+says_no_stem line is = ([], delas.skipped line is, refl)

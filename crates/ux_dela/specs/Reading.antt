@@ -1,6 +1,6 @@
 -- What the parts of the reader promise one another: a text as its characters, and a text that is
 -- cut where a part ends. Inner: the crate's own functions alone speak of it.
-use Rattle.std.specs.Prelude.{◌≡◌, ◌≢◌, ℕ, ◌==◌, ◌+◌, ◌<◌, Bool, ◌||◌, true, false, List, [], ◌∷◌, ◌++◌, length, take, drop, slice_index, if◌then◌else◌, Option, None, Some}
+use Rattle.std.specs.Prelude.{◌≡◌, ◌≢◌, ℕ, ◌==◌, ◌+◌, ◌<◌, IsUtf8, Bool, ◌||◌, true, false, List, [], ◌∷◌, ◌++◌, length, take, drop, slice_index, if◌then◌else◌, Option, None, Some}
 use Rattle.ux_dela.specs.Signs.{BACKSLASH, COMMA, DOT, PLUS, COLON, SPACE, HYPHEN, EQUALS, is_comma, is_dot, is_slash, is_code_sign, is_colon, is_plus, is_equals, is_brace, is_form_sign, is_printed_code_sign}
 use Rattle.ux_dela.specs.Written.{Written, bare, protected, written, meant, meant_as, all_meant, IsPart, is_end, all_behind, has_bare}
 use Rattle.ux_dela.specs.Codes.{AreCodes, EndsCode, IsCodeList, IsEmptyAt}
@@ -96,15 +96,38 @@ ends_kind Sem = is_code_sign
 ends_kind Infl = is_colon
 ends_kind StemSem = is_plus
 
--- all codes of the kind that stand at the text's front, and what stands behind them
-pub record IsRun (kind : Kind) (text : List ℕ) (run : Run) : Type 0 where
+-- all codes of the kind that stand at the text's front, and the rest behind them
+pub record IsRunOf (kind : Kind) (text : List ℕ) (items : List (List ℕ)) (rest : List ℕ) :
+    Type 0 where
   pub codes : List (List Written)
-  pub whole : text ≡ written (all_behind (sign_before kind) codes) ++ run.rest.now
+  pub whole : text ≡ written (all_behind (sign_before kind) codes) ++ rest
   pub are_codes : AreCodes (ends_kind kind) codes
-  pub meant : run.codes.items ≡ all_meant codes
-  pub ends : EndsCode (ends_kind kind) (characters run.rest.now)
-  pub closed : IsPart is_slash (characters run.rest.now)
-  pub all : (behind : List ℕ) → run.rest.now ≡ sign_before kind ∷ behind → ⊥
+  pub meant : items ≡ all_meant codes
+  pub ends : EndsCode (ends_kind kind) (characters rest)
+  pub closed : IsPart is_slash (characters rest)
+  pub all : (behind : List ℕ) → rest ≡ sign_before kind ∷ behind → ⊥
+
+-- they were read
+abbrev pub IsRun : Kind → List ℕ → Run → Type 0
+IsRun kind text run = IsRunOf kind text run.codes.items run.rest.now
+
+-- the rest stands behind them, whatever they are
+abbrev pub IsBehindRun : Kind → (text rest : List ℕ) → Type 0
+IsBehindRun kind text rest = (items : List (List ℕ)) × IsRunOf kind text items rest
+
+-- behind a sign of the kind the text has this code, which isn't empty, and then a rest
+pub record IsNextCode (kind : Kind) (text code rest : List ℕ) : Type 0 where
+  pub behind : List ℕ
+  pub sign : text ≡ sign_before kind ∷ behind
+  pub split : IsSplit (ends_kind kind) behind code rest
+  pub some : 0 < length code
+  pub utf8 : IsUtf8 rest
+
+-- behind a sign of the kind a code is empty that should begin there
+abbrev pub StopsAtSign : Kind → (text : List ℕ) → CodeFault → Type 0
+StopsAtSign kind text (Empty rest) = (text ≡ sign_before kind ∷ rest.now)
+    × ((left : List ℕ) × IsSplit (ends_kind kind) rest.now [] left)
+StopsAtSign kind text NoRoom = ⊥
 
 -- behind some codes of the kind one is empty that should begin there
 abbrev pub StopsRun : Kind → List ℕ → CodeFault → Type 0
@@ -123,6 +146,10 @@ pub record IsListed (text : List ℕ) (codes : Codes) : Type 0 where
   pub is_gram : codes.gram ≡ meant gram
   pub is_sem : codes.sem ≡ all_meant sem
   pub is_infl : codes.infl ≡ all_meant infl
+
+-- the text lists codes
+abbrev pub HasList : List ℕ → Type 0
+HasList text = (codes : Codes) × IsListed text codes
 
 -- a code of the text is empty that should begin there
 abbrev pub StopsList : List ℕ → CodeFault → Type 0
@@ -156,6 +183,10 @@ pub record IsStemListed (text : List ℕ) (codes : StemCodes) : Type 0 where
   pub list : IsStemList (characters text) class sem
   pub is_class : codes.class ≡ meant class
   pub is_sem : codes.sem ≡ all_meant sem
+
+-- the text lists codes of a stem, of which this is the class
+abbrev pub HasStemList : (text class : List ℕ) → Type 0
+HasStemList text class = (codes : StemCodes) × IsStemListed text codes × (codes.class ≡ class)
 
 -- a code of the text is empty that should begin there
 abbrev pub StopsStemList : List ℕ → CodeFault → Type 0
@@ -198,6 +229,10 @@ pub record AddsSaid (line : List ℕ) (old new : List Entry) : Type 0 where
   pub says : DelafSays line said
   pub added : new ≡ old ++ said
 
+-- the line says so many entries
+abbrev pub SaysSoMany : List ℕ → ℕ → Type 0
+SaysSoMany line count = (said : List Entry) × DelafSays line said × (count ≡ length said)
+
 -- the line has this lemma, which isn't empty, these codes and this comment
 pub record IsStemCutOf (line : List ℕ) (cut : StemCut) : Type 0 where
   pub is_cut : IsStemCut line (characters cut.lemma.now) (characters cut.codes.now) cut.comment.now
@@ -218,6 +253,10 @@ pub record AddsStem (line : List ℕ) (old new : List Stem) : Type 0 where
 abbrev pub is_shielded : Signs → ℕ → Bool
 is_shielded signs.Form = is_form_sign
 is_shielded signs.Code = is_printed_code_sign
+
+-- the line says so many stems
+abbrev pub SaysSoManyStems : List ℕ → ℕ → Type 0
+SaysSoManyStems line count = (said : List Stem) × DelasSays line said × (count ≡ length said)
 
 -- the first sign that gets a backslash stands there
 pub record IsShieldedAt (signs : Signs) (text : List ℕ) (place : ℕ) : Type 0 where

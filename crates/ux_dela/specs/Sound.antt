@@ -1,8 +1,9 @@
--- Which entries dictionary lines can say. Public: the crate's public contracts speak of it.
+-- Which entries and stems dictionary lines can say. Public: the crate's public contracts speak of it.
 use Rattle.std.specs.Prelude.{◌≡◌, ◌≢◌, ℕ, ◌==◌, Bool, false, List, [], ◌∷◌}
 use Rattle.std.specs.List.{list_any}
 use Rattle.ux_dela.specs.Signs.{LINE_FEED}
 use Rattle.ux_dela.specs.declared.entry.Entry.{Entry}
+use Rattle.ux_dela.specs.declared.entry.Stem.{Stem}
 
 -- the byte is a line feed
 abbrev pub is_feed : ℕ → Bool
@@ -33,3 +34,10 @@ pub record IsSound (entry : Entry) : Type 0 where
   pub form : IsSoundText entry.form
   pub lemma : IsSoundText entry.lemma
   pub codes : AreSoundCodes entry.gram entry.sem entry.infl
+
+-- each part of the stem is sound
+pub record IsSoundStem (stem : Stem) : Type 0 where
+  pub lemma : IsSoundText stem.lemma
+  pub class : IsSoundText stem.class
+  pub gram : IsSoundText stem.gram
+  pub sem : AreSoundTexts stem.sem

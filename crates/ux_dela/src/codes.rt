@@ -4,7 +4,7 @@
 
 ghost use Rattle.std.specs.Prelude.{◌≡◌, ℕ, List, ◌∷◌, IfOk, IfErr, MatchOption};
 ghost use Rattle.ux_dela.specs.Codes.{EndsCode};
-ghost use Rattle.ux_dela.specs.Reading.{characters, is_stop, ends_kind, sign_before, IsRun, StopsRun, IsListed, StopsList, IsStemListed, StopsStemList};
+ghost use Rattle.ux_dela.specs.Reading.{characters, is_stop, ends_kind, sign_before, IsRun, IsBehindRun, IsNextCode, StopsAtSign, StopsRun, HasList, IsListed, StopsList, HasStemList, IsStemListed, StopsStemList};
 ghost use Rattle.ux_dela.specs.Signs.{is_slash};
 ghost use Rattle.ux_dela.specs.Written.{IsPart};
 ghost use Rattle.ux_dela.specs.declared.codes.CodeFault.TheVariants.{NoRoom};
@@ -60,6 +60,15 @@ pub struct Run<'a> {
     pub rest: &'a str,
 }
 
+/// A code behind its sign.
+#[derive(Clone, Copy)]
+pub struct NextCode<'a> {
+    /// The code as it is written.
+    pub code: &'a str,
+    /// What stands behind it.
+    pub rest: &'a str,
+}
+
 /// The class and the semantic codes of a stem.
 #[derive(Drop)]
 pub struct StemCodes {
@@ -105,6 +114,35 @@ pub fn read_stem_list<'a>(alloc: Global, text: &'a str) -> Result<StemCodes, Cod
     })
 }
 
+/// Looks through the codes of an entry, and keeps none of them. Takes no memory.
+pub fn check_list(text: &str) -> Result<(), CodeFault<'_>>
+    requires { IsPart is_slash (characters text.now) }
+    ensures ok { IfOk result (λ _. HasList text.now) }
+    ensures err { IfErr result (StopsList text.now) }
+{
+    let (gram, behind) = split_part(Stop::Code, text);
+    if gram.is_empty() {
+        return Err(CodeFault::Empty(text));
+    }
+    let rest = behind_run(Kind::Sem, behind)?;
+    behind_run(Kind::Infl, rest)?;
+    Ok(())
+}
+
+/// The class of a stem. Looks through its semantic codes, and keeps none of them.
+pub fn check_stem_list<'a>(alloc: Global, text: &'a str) -> Result<Txt, CodeFault<'a>>
+    requires { IsPart is_slash (characters text.now) }
+    ensures ok { IfOk result (λ class. HasStemList text.now class) }
+    ensures err { IfErr result (StopsStemList text.now) }
+{
+    let (class, behind) = split_part(Stop::Plus, text);
+    if class.is_empty() {
+        return Err(CodeFault::Empty(text));
+    }
+    behind_run(Kind::StemSem, behind)?;
+    Ok(plain(alloc, Mark::AsItself, class)?)
+}
+
 /// The codes of the kind at the front of the text.
 fn read_run<'a>(alloc: Global, kind: Kind, text: &'a str) -> Result<Run<'a>, CodeFault<'a>>
     requires closed { IsPart is_slash (characters text.now) }
@@ -114,16 +152,43 @@ fn read_run<'a>(alloc: Global, kind: Kind, text: &'a str) -> Result<Run<'a>, Cod
 {
     let mut codes = Vec::new(alloc);
     let mut rest = text;
-    while let Some(behind) = behind_sign(kind, rest) {
-        let (code, left) = split_part(stop_of(kind), behind);
-        if code.is_empty() {
-            return Err(CodeFault::Empty(behind));
-        }
-        codes.push(plain(alloc, Mark::AsItself, code)?)?;
-        rest = left;
+    while let Some(next) = next_code(kind, rest)? {
+        codes.push(plain(alloc, Mark::AsItself, next.code)?)?;
+        rest = next.rest;
     }
     codes.shrink_to_fit();
     Ok(Run { codes, rest })
+}
+
+/// What stands behind the codes of the kind at the front of the text. Takes no memory.
+fn behind_run<'a>(kind: Kind, text: &'a str) -> Result<&'a str, CodeFault<'a>>
+    requires closed { IsPart is_slash (characters text.now) }
+    requires ends { EndsCode (ends_kind kind) (characters text.now) }
+    ensures ok { IfOk result (λ rest. IsBehindRun kind text.now rest.now) }
+    ensures err { IfErr result (StopsRun kind text.now) }
+{
+    let mut rest = text;
+    while let Some(next) = next_code(kind, rest)? {
+        rest = next.rest;
+    }
+    Ok(rest)
+}
+
+/// The next code of the kind, where its sign begins the text.
+fn next_code<'a>(kind: Kind, text: &'a str) -> Result<Option<NextCode<'a>>, CodeFault<'a>>
+    ensures ok { IfOk result (λ next. MatchOption next
+        ((rest : List ℕ) → text.now ≡ sign_before kind ∷ rest → ⊥)
+        (λ next. IsNextCode kind text.now next.code.now next.rest.now)) }
+    ensures err { IfErr result (StopsAtSign kind text.now) }
+{
+    let Some(behind) = behind_sign(kind, text) else {
+        return Ok(None);
+    };
+    let (code, rest) = split_part(stop_of(kind), behind);
+    if code.is_empty() {
+        return Err(CodeFault::Empty(behind));
+    }
+    Ok(Some(NextCode { code, rest }))
 }
 
 /// What stands behind the sign of the kind, where it begins the text.

@@ -1,7 +1,7 @@
 //! How many entries a file has, with no list of them.
 //!
-//! Each line is read as `delaf` and `delas` read it, into a list that is emptied behind it: what is
-//! kept is one line's entries and their number so far. A file is refused as by its reader.
+//! Each line is cut as `delaf` and `delas` cut it, and its codes are looked through: none of them is
+//! kept. A file is refused as by its reader.
 
 ghost use Rattle.std.specs.Prelude.{◌≡◌, ◌⊎◌, ◌+◌, IfOk, IfErr};
 ghost use Rattle.ux_dela.specs.Files.{IsEntryCount, IsStemCount, Refuses, RefusesStems};
@@ -13,29 +13,26 @@ use crate::{delaf, delas};
 use std::alloc::Global;
 use ux_base::lines;
 
-/// The number of entries of a file of forms, or why its first bad line is refused. Keeps the
-/// entries of one line at a time; the time is linear in the text.
-pub fn count_delaf(alloc: Global, text: &str) -> Result<usize, DelaError>
+/// The number of entries of a file of forms, or why its first bad line is refused. The time is
+/// linear in the text. Takes no memory.
+pub fn count_delaf(text: &str) -> Result<usize, DelaError>
     ensures ok { IfOk result (IsEntryCount text.now) }
     ensures refused { IfErr result (λ error. (error ≡ NoMemory) ⊎ Refuses text.now error) }
     ensures exact { IfOk result (λ _. (error : DelaError) → Refuses text.now error → ⊥) }
 {
     // A text has at most as many lines as bytes, so that a line's number fits.
     let _bytes = text.len();
-    let mut entries = Vec::new(alloc);
     let mut number = 0;
     let mut count = 0;
     for line in lines(text) {
         number += 1;
-        delaf::read_line(alloc, line, number, &mut entries)?;
-        count = add(count, entries.len())?;
-        entries.clear();
+        count = add(count, delaf::count_line(line, number)?)?;
     }
     Ok(count)
 }
 
-/// The number of stems of a file of lemmas, or why its first bad line is refused. Keeps the stem of
-/// one line at a time; the time is linear in the text.
+/// The number of stems of a file of lemmas, or why its first bad line is refused. Keeps the
+/// class of one line at a time; the time is linear in the text.
 pub fn count_delas(alloc: Global, text: &str) -> Result<usize, DelaError>
     ensures ok { IfOk result (IsStemCount text.now) }
     ensures refused { IfErr result (λ error. (error ≡ NoMemory) ⊎ RefusesStems text.now error) }
@@ -43,14 +40,11 @@ pub fn count_delas(alloc: Global, text: &str) -> Result<usize, DelaError>
 {
     // A text has at most as many lines as bytes, so that a line's number fits.
     let _bytes = text.len();
-    let mut stems = Vec::new(alloc);
     let mut number = 0;
     let mut count = 0;
     for line in lines(text) {
         number += 1;
-        delas::read_line(alloc, line, number, &mut stems)?;
-        count = add(count, stems.len())?;
-        stems.clear();
+        count = add(count, delas::count_line(alloc, line, number)?)?;
     }
     Ok(count)
 }

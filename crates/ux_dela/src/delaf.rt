@@ -3,17 +3,18 @@
 //! Each line is cut at its comma, its dot and the slash before its comment, and then its codes are
 //! read. Where a backslash ends a line, no other fault is named; `specs/Delaf.antt` has the faults.
 
-ghost use Rattle.std.specs.Prelude.{◌≡◌, ◌≢◌, ◌↔◌, ◌⊎◌, ◌++◌, ◌∷◌, [], All, IsTrue, IfOk, IfErr, OnOk};
+ghost use Rattle.std.specs.Prelude.{◌≡◌, ◌≢◌, ◌↔◌, ◌⊎◌, ◌++◌, ◌∷◌, [], All, IsTrue, IfOk, IfErr, OnOk, length};
 ghost use Rattle.ux_dela.specs.Delaf.{IsSkipped, IsCut, HasFault, DelafSays, RefusesDelaf, lemma_of};
 ghost use Rattle.ux_dela.specs.Files.{AreEntries, Refuses};
-ghost use Rattle.ux_dela.specs.Reading.{characters, mark_sign, IsCutOf, IsListed, has_mark_in, entry_in, entries_in, AddsSaid};
+ghost use Rattle.ux_dela.specs.Reading.{characters, mark_sign, IsCutOf, IsListed, has_mark_in, entry_in, entries_in, AddsSaid, HasList, SaysSoMany, StopsList};
 ghost use Rattle.ux_dela.specs.Signs.{COMMA, DOT, is_comma, is_dot};
 ghost use Rattle.ux_dela.specs.Sound.{IsSound};
 ghost use Rattle.ux_dela.specs.Written.{IsPart, meant_as};
+ghost use Rattle.ux_dela.specs.declared.entry.Codes.{Codes as CodesRecord};
 ghost use Rattle.ux_dela.specs.declared.error.DelaError.{DelaError};
 ghost use Rattle.ux_dela.specs.declared.error.DelaError.TheVariants.{NoMemory};
 
-use crate::codes::{CodeFault, read_list};
+use crate::codes::{CodeFault, check_list, read_list};
 use crate::entry::{Codes, Entry};
 use crate::error::DelaError;
 use crate::part::{Split, Stop, first_part, has_bare_sign, is_backslash, split_part};
@@ -90,6 +91,26 @@ pub(crate) fn read_line(
     let codes = list_of(alloc, line, number, &cut)?;
     put_entries(alloc, &cut, codes, entries)?;
     Ok(())
+}
+
+/// How many entries the line says, or why it is refused. Takes no memory.
+pub(crate) fn count_line(line: &str, number: usize) -> Result<usize, DelaError>
+    ensures ok { IfOk result (SaysSoMany line.now) }
+    ensures err { IfErr result (λ error. (error ≡ NoMemory) ⊎ RefusesDelaf line.now number error) }
+{
+    if is_skipped(line) {
+        return Ok(0);
+    }
+    let cut = cut_line(line, number)?;
+    check_codes(line, number, &cut)?;
+    Ok(said_by(&cut))
+}
+
+/// How many entries these parts say: two where a mark stands in form or lemma.
+fn said_by(cut: &Cut<'_>) -> usize
+    ensures { (codes : CodesRecord) → result ≡ length (entries_in cut.now codes) }
+{
+    if has_mark(cut) { 2 } else { 1 }
 }
 
 /// Whether the line says nothing.
@@ -192,11 +213,34 @@ fn list_of(alloc: Global, line: &str, number: usize, cut: &Cut<'_>) -> Result<Co
 {
     match read_list(alloc, cut.codes) {
         Ok(codes) => Ok(codes),
-        Err(CodeFault::Empty(rest)) => Err(DelaError::EmptyCode {
+        Err(fault) => Err(code_error(line, number, cut, fault)),
+    }
+}
+
+/// Looks through the codes of a line that is cut so. Takes no memory.
+fn check_codes(line: &str, number: usize, cut: &Cut<'_>) -> Result<(), DelaError>
+    requires { IsCutOf line.now cut.now }
+    ensures ok { IfOk result (λ _. HasList cut.now.codes.now) }
+    ensures err { IfErr result (λ error. (error ≡ NoMemory) ⊎ HasFault line.now number error) }
+{
+    match check_list(cut.codes) {
+        Ok(()) => Ok(()),
+        Err(fault) => Err(code_error(line, number, cut, fault)),
+    }
+}
+
+/// Why the codes of a line that is cut so aren't read.
+fn code_error(line: &str, number: usize, cut: &Cut<'_>, fault: CodeFault<'_>) -> DelaError
+    requires cut { IsCutOf line.now cut.now }
+    requires stops { StopsList cut.now.codes.now fault }
+    ensures { (result ≡ NoMemory) ⊎ HasFault line.now number result }
+{
+    match fault {
+        CodeFault::Empty(rest) => DelaError::EmptyCode {
             line: number,
             place: line.len() - cut.comment.len() - rest.len(),
-        }),
-        Err(CodeFault::NoRoom) => Err(DelaError::NoMemory),
+        },
+        CodeFault::NoRoom => DelaError::NoMemory,
     }
 }
 

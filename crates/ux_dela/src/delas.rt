@@ -3,17 +3,19 @@
 //! Each line is cut at its comma and the slash before its comment, and then its class and its codes
 //! are read. Where a backslash ends a line, no other fault is named; `specs/Delas.antt` has them.
 
-ghost use Rattle.std.specs.Prelude.{◌≡◌, ◌⊎◌, ◌++◌, ◌∷◌, IfOk, IfErr, OnOk, MatchOption, IsTrue, ◌↔◌, ◌<◌, ◌≤◌, true, ℕ, List, length, drop};
+ghost use Rattle.std.specs.Prelude.{◌≡◌, ◌⊎◌, ◌++◌, ◌∷◌, All, IfOk, IfErr, OnOk, MatchOption, IsTrue, ◌↔◌, ◌<◌, ◌≤◌, true, ℕ, List, length, drop};
 ghost use Rattle.std.specs.List.{list_all, prefix_len};
 ghost use Rattle.ux_dela.specs.Delas.{HasStemFault, RefusesDelas, IsClass};
 ghost use Rattle.ux_dela.specs.Files.{AreStems, RefusesStems};
-ghost use Rattle.ux_dela.specs.Reading.{characters, IsStemCutOf, IsStemListed, SaysStem, AddsStem};
+ghost use Rattle.ux_dela.specs.Reading.{characters, IsStemCutOf, IsStemListed, HasStemList, StopsStemList, SaysStem, SaysSoManyStems, AddsStem};
 ghost use Rattle.ux_dela.specs.Signs.{COMMA, is_comma, is_upper, is_digit};
+ghost use Rattle.ux_dela.specs.Sound.{IsSoundStem};
 ghost use Rattle.ux_dela.specs.Written.{IsPart};
+ghost use Rattle.ux_dela.specs.declared.entry.Stem.{Stem as StemRecord};
 ghost use Rattle.ux_dela.specs.declared.error.DelaError.{DelaError};
 ghost use Rattle.ux_dela.specs.declared.error.DelaError.TheVariants.{NoMemory};
 
-use crate::codes::{CodeFault, StemCodes, read_stem_list};
+use crate::codes::{CodeFault, StemCodes, check_stem_list, read_stem_list};
 use crate::delaf::is_skipped;
 use crate::entry::Stem;
 use crate::error::DelaError;
@@ -37,6 +39,7 @@ pub(crate) struct StemCut<'a> {
 /// text.
 pub fn read_delas(alloc: Global, text: &str) -> Result<Vec<Stem>, DelaError>
     ensures ok { IfOk result (λ stems. AreStems text.now stems.items) }
+    ensures sound { IfOk result (λ stems. All IsSoundStem stems.items) }
     ensures refused { IfErr result (λ error. (error ≡ NoMemory) ⊎ RefusesStems text.now error) }
     ensures exact { IfOk result (λ _. (error : DelaError) → RefusesStems text.now error → ⊥) }
 {
@@ -74,6 +77,34 @@ pub(crate) fn read_line(
     }
     stems.push(read_stem(alloc, line, number)?)?;
     Ok(())
+}
+
+/// How many stems the line says, or why it is refused. Keeps none of its semantic codes.
+pub(crate) fn count_line(alloc: Global, line: &str, number: usize) -> Result<usize, DelaError>
+    ensures ok { IfOk result (SaysSoManyStems line.now) }
+    ensures err { IfErr result (λ error. (error ≡ NoMemory) ⊎ RefusesDelas line.now number error) }
+{
+    if is_skipped(line) {
+        return Ok(0);
+    }
+    check_stem(alloc, line, number)?;
+    Ok(1)
+}
+
+/// Looks through a line that isn't skipped.
+fn check_stem(alloc: Global, line: &str, number: usize) -> Result<(), DelaError>
+    ensures ok { IfOk result (λ _. (stem : StemRecord) × SaysStem line.now stem) }
+    ensures err { IfErr result (λ error. (error ≡ NoMemory) ⊎ HasStemFault line.now number error) }
+{
+    let cut = cut_stem(line, number)?;
+    let class = class_of(alloc, line, number, &cut)?;
+    match letters_of(class.as_str()) {
+        Some(_) => Ok(()),
+        None => Err(DelaError::BadClass {
+            line: number,
+            place: cut.lemma.len() + 1,
+        }),
+    }
 }
 
 /// The stem of a line that isn't skipped.
@@ -149,11 +180,34 @@ fn list_of(
 {
     match read_stem_list(alloc, cut.codes) {
         Ok(codes) => Ok(codes),
-        Err(CodeFault::Empty(rest)) => Err(DelaError::EmptyCode {
+        Err(fault) => Err(code_error(line, number, cut, fault)),
+    }
+}
+
+/// The class of a line that is cut so. Keeps none of its semantic codes.
+fn class_of(alloc: Global, line: &str, number: usize, cut: &StemCut<'_>) -> Result<Txt, DelaError>
+    requires { IsStemCutOf line.now cut.now }
+    ensures ok { IfOk result (λ class. HasStemList cut.now.codes.now class) }
+    ensures err { IfErr result (λ error. (error ≡ NoMemory) ⊎ HasStemFault line.now number error) }
+{
+    match check_stem_list(alloc, cut.codes) {
+        Ok(class) => Ok(class),
+        Err(fault) => Err(code_error(line, number, cut, fault)),
+    }
+}
+
+/// Why the codes of a line that is cut so aren't read.
+fn code_error(line: &str, number: usize, cut: &StemCut<'_>, fault: CodeFault<'_>) -> DelaError
+    requires cut { IsStemCutOf line.now cut.now }
+    requires stops { StopsStemList cut.now.codes.now fault }
+    ensures { (result ≡ NoMemory) ⊎ HasStemFault line.now number result }
+{
+    match fault {
+        CodeFault::Empty(rest) => DelaError::EmptyCode {
             line: number,
             place: line.len() - cut.comment.len() - rest.len(),
-        }),
-        Err(CodeFault::NoRoom) => Err(DelaError::NoMemory),
+        },
+        CodeFault::NoRoom => DelaError::NoMemory,
     }
 }
 

@@ -39,12 +39,13 @@ pub fn print_delaf(alloc: Global, entry: &Entry) -> Result<String, NoMemory>
     Ok(line)
 }
 
-/// The codes of the entry, as they stand in its line.
-pub fn print_codes(alloc: Global, entry: &Entry) -> Result<String, NoMemory>
-    ensures { IfOk result (λ text. string_bytes text ≡ printed_codes entry.now) }
+/// The codes, as they stand in a line.
+pub fn print_codes(alloc: Global, codes: &Codes) -> Result<String, NoMemory>
+    ensures { IfOk result (λ text.
+        string_bytes text ≡ printed_list codes.now.gram codes.now.sem codes.now.infl) }
 {
     let mut text = String::new(alloc);
-    put_codes(&mut text, &entry.gram, &entry.sem, &entry.infl)?;
+    put_codes(&mut text, &codes.gram, &codes.sem, &codes.infl)?;
     Ok(text)
 }
 

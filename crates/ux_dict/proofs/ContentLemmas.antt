@@ -1,6 +1,6 @@
 -- The different entries, sorted by form with ties in their order, are the content of a list; and a
 -- list has one content.
-use Rattle.std.proofs.Common.{◌≡◌, ◌↔◌, ℕ, zero, suc, ◌<◌, ◌≤◌, List, [], ◌∷◌, ◌++◌, Bool, true, false, cond, not, ◌&&◌, length, get_or, refl, sym, ◌∙◌, ap, subst, inl, inr, arith}
+use Rattle.std.proofs.Common.{◌≡◌, ◌↔◌, ℕ, zero, suc, ◌<◌, ◌≤◌, List, [], ◌∷◌, ◌++◌, Bool, true, false, cond, not, ◌&&◌, ◌||◌, length, get_or, refl, sym, ◌∙◌, ap, subst, inl, inr, arith}
 use Rattle.std.specs.Prelude.{All, AllPairs, Contains, Some, slice_get, IsPermutation, IsSortedByKey}
 use Rattle.std.specs.List.{list_any, filter}
 use Rattle.std.specs.List.Sorted.{IsStableByKey, ties}
@@ -11,19 +11,19 @@ use Rattle.std.specs.declared.cmp.Ordering.TheVariants.{Less, Equal, Greater}
 use Rattle.std.proofs.lemmas.Bool.{cases_Bool, cases_lt}
 use Rattle.std.proofs.lemmas.Cmp.{tied_itself}
 use Rattle.std.proofs.lemmas.List.{append_assoc, append-nil, get_or_default}
-use Rattle.std.proofs.lemmas.List.Elements.{All-contains, Contains-get_or, Contains-append_left, Contains-push, Contains-push_cases}
+use Rattle.std.proofs.lemmas.List.Elements.{filter-append, All-contains, Contains-get_or, Contains-append_left, Contains-push, Contains-push_cases}
 use Rattle.std.proofs.lemmas.List.Folds.{Any-from_list_any, list_any_at}
 use Rattle.std.proofs.lemmas.List.Kept.{AllPairs-filter}
 use Rattle.std.proofs.lemmas.List.Quantifiers.{all_pairs_push}
 use Rattle.std.proofs.lemmas.List.Sorted.{IsPermutation-sym, Contains-permutation, sorted_far, ranks_by}
 use Rattle.std.proofs.lemmas.Map.Lookups.{exact_bytes}
-use Rattle.std.proofs.lemmas.Option.{none-some, same_Some, slice_get_within}
+use Rattle.std.proofs.lemmas.Option.{none-some, same_Some, slice_get_within, get_or_from_slice_get}
 use Rattle.indexmap.specs.IndexSet.{insert_key, insert_all}
 use Rattle.ux_dela.specs.declared.entry.Entry.{Entry}
 use Rattle.ux_dela.specs.Sound.{IsSound}
 use Rattle.ux_dict.specs.Content.{AreDifferent, IsBelow, IsFirstPlace, IsEarlier, ComesBefore, IsContent, IsUpTo, IsDictionary}
 use Rattle.ux_dict.specs.Equal.{entry_eq, entry_eq-Decides}
-use Rattle.ux_dict.proofs.PairLemmas.{place_of, Contains-at, slice_get-append_left, pair_kept, same_members}
+use Rattle.ux_dict.proofs.PairLemmas.{place_of, Contains-at, slice_get-append_left, pair_kept, same_members, filter-true, filter-false}
 
 -- a member of the list has a first place
 pub first_place : (listed : List Entry) (entry : Entry) (k : ℕ) → slice_get listed k ≡ Some entry →
@@ -219,55 +219,128 @@ tie-same x y same =
     && not (is_lt (slice_cmp nat_cmp f x.form))) ≡ true) same
     (ap (λ o. not (is_lt o) && not (is_lt o)) tied)
 
--- two entries of a sorted list that was sorted with ties in their order
-sorted_pair : (listed sorted : List Entry) →
-    IsSortedByKey (λ (e : Entry). e.form) (slice_cmp nat_cmp) sorted →
-    ((x : Entry) → AllPairs (IsEarlier listed) (filter (tie x) sorted)) →
-    AllPairs (ComesBefore listed) sorted
-sorted_pair listed sorted up ties_are i j d lt within =
-    let x = get_or sorted i d in
-    let y = get_or sorted j d in
-    let far = sorted_far _ (ranks_by nat_list_cmp_total (λ (e : Entry). e.form)) sorted up i j d
-    (omega arith) within in
-    by x y (slice_cmp nat_cmp x.form y.form) refl far
-    (λ same. pair_kept (IsEarlier listed) (tie x) sorted (ties_are x) i j d lt within
-    (tie-same x x refl) (tie-same x y same))
+-- an entry that isn't above another comes before it, where it does if their forms are equal
+by_form : (listed : List Entry) (x y : Entry) → is_lt (slice_cmp nat_cmp y.form x.form) ≡ false →
+    (x.form ≡ y.form → IsEarlier listed x y) → ComesBefore listed x y
+by_form listed x y far earlier = by (slice_cmp nat_cmp x.form y.form) refl
   where
-    by : (x y : Entry) (o : Ordering) → slice_cmp nat_cmp x.form y.form ≡ o →
-        is_lt (slice_cmp nat_cmp y.form x.form) ≡ false →
-        (x.form ≡ y.form → IsEarlier listed x y) → ComesBefore listed x y
-    by x y Less is far earlier = inl is
-    by x y Equal is far earlier =
-        let same = exact_bytes x.form y.form is in inr (same, earlier same)
-    by x y Greater is far earlier =
+    by : (o : Ordering) → slice_cmp nat_cmp x.form y.form ≡ o → ComesBefore listed x y
+    by Less is = inl is
+    by Equal is = (let same = exact_bytes x.form y.form is in inr (same, earlier same))
+    by Greater is =
         let turned = nat_list_cmp_total.antisymm y.form x.form in
         let below : is_lt (slice_cmp nat_cmp y.form x.form) ≡ true =
         ap is_lt (turned ∙ ap ordering_reverse is) in
         cc
 
--- the different entries, sorted by form, are the content
-pub IsContent-sorted : (listed sorted : List Entry) →
-    IsPermutation (insert_all entry_eq [] listed) sorted →
+-- what passes a test that equal entries pass alike, told apart, is what passes of what is told apart
+keys_pass : (p : Entry → Bool) → ((x y : Entry) → x ≡ y → p x ≡ p y) → (keys : List Entry) (x : Entry) →
+    p x ≡ true → list_any (entry_eq x) (filter p keys) ≡ list_any (entry_eq x) keys
+keys_pass p alike [] x passes = refl
+keys_pass p alike (k ∷ keys) x passes = elim (cases_Bool (p k)) [
+  | inl is ↦ ap (list_any (entry_eq x)) (filter-true p k keys is)
+      ∙ ap (λ (b : Bool). entry_eq x k || b) (keys_pass p alike keys x passes)
+  | inr is ↦ (
+      let other : entry_eq x k ≡ false = elim (cases_Bool (entry_eq x k)) [
+        | inl same ↦ (let both = alike x k ((entry_eq-Decides x k).0 same) in cc)
+        | inr fails ↦ fails
+      ] in
+      ap (list_any (entry_eq x)) (filter-false p k keys is) ∙ keys_pass p alike keys x passes
+      ∙ sym (ap (λ (b : Bool). b || list_any (entry_eq x) keys) other))
+]
+
+key_passes : (p : Entry → Bool) → ((x y : Entry) → x ≡ y → p x ≡ p y) → (keys : List Entry)
+    (x : Entry) → p x ≡ true →
+    filter p (insert_key entry_eq keys x) ≡ insert_key entry_eq (filter p keys) x
+key_passes p alike keys x passes =
+    by (list_any (entry_eq x) keys)
+    ∙ ap (λ (b : Bool). cond b (filter p keys) (filter p keys ++ x ∷ []))
+    (sym (keys_pass p alike keys x passes))
+  where
+    by : (b : Bool) → filter p (cond b keys (keys ++ x ∷ []))
+        ≡ cond b (filter p keys) (filter p keys ++ x ∷ [])
+    by true = refl
+    by false = filter-append p keys (x ∷ [])
+        ∙ ap (λ (l : List Entry). filter p keys ++ l) (filter-true p x [] passes)
+
+key_fails : (p : Entry → Bool) (keys : List Entry) (x : Entry) → p x ≡ false →
+    filter p (insert_key entry_eq keys x) ≡ filter p keys
+key_fails p keys x fails = by (list_any (entry_eq x) keys)
+  where
+    by : (b : Bool) → filter p (cond b keys (keys ++ x ∷ [])) ≡ filter p keys
+    by true = refl
+    by false = filter-append p keys (x ∷ [])
+        ∙ ap (λ (l : List Entry). filter p keys ++ l) (filter-false p x [] fails)
+        ∙ append-nil (filter p keys)
+
+filter-insert_all : (p : Entry → Bool) → ((x y : Entry) → x ≡ y → p x ≡ p y) →
+    (keys xs : List Entry) →
+    filter p (insert_all entry_eq keys xs) ≡ insert_all entry_eq (filter p keys) (filter p xs)
+filter-insert_all p alike keys [] = refl
+filter-insert_all p alike keys (x ∷ xs) =
+    filter-insert_all p alike (insert_key entry_eq keys x) xs ∙ elim (cases_Bool (p x)) [
+      | inl is ↦ ap (λ (k : List Entry). insert_all entry_eq k (filter p xs))
+          (key_passes p alike keys x is)
+          ∙ ap (insert_all entry_eq (filter p keys)) (sym (filter-true p x xs is))
+      | inr is ↦ ap (λ (k : List Entry). insert_all entry_eq k (filter p xs)) (key_fails p keys x is)
+          ∙ ap (insert_all entry_eq (filter p keys)) (sym (filter-false p x xs is))
+    ]
+
+-- what is told apart of a sorted list is sorted
+far_once : (sorted : List Entry) →
+    IsSortedByKey (λ (e : Entry). e.form) (slice_cmp nat_cmp) sorted → (x y : Entry) →
+    Contains sorted x → Contains sorted y → IsEarlier sorted x y →
+    is_lt (slice_cmp nat_cmp y.form x.form) ≡ false
+far_once sorted up x y mx my earlier =
+    let px = place_of sorted x mx in
+    let py = place_of sorted y my in
+    let fx = first_place sorted x px.0 px.1 in
+    let fy = first_place sorted y py.0 py.1 in
+    let lt = earlier fx.0 fy.0 fx.1 fy.1 in
+    let within = slice_get_within sorted fy.0 y fy.1.here in
+    let at_x : get_or sorted fx.0 x ≡ x = get_or_from_slice_get sorted fx.0 x x fx.1.here in
+    let at_y : get_or sorted fy.0 x ≡ y = get_or_from_slice_get sorted fy.0 y x fy.1.here in
+    ap (λ (e : Entry). is_lt (slice_cmp nat_cmp y.form e.form)) (sym at_x)
+    ∙ ap (λ (e : Entry). is_lt (slice_cmp nat_cmp e.form (get_or sorted fx.0 x).form)) (sym at_y)
+    ∙ sorted_far _ (ranks_by nat_list_cmp_total (λ (e : Entry). e.form)) sorted up fx.0 fy.0 x
+    (omega (arith, lt)) within
+
+-- entries that are sorted by form, with those of one form in their order, and then told apart are the
+-- content
+pub IsContent-once : (listed sorted : List Entry) → IsPermutation listed sorted →
     IsSortedByKey (λ (e : Entry). e.form) (slice_cmp nat_cmp) sorted →
-    IsStableByKey (λ (e : Entry). e.form) (slice_cmp nat_cmp)
-    (insert_all entry_eq [] listed) sorted → IsContent listed sorted
-IsContent-sorted listed sorted moved up stable =
+    IsStableByKey (λ (e : Entry). e.form) (slice_cmp nat_cmp) listed sorted →
+    IsContent listed (insert_all entry_eq [] sorted)
+IsContent-once listed sorted moved up stable =
+    let content = insert_all entry_eq [] sorted in
     let keys = insert_all entry_eq [] listed in
     let firsts = AreFirsts-insert listed in
-    let members : (e : Entry) → Contains sorted e ↔ Contains listed e = λ e. (
-      λ member. (firsts.members e).0
-          (Contains-permutation sorted keys e (IsPermutation-sym keys sorted moved) member),
-      λ member. Contains-permutation keys sorted e moved ((firsts.members e).1 member),
+    let apart = AreDifferent-insert sorted in
+    let members : (e : Entry) → Contains content e ↔ Contains listed e = λ e. (
+      λ member. Contains-permutation sorted listed e (IsPermutation-sym listed sorted moved)
+          ((apart.members e).0 member),
+      λ member. (apart.members e).1 (Contains-permutation listed sorted e moved member),
     ) in
-    let pairs = sorted_pair listed sorted up (λ x.
-    subst (AllPairs (IsEarlier listed)) (sym (stable x))
-    (AllPairs-filter (IsEarlier listed) (tie x) keys firsts.pairs)) in
+    let ties_are : (x : Entry) → AllPairs (IsEarlier listed) (filter (tie x) content) = λ x.
+    subst (AllPairs (IsEarlier listed))
+    (filter-insert_all (tie x) (λ a b same. ap (tie x) same) [] listed
+    ∙ ap (insert_all entry_eq []) (sym (stable x))
+    ∙ sym (filter-insert_all (tie x) (λ a b same. ap (tie x) same) [] sorted))
+    (AllPairs-filter (IsEarlier listed) (tie x) keys firsts.pairs) in
+    let pairs : AllPairs (ComesBefore listed) content = λ i j d lt within.
+    let x = get_or content i d in
+    let y = get_or content j d in
+    let mx = (apart.members x).0 (Contains-get_or content i d (omega (arith, lt, within))) in
+    let my = (apart.members y).0 (Contains-get_or content j d within) in
+    by_form listed x y (far_once sorted up x y mx my (apart.ordered i j d lt within))
+    (λ same. pair_kept (IsEarlier listed) (tie x) content (ties_are x) i j d lt within
+    (tie-same x x refl) (tie-same x y same)) in
     record {
       members = members;
       once = λ i j d before within same.
-          ComesBefore-irreflexive listed (get_or sorted j d)
-          ((members (get_or sorted j d)).0 (Contains-get_or sorted j d within))
-          (subst (λ (x : Entry). ComesBefore listed x (get_or sorted j d)) same
+          ComesBefore-irreflexive listed (get_or content j d)
+          ((members (get_or content j d)).0 (Contains-get_or content j d within))
+          (subst (λ (x : Entry). ComesBefore listed x (get_or content j d)) same
           (pairs i j d before within));
       ordered = pairs;
     }

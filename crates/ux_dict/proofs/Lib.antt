@@ -13,5 +13,6 @@ pub mod FittingLemmas
 pub mod KeyLemmas
 pub mod NearLemmas
 pub mod RunLemmas
+pub mod RunOnceLemmas
 pub mod CodesLemmas
 pub mod ReadLemmas

@@ -6,4 +6,5 @@ pub mod Keys
 pub mod Kept
 pub mod Parts
 pub mod Places
+pub mod Runs
 pub mod Stored

@@ -1,7 +1,7 @@
 //! One list of codes for all entries of equal codes, with the text that is printed for it.
 
 ghost use Rattle.std.specs.Prelude.{◌≡◌, ◌↔◌, IsTrue, IfOk, IfSome};
-ghost use Rattle.ux_dela.specs.Printed.{printed_codes, printed_list};
+ghost use Rattle.ux_dela.specs.Printed.{printed_list};
 
 use indexmap::IndexMap;
 use std::alloc::{AllocError, Global};
@@ -9,7 +9,7 @@ use std::hash::{Hash, Hasher};
 use std::marker::Model;
 use std::rc::Rc;
 use ux_base::{NoMemory, Txt};
-use ux_dela::{Codes, Entry, print_codes};
+use ux_dela::{Codes, print_codes};
 
 /// Codes, compared by all of their parts.
 #[derive(Drop)]
@@ -99,27 +99,8 @@ impl SharedCodes {
     fn of(alloc: Global, codes: Codes) -> Result<SharedCodes, AllocError>
         ensures { IfOk result (λ shared. shared ≡ codes) }
     {
-        let Codes { gram, sem, infl } = codes;
-        // Codes are printed of an entry, whose form and lemma do not matter.
-        let entry = Entry {
-            form: Txt::new(String::new(alloc)),
-            lemma: Txt::new(String::new(alloc)),
-            gram,
-            sem,
-            infl,
-        };
-        let printed = printed_text(alloc, &entry)?;
-        let Entry {
-            form: _,
-            lemma: _,
-            gram,
-            sem,
-            infl,
-        } = entry;
-        Ok(SharedCodes {
-            codes: Codes { gram, sem, infl },
-            printed,
-        })
+        let printed = printed_text(alloc, &codes)?;
+        Ok(SharedCodes { codes, printed })
     }
 
     /// The codes, lent.
@@ -182,11 +163,12 @@ impl CodesTable {
     }
 }
 
-/// The codes of the entry as they are printed.
-fn printed_text(alloc: Global, entry: &Entry) -> Result<Txt, AllocError>
-    ensures { IfOk result (λ text. text ≡ printed_codes entry.now) }
+/// The codes as they are printed.
+fn printed_text(alloc: Global, codes: &Codes) -> Result<Txt, AllocError>
+    ensures { IfOk result (λ text.
+        text ≡ printed_list codes.now.gram codes.now.sem codes.now.infl) }
 {
-    match print_codes(alloc, entry) {
+    match print_codes(alloc, codes) {
         Ok(text) => Ok(Txt::new(text)),
         Err(NoMemory) => Err(AllocError),
     }

@@ -17,9 +17,9 @@ use crate::keys::keys_of;
 use crate::list_reached::ListReached;
 use crate::measures::{letters_of, longest_form};
 use crate::parts::{Part, of_form};
-use crate::sorting::sort_by_form;
+use crate::sorting::in_order;
 use crate::stored::Stored;
-use crate::stored_table::first_stored;
+use crate::stored_table::store_all;
 use std::alloc::{AllocError, Global};
 use std::marker::Model;
 use ux_alphabet::Alphabet;
@@ -181,7 +181,6 @@ impl ListLexicon {
 pub fn content_of(alloc: Global, entries: Vec<Entry>) -> Mem<Vec<Stored>>
     ensures { IfOk result (λ content. IsContent entries.items content.items) }
 {
-    let mut content = first_stored(alloc, entries)?;
-    sort_by_form(&mut content)?;
-    Ok(content)
+    let kept = store_all(alloc, entries)?;
+    Ok(in_order(alloc, kept)?)
 }

@@ -3,18 +3,17 @@
 //! The entries of a file are taken over line by line, so that no list of them is there beside the
 //! dictionary's own.
 
-ghost use Rattle.std.specs.Prelude.{◌≡◌, ◌⊎◌, [], IfOk, IfErr, OnOk};
-ghost use Rattle.ux_dela.specs.Files.{Refuses};
+ghost use Rattle.std.specs.Prelude.{◌≡◌, ◌⊎◌, IfOk, IfErr};
+ghost use Rattle.ux_dela.specs.Files.{AreEntries, Refuses};
 ghost use Rattle.ux_dela.specs.declared.error.DelaError.{DelaError};
 ghost use Rattle.ux_dela.specs.declared.error.DelaError.TheVariants.{NoMemory};
-ghost use Rattle.ux_dict.specs.FileContent.{IsFileContent, IsFileTable};
+ghost use Rattle.ux_dict.specs.FileContent.{IsFileContent};
 
 use crate::codes_table::CodesTable;
 use crate::list_lexicon::ListLexicon;
-use crate::sorting::sort_by_form;
+use crate::sorting::in_order;
 use crate::stored::Stored;
-use crate::stored_table::{entries_in, put_all};
-use indexmap::IndexSet;
+use crate::stored_table::put_all;
 use std::alloc::Global;
 use ux_base::lines;
 use ux_dela::{DelaError, read_delaf_line};
@@ -38,41 +37,24 @@ pub fn content_in(alloc: Global, text: &str) -> Result<Vec<Stored>, DelaError>
     ensures ok { IfOk result (λ content. IsFileContent text.now content.items) }
     ensures refused { IfErr result (λ error. (error ≡ NoMemory) ⊎ Refuses text.now error) }
 {
-    let table = table_of(alloc, text)?;
-    let mut content = entries_in(alloc, table)?;
-    sort_by_form(&mut content)?;
-    Ok(content)
+    let entries = entries_of(alloc, text)?;
+    Ok(in_order(alloc, entries)?)
 }
 
-/// The file's entries that differ.
-fn table_of(alloc: Global, text: &str) -> Result<IndexSet<Stored>, DelaError>
-    ensures ok { IfOk result (λ table. IsFileTable text.now table.keys) }
-    ensures refused { IfErr result (λ error. (error ≡ NoMemory) ⊎ Refuses text.now error) }
-{
-    let mut codes = CodesTable::new(alloc);
-    let mut table = IndexSet::new(alloc);
-    put_lines(alloc, text, &mut codes, &mut table)?;
-    Ok(table)
-}
-
-/// Puts the file's entries that differ into the empty table.
-fn put_lines(
-    alloc: Global,
-    text: &str,
-    codes: &mut CodesTable,
-    table: &mut IndexSet<Stored>,
-) -> Result<(), DelaError>
-    requires { table.now.keys ≡ [] }
-    ensures ok { OnOk result (IsFileTable text.now table.new.keys) }
+/// The file's entries.
+fn entries_of(alloc: Global, text: &str) -> Result<Vec<Stored>, DelaError>
+    ensures ok { IfOk result (λ entries. AreEntries text.now entries.items) }
     ensures refused { IfErr result (λ error. (error ≡ NoMemory) ⊎ Refuses text.now error) }
 {
     // A text has at most as many lines as bytes, so that a line's number fits.
     let _bytes = text.len();
+    let mut codes = CodesTable::new(alloc);
+    let mut kept = Vec::new(alloc);
     let mut number = 0;
     for line in lines(text) {
         number += 1;
         let entries = read_delaf_line(alloc, line, number)?;
-        put_all(alloc, entries, codes, table)?;
+        put_all(alloc, entries, &mut codes, &mut kept)?;
     }
-    Ok(())
+    Ok(kept)
 }

@@ -9,8 +9,8 @@ use std::alloc::Global;
 use ux_apply::Priority;
 use ux_base::{Folder, Txt};
 use ux_dela::DelaError;
-use ux_dict::ListLexicon;
 use ux_image_files::{OfImage, is_image, read_lexicon};
+use ux_image_lexicon::read_text as read_forms;
 use ux_lexicon::AnyLexicon;
 use ux_plan::{OfDecode, Stop, base_of, read_decoded, refused};
 
@@ -85,7 +85,7 @@ fn read_imaged<F: Folder, R: OfImage>(
     Ok((Priority::of(base_of(name)), AnyLexicon::Image(lexicon)))
 }
 
-/// Reads a file of forms as a dictionary.
+/// Reads a file of forms as a dictionary, and makes the automaton of its forms.
 #[tactic(auto, using(ux_plan::proofs::Decoded::decoding))]
 fn read_text<F: Folder, R: OfDecode + OfDela>(
     alloc: Global,
@@ -99,8 +99,8 @@ fn read_text<F: Folder, R: OfDecode + OfDela>(
         name.now (F.seen folder.old) (F.seen folder.new)) }
 {
     let text = read_decoded(alloc, name, folder)?;
-    match ListLexicon::read(alloc, text.as_str()) {
-        Ok(lexicon) => Ok((Priority::of(base_of(name)), AnyLexicon::List(lexicon))),
+    match read_forms(alloc, text.as_str()) {
+        Ok(lexicon) => Ok((Priority::of(base_of(name)), AnyLexicon::Image(lexicon))),
         Err(DelaError::NoMemory) => Err(Stop::NoMemory),
         Err(error) => Err(refused(alloc, name, R::of_dela(error))),
     }

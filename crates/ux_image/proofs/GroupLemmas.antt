@@ -1,19 +1,25 @@
 -- The forms of a content with their codes, a form at a time.
-use Rattle.std.proofs.Common.{arith, ◌≡◌, ◌≢◌, ℕ, ◌<◌, List, [], ◌∷◌, ◌++◌, append_assoc, Bool, true, false, not, cond, inl, refl, sym, ◌∙◌, ap, subst, length, take, drop, map, filter}
+use Rattle.std.proofs.Common.{arith, ◌≡◌, ◌≢◌, ℕ, ◌<◌, List, [], ◌∷◌, ◌++◌, append_assoc, Bool, true, false, not, cond, inl, inr, refl, sym, ◌∙◌, ap, subst, length, take, drop, map, filter}
 use Rattle.std.specs.Prelude.{All, Some, None, slice_get}
+use Rattle.std.specs.Cmp.Lexicographic.{slice_cmp}
 use Rattle.std.specs.List.{take_while}
+use Rattle.std.specs.Ordering.{nat_cmp}
+use Rattle.std.specs.declared.cmp.Ordering.TheVariants.{Less}
 use Rattle.std.specs.Str.{bytes_eq, chars}
 use Rattle.std.proofs.lemmas.Option.{none-some, same_Some}
+use Rattle.std.proofs.lemmas.Str.{chars-nil}
 use Rattle.std.proofs.lemmas.Slice.Eq.{bytes_eq-Decides}
 use Rattle.std.proofs.lemmas.List.{append-nil, map-append, take-append-drop, length-take, length-drop}
 use Rattle.std.proofs.lemmas.List.Elements.{All-cons, All-head, All-tail, All-filter, All-weaker, All-map, filter-append}
 use Rattle.ux_base.specs.Distinct.{each_once, AreFirsts}
 use Rattle.ux_base.proofs.DistinctLemmas.{differs}
 use Rattle.ux_base.proofs.FirstsLemmas.{AreFirsts-nil}
+use Rattle.ux_dawg.specs.Forms.{last_letters}
 use Rattle.ux_dawg.specs.declared.state.Form.{Form}
+use Rattle.ux_dawg.proofs.FormsLemmas.{last_letters-push}
 use Rattle.ux_dela.specs.declared.entry.Entry.{Entry}
-use Rattle.ux_image.specs.Contents.{AreInOrder, IsContent, forms_in, entries_of_form, code_list, forms_with_codes, AreNumbered, AreForms}
-use Rattle.ux_image.specs.Grouping.{IsPut, IsGrouped}
+use Rattle.ux_image.specs.Contents.{AreInOrder, IsContent, Precedes, forms_in, entries_of_form, code_list, forms_with_codes, AreNumbered, AreForms}
+use Rattle.ux_image.specs.Grouping.{ComesNext, IsPut, IsGrouped}
 use Rattle.ux_image.specs.declared.code.CodeList.{CodeList}
 use Rattle.ux_image.proofs.OrderLemmas.{has_form, run_of, run_same, run_some, run_count, behind_run, others_behind}
 
@@ -184,6 +190,7 @@ grouped_start content lists forms is no_list no_form =
     subst (λ (l : List CodeList). IsGrouped content content l forms) (sym no_list)
     (subst (λ (f : List Form). IsGrouped content content [] f) (sym no_form) (record {
       last = [];
+      so_far = sym chars-nil;
       ordered = is.ordered;
       fresh = λ entry at. first_some content is.some entry at;
       done = [];
@@ -198,6 +205,21 @@ grouped_start content lists forms is no_list no_form =
         subst (λ (x : Entry). x.form ≢ []) (same_Some e entry at)
         (All-head (λ (x : Entry). x.form ≢ []) e entries some)
 
+-- the form of the first that is left comes after the last one
+pub comes_next : (content rest : List Entry) (lists : List CodeList) (forms : List Form)
+    (first : Entry) (letters : List ℕ) → IsGrouped content rest lists forms →
+    slice_get rest 0 ≡ Some first → letters ≡ chars first.form → ComesNext forms letters
+comes_next content [] lists forms first letters is at spelled = absurd (none-some first at)
+comes_next content (entry ∷ rest) lists forms first letters is at spelled =
+    let one = same_Some entry first at in
+    let after : Precedes is.last entry.form = elim is.ordered.0 [
+      | inl same ↦ absurd (is.fresh entry refl same)
+      | inr more ↦ more
+    ] in
+    let here : ComesNext forms (chars entry.form) =
+    subst (λ (l : List ℕ). slice_cmp nat_cmp l (chars entry.form) ≡ Less) (sym is.so_far) after in
+    subst (ComesNext forms) (ap (λ (e : Entry). chars e.form) one ∙ sym spelled) here
+
 -- and then those of one form after another
 pub grouped_more : (content rest run behind : List Entry) (first : Entry)
     (lists lists' : List CodeList) (forms forms' : List Form) →
@@ -209,6 +231,8 @@ grouped_more content [] run behind first lists lists' forms forms' so_far at is_
 grouped_more content (entry ∷ rest) run behind first lists lists' forms forms' so_far at is_run
     is_behind put = record {
       last = first.form;
+      so_far = ap (last_letters []) put.pushed
+          ∙ last_letters-push [] forms (record { letters = chars first.form; code = put.number });
       ordered = after.0;
       fresh = after.1;
       done = so_far.done ++ (first.form, code_list run) ∷ [];

@@ -1,4 +1,5 @@
 pub mod CutLemmas
+pub mod DictionaryLaws
 pub mod SharedLemmas
 pub mod MadeLemmas
 pub mod Utf8Lemmas

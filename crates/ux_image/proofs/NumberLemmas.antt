@@ -4,12 +4,16 @@ use Rattle.std.specs.Prelude.{All, Option, None, Some, slice_get, unwrap_or, pos
 use Rattle.std.specs.List.{cons_option, flat_map, position_or_len}
 use Rattle.std.specs.Option.{option_to_list}
 use Rattle.std.proofs.lemmas.Bool.{ltb-false}
-use Rattle.std.proofs.lemmas.List.{take_all, take_more, map-append}
-use Rattle.std.proofs.lemmas.List.Elements.{All-same, All-append, filter_map-append}
+use Rattle.std.proofs.lemmas.List.{append-nil, take_all, take_more, map-append}
+use Rattle.std.proofs.lemmas.List.Elements.{All-cons, All-same, All-append, filter_map-append}
 use Rattle.std.proofs.lemmas.List.Sums.{prefix_len-le-length}
 use Rattle.std.proofs.lemmas.Grind.{flat_map-append}
+use Rattle.std.proofs.lemmas.Option.{slice_get-get_or}
 use Rattle.ux_base.specs.Distinct.{AreFirsts, GrowsBy}
 use Rattle.ux_dawg.specs.declared.state.State.{State}
+use Rattle.ux_dawg.specs.declared.state.Edge.{Edge}
+use Rattle.ux_dawg.specs.Building.{bare}
+use Rattle.ux_dawg.specs.Flat.{state_of}
 use Rattle.ux_image.specs.Images.{numbers_in, lists_of}
 use Rattle.ux_image.specs.declared.code.CodeList.{CodeList}
 
@@ -35,6 +39,42 @@ one_number state = by state.code
         numbers_in (record { code = code; edges = state.edges } ∷ []) ≡ option_to_list code
     by None = refl
     by (Some n) = refl
+
+-- what is read of a state by its number
+module _ (states : List State) (number : ℕ) (within : number < length states) (code : Option ℕ)
+    (code_is : code ≡ (get_or states number bare).code) where
+  -- its number is the one of the state that stands there
+  pub number_at : option_to_list code ≡ numbers_in (option_to_list (slice_get states number))
+  number_at =
+      ap option_to_list code_is
+      ∙ sym (one_number (get_or states number bare))
+      ∙ ap (λ found. numbers_in (option_to_list found))
+      (sym (slice_get-get_or states number bare within))
+
+  module _ (edges : List Edge) (edges_is : edges ≡ (get_or states number bare).edges) where
+    -- and with its edges it is that state
+    state_at : state_of code edges ∷ [] ≡ option_to_list (slice_get states number)
+    state_at =
+        ap (λ (state : State). state ∷ [])
+        (let same : state_of code edges ≡ get_or states number bare =
+        λ j. record { code = code_is j; edges = edges_is j } in same)
+        ∙ ap option_to_list (sym (slice_get-get_or states number bare within))
+
+    -- its bytes
+    pub bytes_at : (g : State → State) (bytes : State → List ℕ) (front new : List ℕ) →
+        new ≡ front ++ bytes (g (state_of code edges)) →
+        new ≡ front ++ flat_map bytes (map g (option_to_list (slice_get states number)))
+    bytes_at g bytes front new is =
+        is ∙ ap (λ (bs : List ℕ). front ++ bs)
+        (sym (append-nil (bytes (g (state_of code edges))))
+        ∙ ap (λ (l : List State). flat_map bytes (map g l)) state_at)
+
+    -- and what holds of it
+    pub all_at : (P : State → Type 0) (g : State → State) → P (g (state_of code edges)) →
+        All P (map g (option_to_list (slice_get states number)))
+    all_at P g holds =
+        All-same P _ _ (ap (map g) (sym state_at))
+        (All-cons P (g (state_of code edges)) [] holds (λ k d less. absurd (omega (arith, less))))
 
 -- the numbers of one state more
 pub firsts_more : (states : List State) (i : ℕ) (old new : List ℕ) →

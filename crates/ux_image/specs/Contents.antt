@@ -1,6 +1,6 @@
 -- The content of a dictionary: its forms, each with the codes of its entries. The manual, on
 -- compressing dictionaries. Public: the crate's public contracts speak of it.
-use Rattle.std.specs.Prelude.{◌≡◌, ◌≢◌, ℕ, List, [], ◌∷◌, ◌⊎◌, Some, All, map, filter, slice_get}
+use Rattle.std.specs.Prelude.{◌≡◌, ◌≢◌, ℕ, List, [], ◌∷◌, ◌⊎◌, Some, All, IsUtf8, map, filter, slice_get}
 use Rattle.std.specs.Cmp.Lexicographic.{slice_cmp}
 use Rattle.std.specs.Ordering.{nat_cmp}
 use Rattle.std.specs.declared.cmp.Ordering.TheVariants.{Less}
@@ -25,6 +25,11 @@ AreInOrder last (entry ∷ entries) =
 pub record IsContent (entries : List Entry) : Type 0 where
   pub some : All (λ entry. entry.form ≢ []) entries
   pub ordered : AreInOrder [] entries
+
+-- the form and the lemma of the entry are text
+pub record HasTexts (entry : Entry) : Type 0 where
+  pub form : IsUtf8 entry.form
+  pub lemma : IsUtf8 entry.lemma
 
 -- the forms of the entries, each once
 abbrev pub forms_in : List Entry → List (List ℕ)

@@ -3,6 +3,7 @@
 ghost use Rattle.std.specs.Prelude.{◌≡◌, ◌+◌, ◌<◌, ◌^◌, ◌++◌, [], All, IfOk, OnOk, length, map, nat_eq, option_map, slice_get};
 ghost use Rattle.std.specs.List.{flat_map, position_or_len};
 ghost use Rattle.std.specs.Option.{option_to_list};
+ghost use Rattle.ux_dawg.specs.Flat.{state_of};
 ghost use Rattle.ux_image.specs.Contents.{IsContent};
 ghost use Rattle.ux_image.specs.Images.{IsImage, IsLaidOut, lists_of, renumbered};
 ghost use Rattle.ux_image.specs.Layout.{number_bytes, state_bytes, list_bytes, final_number, StateFits, ListFits};
@@ -15,7 +16,7 @@ use crate::numbering::{order_of, place_in};
 use indexmap::IndexSet;
 use std::alloc::Global;
 use ux_base::{Mem, NoMemory};
-use ux_dawg::{Dawg, State};
+use ux_dawg::{Dawg, Edge};
 use ux_dict::Stored;
 
 /// The bytes with which each image begins.
@@ -118,32 +119,41 @@ fn put_states(bytes: &mut Vec<u8>, automaton: &Dawg, order: &IndexSet<u32>) -> M
     put_state_at(bytes, automaton, order, root)
 }
 
-/// Puts the state of the number, if there is one.
+/// Puts the state of the number.
 fn put_state_at(
     bytes: &mut Vec<u8>,
     automaton: &Dawg,
     order: &IndexSet<u32>,
     number: usize,
 ) -> Mem<()>
+    requires { number < length automaton.now }
     ensures bytes { OnOk result (bytes.new.items ≡ bytes.old.items
         ++ flat_map state_bytes (map (renumbered order.now.keys)
         (option_to_list (slice_get automaton.now number)))) }
     ensures fits { OnOk result (All StateFits (map (renumbered order.now.keys)
         (option_to_list (slice_get automaton.now number)))) }
 {
-    match automaton.state(number) {
-        Some(state) => put_state(bytes, order, state),
-        None => Ok(()),
-    }
+    put_state(
+        bytes,
+        order,
+        automaton.code(number),
+        automaton.edges(number),
+    )
 }
 
-fn put_state(bytes: &mut Vec<u8>, order: &IndexSet<u32>, state: &State) -> Mem<()>
+/// Puts the state with this number of a list and these edges.
+fn put_state(
+    bytes: &mut Vec<u8>,
+    order: &IndexSet<u32>,
+    code: Option<u32>,
+    edges: &[Edge],
+) -> Mem<()>
     ensures bytes { OnOk result (bytes.new.items ≡ bytes.old.items
-        ++ state_bytes (renumbered order.now.keys state.now)) }
-    ensures fits { OnOk result (StateFits (renumbered order.now.keys state.now)) }
+        ++ state_bytes (renumbered order.now.keys (state_of code edges.now))) }
+    ensures fits { OnOk result (StateFits (renumbered order.now.keys (state_of code edges.now))) }
 {
-    put_number(bytes, final_in(order, state.code)?)?;
-    put_edges(bytes, state.edges.as_slice())
+    put_number(bytes, final_in(order, code)?)?;
+    put_edges(bytes, edges)
 }
 
 /// How a state tells the place of its number.

@@ -36,7 +36,7 @@ mod rebuilding;
 
 pub use code::{Code, CodeList, Pair};
 pub use coding::{code_of, is_short};
-pub use content::is_content;
+pub use content::{dictionary_is_content, is_content};
 pub use image::image_of;
 pub use laws::{code_decides_entry, code_makes_entry, content_decides_image, image_tells_content};
 pub use listing::{Listing, list_codes};

@@ -10,7 +10,7 @@ ghost use Rattle.ux_dawg.specs.Forms.{form_of};
 ghost use Rattle.ux_dela.specs.declared.entry.Entry.{Entry as EntryRecord};
 ghost use Rattle.ux_image.specs.Codes.{entry_code};
 ghost use Rattle.ux_image.specs.Contents.{IsContent, AreForms, code_list};
-ghost use Rattle.ux_image.specs.Grouping.{IsKept, IsPut};
+ghost use Rattle.ux_image.specs.Grouping.{ComesNext, IsKept, IsPut};
 
 use crate::code::CodeList;
 use crate::coding::{code_of, is_short};
@@ -63,11 +63,14 @@ fn run_len(form: &str, entries: &[Stored]) -> usize
         .count()
 }
 
-/// The builder with one more form, if it still holds one.
+/// The builder with one more form, which comes after the last one. Where the forms have no longer
+/// fewer than 2^32 characters together, memory ran out.
 fn with_form(builder: Builder, letters: &[char], number: usize) -> Mem<Builder>
+    requires { ComesNext builder letters.now }
     ensures { IfOk result (λ more. more ≡ builder ++ form_of letters.now number ∷ []) }
 {
     let code = number_of(number)?;
+    // The form comes in order, so that only the number of characters can be against it.
     if !builder.may_add(letters) {
         return Err(NoMemory);
     }

@@ -1,6 +1,6 @@
 //! The numbers of lists in an image: by their first use, in order of state.
 
-ghost use Rattle.std.specs.Prelude.{◌≡◌, IfOk, OnOk, nat_eq, slice_get};
+ghost use Rattle.std.specs.Prelude.{◌≡◌, ◌<◌, IfOk, OnOk, length, nat_eq, slice_get};
 ghost use Rattle.std.specs.List.{position_or_len, filter_map};
 ghost use Rattle.std.specs.Option.{option_to_list};
 ghost use Rattle.ux_base.specs.Distinct.{AreFirsts, GrowsBy};
@@ -27,13 +27,11 @@ pub(crate) fn order_of(alloc: Global, automaton: &Dawg) -> Mem<IndexSet<u32>>
 
 /// Notes the number of the state, if it is final.
 fn note_state(order: &mut IndexSet<u32>, automaton: &Dawg, number: usize) -> Mem<()>
+    requires { number < length automaton.now }
     ensures { OnOk result (GrowsBy (numbers_in (option_to_list (slice_get automaton.now number)))
         order.old.keys order.new.keys) }
 {
-    match automaton.state(number) {
-        Some(state) => note_code(order, state.code),
-        None => Ok(()),
-    }
+    note_code(order, automaton.code(number))
 }
 
 /// Notes the number, if there is one.

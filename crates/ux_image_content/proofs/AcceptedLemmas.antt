@@ -32,9 +32,7 @@ module _ (states : List State) where
       let rest = right_on u h.0 j w c h.4 path in
       (h.1, h.2, (h.0, rest.0, h.3, rest.1, rest.2))
 
-  module _ (forms : List Form) (root : ℕ) (is : IsAutomaton forms states root)
-      (good : (w : List ℕ) (c : ℕ) → Contains forms (form_of w c) →
-      (0 < length w) × All IsLetter w) where
+  module _ (forms : List Form) (root : ℕ) (is : IsAutomaton forms states root) where
     -- no form, one state
     single : length forms ≡ 0 → length states ≡ 1
     single none = elim (cases_lt 1 (length states)) [
@@ -54,6 +52,27 @@ module _ (states : List State) where
             let has = (is.exact (way.0 ++ w) c).0 (right_on way.0 root i w c way.1 path) in
             let low = has.1 in omega (arith, low, none)
 
+    -- a state without number and edges is alone
+    pub alone : (i : ℕ) (s : State) → slice_get states i ≡ Some s → s.code ≡ None → s.edges ≡ [] →
+        length states ≡ 1
+    alone i s at code edges = elim (cases_lt 0 (length forms)) [
+      | inl some ↦
+          let path = is.paths some i (slice_get_within states i s at) in
+          let same = same_Some path.2.0 s (sym path.2.1 ∙ at) in
+          absurd (stuck path.0 path.1
+          (subst (λ (t : State). Right states t path.0 path.1) same path.2.2))
+      | inr none ↦ single (omega (arith, none))
+    ]
+      where
+        stuck : (w : List ℕ) (c : ℕ) → Right states s w c → ⊥
+        stuck [] c h = none-some c (sym code ∙ h)
+        stuck (a ∷ w) c h =
+            let has = subst (λ (l : List Edge). Contains l (edge a h.0)) edges h.2 in
+            let low = has.1 in omega (arith, low)
+
+  module _ (forms : List Form) (root : ℕ) (is : IsAutomaton forms states root)
+      (good : (w : List ℕ) (c : ℕ) → Contains forms (form_of w c) →
+      (0 < length w) × All IsLetter w) where
     -- a letter that leads on is one of a form
     edge_letter : (i : ℕ) (s : State) → slice_get states i ≡ Some s → (e : Edge) →
         Contains s.edges e → IsLetter e.letter
@@ -71,27 +90,9 @@ module _ (states : List State) where
               ((is.exact (way.0 ++ e.letter ∷ path.0) path.1).0 whole)).1 in
               standing IsLetter way.0 e.letter path.0 all
           | inr none ↦
-              let one = single (omega (arith, none)) in
+              let one = single forms root is (omega (arith, none)) in
               absurd (omega (arith, one, inside, under))
         ]
-
-    -- a state without number and edges is alone
-    alone : (i : ℕ) (s : State) → slice_get states i ≡ Some s → s.code ≡ None → s.edges ≡ [] →
-        length states ≡ 1
-    alone i s at code edges = elim (cases_lt 0 (length forms)) [
-      | inl some ↦
-          let path = is.paths some i (slice_get_within states i s at) in
-          let same = same_Some path.2.0 s (sym path.2.1 ∙ at) in
-          absurd (stuck path.0 path.1
-          (subst (λ (t : State). Right states t path.0 path.1) same path.2.2))
-      | inr none ↦ single (omega (arith, none))
-    ]
-      where
-        stuck : (w : List ℕ) (c : ℕ) → Right states s w c → ⊥
-        stuck [] c h = none-some c (sym code ∙ h)
-        stuck (a ∷ w) c h =
-            let has = subst (λ (l : List Edge). Contains l (edge a h.0)) edges h.2 in
-            let low = has.1 in omega (arith, low)
 
     edges_pass : (i : ℕ) (s : State) → slice_get states i ≡ Some s → ArePassed i s.edges
     edges_pass i s at =
@@ -119,7 +120,8 @@ module _ (states : List State) where
         (let l = length-take i states in omega (arith, l, inside)) in
         let passed = subst (λ n. ArePassed n s.edges) (sym number) (edges_pass i s at) in (
           list_of s.code refl,
-          λ none no_edge. alone i s at (code_none s.code refl none) (nil_from_length s.edges no_edge),
+          λ none no_edge. alone forms root is i s at (code_none s.code refl none)
+              (nil_from_length s.edges no_edge),
           edges_end (length (take i states)) s.edges passed (length s.edges) refl,
         )
       where

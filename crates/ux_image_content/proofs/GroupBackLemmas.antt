@@ -5,15 +5,16 @@ use Rattle.std.specs.Prelude.{All, AllPairs, Some, flat_map, slice_get}
 use Rattle.std.specs.Str.{IsUtf8, all_scalars, bytes_eq, chars, encode_utf8_all}
 use Rattle.std.proofs.lemmas.Bool.{and_parts}
 use Rattle.std.proofs.lemmas.List.{get_or-map, get_or_append_left, length-append, length-drop, length-map, take-append-drop}
-use Rattle.std.proofs.lemmas.List.Elements.{All-cons, All-drop, All-head, All-map, All-nil, All-tail, All-take}
+use Rattle.std.proofs.lemmas.List.Elements.{All-cons, All-drop, All-filter, All-head, All-map, All-nil, All-tail, All-take}
 use Rattle.std.proofs.lemmas.Str.{scalars-chars}
+use Rattle.ux_dela.specs.Printed.{printed_codes}
 use Rattle.ux_dela.specs.Sound.{HasNoFeed, IsSound}
 use Rattle.ux_dela.specs.declared.entry.Entry.{Entry}
 use Rattle.ux_dela.proofs.PrintLemmas.{printed_no_feed}
 use Rattle.ux_dela.proofs.SoundLemmas.{no_feed-rest}
 use Rattle.ux_dict.proofs.PairLemmas.{AllPairs-tail}
 use Rattle.ux_image.specs.Codes.{behind_chars, entry_code, front_chars, pair_between, pairs_between, pairs_of_pieces, shared_len, Rebuilds}
-use Rattle.ux_image.specs.Contents.{code_list, forms_with_codes, AreInOrder, Precedes}
+use Rattle.ux_image.specs.Contents.{code_list, entries_of_form, forms_in, forms_with_codes, AreInOrder, Precedes}
 use Rattle.ux_image.specs.Layout.{CodeFits, ListFits}
 use Rattle.ux_image.specs.Pieces.{pieces, separators}
 use Rattle.ux_image.specs.declared.code.Code.{Code}
@@ -21,21 +22,25 @@ use Rattle.ux_image.specs.declared.code.CodeList.{CodeList}
 use Rattle.ux_image.specs.declared.code.Pair.{Pair}
 use Rattle.ux_image.proofs.GroupLemmas.{groups_cut}
 use Rattle.ux_image.proofs.OneEntryLaws.{one_entry}
-use Rattle.ux_image.proofs.OrderLemmas.{behind_run, others_behind, run_of, run_same}
+use Rattle.ux_image.proofs.OrderLemmas.{behind_run, has_form, others_behind, run_of, run_same}
 use Rattle.ux_image.proofs.RebuiltLaws.{rebuilds_again}
 use Rattle.ux_image.proofs.Utf8Lemmas.{pieces_utf8, some_piece}
 use Rattle.ux_image_lists.specs.Lists.{IsText}
 use Rattle.ux_image_content.specs.Contents.{AreRebuilt}
+use Rattle.ux_image_content.specs.Walking.{IsGood}
 use Rattle.ux_image_content.proofs.EntryLemmas.{rebuilt_append}
 use Rattle.ux_image_content.proofs.LemmaLemmas.{front_and_rest, pieces_no_feed}
 use Rattle.ux_image_content.proofs.PrintedTextLemmas.{printed_utf8}
 use Rattle.ux_image_content.proofs.ListsBackLemmas.{IsCode, IsList}
 
--- a sound entry whose texts are UTF-8
+-- a sound entry whose form and lemma are UTF-8
 pub record IsGoodEntry (entry : Entry) : Type 0 where
   pub sound : IsSound entry
   pub form : IsUtf8 entry.form
   pub lemma : IsUtf8 entry.lemma
+
+-- the codes of the entry are UTF-8
+pub record HasTextCodes (entry : Entry) : Type 0 where
   pub gram : IsUtf8 entry.gram
   pub sem : All IsUtf8 entry.sem
   pub infl : All IsUtf8 entry.infl
@@ -97,24 +102,46 @@ pairs_some form lemma =
     by true (x ∷ ps) (y ∷ qs) p q = omega arith
     by false ps qs p q = omega arith
 
-code_good : (entry : Entry) → IsGoodEntry entry → CodeFits (entry_code entry) →
-    IsCode (entry_code entry)
-code_good entry good fits =
-    let texts = pairs_text entry.form entry.lemma good.lemma good.sound.lemma.no_feed in
+-- the code of an entry is as images have them
+pub entry_good : (entry : Entry) → IsGoodEntry entry → IsGood (entry_code entry)
+entry_good entry good = record {
+  printed = (
+    record { gram = entry.gram; sem = entry.sem; infl = entry.infl },
+    record { printed = refl; sound = good.sound.codes },
+  );
+  texts = pairs_text entry.form entry.lemma good.lemma good.sound.lemma.no_feed;
+}
+
+code_good : (entry : Entry) → IsGoodEntry entry → IsUtf8 (printed_codes entry) →
+    CodeFits (entry_code entry) → IsCode (entry_code entry)
+code_good entry good utf8 fits =
+    let is = entry_good entry good in
     record {
       few = fits.0.0;
       some = pairs_some entry.form entry.lemma;
-      pairs = λ k d less. record { fits = fits.0.1 k d less; text = texts k d less };
+      pairs = λ k d less. record { fits = fits.0.1 k d less; text = is.texts k d less };
       short = fits.1;
-      text = (
-        printed_utf8 entry.gram entry.sem entry.infl good.gram good.sem good.infl,
-        printed_no_feed entry.gram entry.sem entry.infl good.sound.codes,
-      );
-      printed = (
-        record { gram = entry.gram; sem = entry.sem; infl = entry.infl },
-        record { printed = refl; sound = good.sound.codes },
-      );
+      text = (utf8, printed_no_feed entry.gram entry.sem entry.infl good.sound.codes);
+      printed = is.printed;
     }
+
+-- what holds of the code of each entry holds of each code of a form
+pub codes_among : (P : Code → Type 0) (content : List Entry) →
+    All (λ (e : Entry). P (entry_code e)) content → All (λ (g : List ℕ × CodeList).
+    All P (g.1).codes) (forms_with_codes content)
+codes_among P content all =
+    let Each : List ℕ × CodeList → Type 0 = λ g. All P (g.1).codes in
+    All-map Each (λ form. (form, code_list (entries_of_form form content))) (forms_in content)
+    (λ k d less.
+    let own = entries_of_form (get_or (forms_in content) k d) content in
+    All-map P entry_code own
+    (All-filter (has_form (get_or (forms_in content) k d)) (λ (e : Entry). P (entry_code e)) content
+    all))
+
+-- entries with such codes print text
+pub codes_text : (entry : Entry) → HasTextCodes entry → IsUtf8 (printed_codes entry)
+codes_text entry has =
+    printed_utf8 entry.gram entry.sem entry.infl has.gram has.sem has.infl
 
 -- GROUPS
 
@@ -151,11 +178,14 @@ codes_apart form run same good apart i j d less within equal =
     (subst (λ (f : List ℕ). Rebuilds f (entry_code y) x) forms
     (subst (λ (c : Code). Rebuilds x.form c x) codes made)) other)
 
-pub group_list : (group : List ℕ × CodeList) → IsGroup group → ListFits group.1 → IsList group.1
-group_list group is fits =
+pub group_list : (group : List ℕ × CodeList) → IsGroup group →
+    All (λ (c : Code). IsUtf8 c.codes) (group.1).codes → ListFits group.1 → IsList group.1
+group_list group is utf8 fits =
     let long = length-map is.run entry_code in
     let some = is.some in
     let fit : ListFits (code_list is.run) = subst ListFits is.list fits in
+    let Text : CodeList → Type 0 = λ l. All (λ (c : Code). IsUtf8 c.codes) l.codes in
+    let text : Text (code_list is.run) = subst Text is.list utf8 in
     subst IsList (sym is.list) (record {
       few = fit.0;
       some = omega (arith, long, some);
@@ -163,6 +193,7 @@ group_list group is fits =
           let inside : k < length (map entry_code is.run) = omega (arith, long, less) in
           let at = get_or-map entry_code is.run k d (entry_code d) less in
           code_good (get_or is.run k d) (is.good k d less)
+          (subst (λ (c : Code). IsUtf8 c.codes) at (text k (entry_code d) inside))
           (subst CodeFits at (fit.1 k (entry_code d) inside)));
       apart = codes_apart group.0 is.run is.same is.good is.apart;
     })
@@ -195,7 +226,8 @@ pub record Groups (last : List ℕ) (content : List Entry) : Type 0 where
   pub rebuilt : AreRebuilt (tells (forms_with_codes content)) content
   pub after : AreAfter last (forms_with_codes content)
 
-apart_front : (xs ys : List Entry) → AllPairs (λ x y. x ≢ y) (xs ++ ys) →
+-- parts of a list that has each entry once have each once
+pub apart_front : (xs ys : List Entry) → AllPairs (λ x y. x ≢ y) (xs ++ ys) →
     AllPairs (λ x y. x ≢ y) xs
 apart_front xs ys apart i j d less within same =
     let long = length-append xs ys in
@@ -203,7 +235,7 @@ apart_front xs ys apart i j d less within same =
     (get_or_append_left xs ys d i (omega (arith, less, within)) ∙ same
     ∙ sym (get_or_append_left xs ys d j within))
 
-apart_rest : (xs ys : List Entry) → AllPairs (λ x y. x ≢ y) (xs ++ ys) →
+pub apart_rest : (xs ys : List Entry) → AllPairs (λ x y. x ≢ y) (xs ++ ys) →
     AllPairs (λ x y. x ≢ y) ys
 apart_rest [] ys apart = apart
 apart_rest (x ∷ xs) ys apart =

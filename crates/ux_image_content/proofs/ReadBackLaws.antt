@@ -1,7 +1,7 @@
 -- The image of a content reads back: it is an image, and its content is this one.
 use Rattle.std.proofs.Common.{arith, ◌≡◌, ◌≢◌, ℕ, ◌^◌, ◌<◌, ◌≤◌, List, [], ◌∷◌, refl, sym, ◌∙◌, ap, subst, length, map, get_or}
 use Rattle.std.specs.Prelude.{All, AllPairs, Contains, Some, flat_map, slice_get, sum_by}
-use Rattle.std.specs.Str.{chars, encode_utf8_all}
+use Rattle.std.specs.Str.{IsUtf8, chars, encode_utf8_all}
 use Rattle.std.proofs.lemmas.List.Elements.{All-contains, Contains-get_or}
 use Rattle.std.proofs.lemmas.Simd.{map-map}
 use Rattle.ux_dawg.specs.Automaton.{IsAutomaton}
@@ -34,7 +34,7 @@ use Rattle.ux_image_content.specs.Files.{IsImageContent, MOST_LETTERS}
 use Rattle.ux_image_content.proofs.AcceptedLemmas.{are_accepted}
 use Rattle.ux_image_content.proofs.FirstUseLemmas.{first_used, one_place, AreUsed}
 use Rattle.ux_image_content.proofs.FrontBackLemmas.{front_of, is_front, lists_there}
-use Rattle.ux_image_content.proofs.GroupBackLemmas.{group_list, groups_of, tells, Groups, IsGoodEntry, IsGroup}
+use Rattle.ux_image_content.proofs.GroupBackLemmas.{codes_among, codes_text, group_list, groups_of, tells, Groups, HasTextCodes, IsGoodEntry, IsGroup}
 use Rattle.ux_image_content.proofs.ListsBackLemmas.{lists_begin, IsList}
 use Rattle.ux_image_content.proofs.PathLemmas.{forms_same}
 use Rattle.ux_image_content.proofs.ShortestBackLemmas.{shortest_are}
@@ -59,6 +59,7 @@ keys_are states (l ∷ lists) = ap (λ (ls : List CodeList). l ∷ ls) (keys_are
 
 module _ (content : List Entry) (bytes : List ℕ) (image : IsImage content bytes)
     (ordered : IsContent content) (good : All IsGoodEntry content)
+    (texts : All HasTextCodes content)
     (apart : AllPairs (λ x y. x ≢ y) content) (short : length bytes < 2 ^ 32)
     (few : sum_by (λ (e : Entry). length (chars e.form)) content ≤ MOST_LETTERS) where
   abbrev order : List ℕ
@@ -165,7 +166,11 @@ module _ (content : List Entry) (bytes : List ℕ) (image : IsImage content byte
       let group = Contains-unmap (λ (g : List ℕ × CodeList). g.1) (forms_with_codes content) l
       ((image.are_forms.once.same l).0 stands) in
       let is = All-contains IsGroup (forms_with_codes content) group.0 known.each group.1 in
-      subst IsList group.2 (group_list group.0 is
+      let printed = codes_among (λ (c : Code). IsUtf8 c.codes) content (λ k d less.
+      codes_text (get_or content k d) (texts k d less)) in
+      let text = All-contains (λ (g : List ℕ × CodeList). All (λ (c : Code). IsUtf8 c.codes) (g.1).codes)
+      (forms_with_codes content) group.0 printed group.1 in
+      subst IsList group.2 (group_list group.0 is text
       (subst ListFits (sym group.2) (image.laid_out.lists_fit.1 k d less)))
 
   -- each list has a form

@@ -12,8 +12,7 @@ use Rattle.ux_dawg.specs.declared.state.Form.{Form}
 use Rattle.ux_dawg.specs.declared.state.State.{State}
 use Rattle.ux_dict.proofs.PairLemmas.{Contains-nil}
 use Rattle.ux_image_lists.specs.Sizes.{forms_of}
-use Rattle.ux_image_look_ups.specs.Ways.{behind_all}
-use Rattle.ux_image_look_ups.specs.declared.ways.Way.{Way}
+use Rattle.ux_image_look_ups.specs.Ways.{behind_all, Spelt}
 use Rattle.ux_image_look_ups.proofs.WayLemmas.{behind_all-none, branch}
 use Rattle.ux_image_lexicon.specs.Counting.{different_by, AreCountedBut, AreCounts, AreNone, Enters, Notes, Puts}
 use Rattle.ux_image_lexicon.specs.Told.{read_in, CodedForms, IsCoded}
@@ -104,7 +103,7 @@ module _ (coded : CodedForms) (is : IsCoded coded) where
         AreCountedBut coded new (forms_left states next.letters.items next.branches.items)
     enters_counted =
         let left = forms_left states letters walk.branches.items in
-        let way : Way = record { letters = letters; state = number } in
+        let way : Spelt = record { letters = letters; state = number } in
         let more = flat_map (branch states way) here.edges in
         let whole = subst (λ (l : List Form). AreCountedBut coded old (left ++ l))
         (behind_is states is.automaton.fit number within letters) are in

@@ -29,7 +29,7 @@ codes_long (c ∷ codes) (r ∷ read) zip =
     let rest = codes_long codes read zip.1 in omega (arith, rest)
 
 -- a list has as many codes when they are read
-lists_long : (lists : List CodeList) (read : List ReadList) → AreRead lists read → (n : ℕ) →
+pub lists_long : (lists : List CodeList) (read : List ReadList) → AreRead lists read → (n : ℕ) →
     length (read_in (slice_get read n)) ≡ codes_at lists n
 lists_long [] [] are n = refl
 lists_long [] (r ∷ read) are n = absurd are

@@ -11,3 +11,4 @@ pub mod EnterLemmas
 pub mod FewLemmas
 pub mod ExactLemmas
 pub mod ApartLemmas
+pub mod TextLemmas

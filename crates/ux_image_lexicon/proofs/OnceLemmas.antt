@@ -1,5 +1,5 @@
 -- What is chosen of entries, and of lists of them, is chosen of the different ones as well.
-use Rattle.std.proofs.Common.{◌≡◌, ◌↔◌, List, [], ◌∷◌, ◌++◌, Bool, true, false, cond, get_or, refl, sym, ◌∙◌, subst}
+use Rattle.std.proofs.Common.{arith, ◌≡◌, ◌<◌, ◌↔◌, List, [], ◌∷◌, ◌++◌, Bool, true, false, cond, get_or, length, refl, sym, ◌∙◌, subst}
 use Rattle.std.specs.Prelude.{All, Contains, flat_map}
 use Rattle.std.specs.List.{list_any}
 use Rattle.std.proofs.lemmas.List.{append-nil, get_or_default}
@@ -14,6 +14,14 @@ use Rattle.ux_dict.proofs.ChosenLemmas.{chosen-append, chosen-from, chosen-membe
 use Rattle.ux_dict.proofs.ContentLemmas.{AreDifferent-insert}
 use Rattle.ux_image_content.proofs.ContentLaws.{one_different}
 use Rattle.ux_image_look_ups.proofs.WayLemmas.{chosen-full}
+
+-- fewer than two entries differ
+pub once-short : (xs : List Entry) → length xs < 2 → AreDifferent xs xs
+once-short xs short = record {
+  members = λ entry. (λ has. has, λ has. has);
+  once = λ i j d before within. absurd (omega (arith, short, before, within));
+  ordered = λ i j d before within. absurd (omega (arith, short, before, within));
+}
 
 -- of lists that are chosen whole or not at all
 pub chosen-flat : {X : Type 0} (Q : X → Type 0) (P : Entry → Type 0) (f : X → List Entry)

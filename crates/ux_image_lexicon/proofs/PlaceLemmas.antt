@@ -14,8 +14,7 @@ use Rattle.ux_dela.specs.declared.entry.Entry.{Entry}
 use Rattle.ux_dict.specs.Content.{AreDifferent}
 use Rattle.ux_dict.specs.Forms.{IsChosen, IsFitting, MayBegin as EntryMayBegin}
 use Rattle.ux_image_lists.specs.Sizes.{forms_of}
-use Rattle.ux_image_look_ups.specs.Ways.{AreWays, FitsText, MayBegin}
-use Rattle.ux_image_look_ups.specs.declared.ways.Way.{Way}
+use Rattle.ux_image_look_ups.specs.Ways.{FitsText, LeadsBy, MayBegin}
 use Rattle.ux_image_lexicon.specs.Told.{content_in, entries_told, CodedForms, IsCoded}
 use Rattle.ux_image_lexicon.specs.Places.{IsReachedInImage}
 use Rattle.ux_image_lexicon.specs.declared.reached.ImageReached.{ImageReached}
@@ -25,18 +24,17 @@ use Rattle.ux_image_lexicon.proofs.FoundLemmas.{fitting_is, found_sound, may_beg
 pub goes_on : (alphabet : Letters) (content : List Entry) (front text : List ℕ)
     (place next : ImageReached) → IsUtf8 text →
     place.coded.now ≡ next.coded.now →
-    AreWays place.coded.now.states alphabet (chars front ++ chars text)
-    (forms_of place.coded.now.states) next.ways.items →
+    LeadsBy place.coded.now.states alphabet (chars front ++ chars text)
+    (forms_of place.coded.now.states) next.ways →
     IsReachedInImage alphabet content front place →
     IsReachedInImage alphabet content (front ++ text) next
 goes_on alphabet content front text place next utf8 same ways is = record {
   own = is.own ∙ ap content_in same;
   utf8 = IsUtf8-append front text is.utf8 utf8;
-  ways = subst (λ (coded : CodedForms). AreWays coded.states alphabet (chars (front ++ text))
-      (forms_of coded.states) next.ways.items) same
-      (subst (λ (l : List ℕ). AreWays place.coded.now.states alphabet l
-      (forms_of place.coded.now.states) next.ways.items) (sym (chars-append front text is.utf8))
-      ways);
+  ways = subst (λ (coded : CodedForms). LeadsBy coded.states alphabet (chars (front ++ text))
+      (forms_of coded.states) next.ways) same
+      (subst (λ (l : List ℕ). LeadsBy place.coded.now.states alphabet l
+      (forms_of place.coded.now.states) next.ways) (sym (chars-append front text is.utf8)) ways);
 }
 
 -- lists beside one another, as far as a loop has come
@@ -54,15 +52,14 @@ zip_more {X} {Y} R xs i x ys y less is zip here =
     by (u ∷ us) [] zip = absurd zip
     by (u ∷ us) (v ∷ vs) zip = (zip.0, by us vs zip.1)
 
--- the ways of a place, as a look-up is lent them
-pub ways_lent : (alphabet : Letters) (text : List ℕ) (place : ImageReached) (states : List State)
-    (ways : List Way) → states ≡ place.coded.now.states → ways ≡ place.ways.items →
-    AreWays place.coded.now.states alphabet text (forms_of place.coded.now.states) place.ways.items →
-    AreWays states alphabet text (forms_of place.coded.now.states) ways
-ways_lent alphabet text place states ways same also are =
-    let forms = forms_of place.coded.now.states in
-    subst (λ (l : List State). AreWays l alphabet text forms ways) (sym same)
-    (subst (AreWays place.coded.now.states alphabet text forms) (sym also) are)
+-- the ways of a place, as a look-up is lent the states
+pub ways_lent : (alphabet : Letters) (text : List ℕ) (place : ImageReached) (states : List State) →
+    states ≡ place.coded.now.states →
+    LeadsBy place.coded.now.states alphabet text (forms_of place.coded.now.states) place.ways →
+    LeadsBy states alphabet text (forms_of place.coded.now.states) place.ways
+ways_lent alphabet text place states same are =
+    subst (λ (l : List State). LeadsBy l alphabet text (forms_of place.coded.now.states) place.ways)
+    (sym same) are
 
 -- some form of the place's automaton begins so exactly where some entry does
 pub may_begin_at : (alphabet : Letters) (content : List Entry) (text : List ℕ)

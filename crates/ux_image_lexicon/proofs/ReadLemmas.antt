@@ -74,7 +74,7 @@ codes_rebuilt form (c ∷ codes) (r ∷ read) zip =
     (entry_rebuilt form c r zip.0, codes_rebuilt form codes read zip.1)
 
 -- what is told of forms is what the codes make of them
-forms_rebuilt : (lists : List CodeList) (read : List ReadList) → AreRead lists read →
+pub forms_rebuilt : (lists : List CodeList) (read : List ReadList) → AreRead lists read →
     (forms : List Form) → AreRebuilt (flat_map (told_by lists) forms) (entries_told read forms)
 forms_rebuilt lists read are [] = tt
 forms_rebuilt lists read are (f ∷ forms) =

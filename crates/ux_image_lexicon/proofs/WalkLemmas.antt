@@ -12,8 +12,7 @@ use Rattle.ux_dawg.specs.Paths.{AreStates}
 use Rattle.ux_dawg.specs.declared.state.Edge.{Edge}
 use Rattle.ux_dawg.specs.declared.state.Form.{Form}
 use Rattle.ux_dawg.specs.declared.state.State.{State}
-use Rattle.ux_image_look_ups.specs.Ways.{behind_all, branches, forms_at, HaveForms}
-use Rattle.ux_image_look_ups.specs.declared.ways.Way.{Way}
+use Rattle.ux_image_look_ups.specs.Ways.{behind_all, branches, forms_at, HaveForms, Spelt}
 use Rattle.ux_image_look_ups.proofs.WayLemmas.{branch, by_edges, ended, from_here}
 use Rattle.ux_image_lexicon.specs.Walking.{branch_by, forms_behind, forms_left, letters_from, letters_left, word_of, AreRising, IsWalk}
 use Rattle.ux_image_lexicon.specs.declared.walk.Branch.{Branch}
@@ -73,7 +72,7 @@ module _ (states : List State) where
   abbrev at : ℕ → State
   at t = get_or states t bare
 
-  abbrev way_to : List ℕ → ℕ → Way
+  abbrev way_to : List ℕ → ℕ → Spelt
   way_to letters number = record { letters = letters; state = number }
 
   -- the forms behind a state that was left

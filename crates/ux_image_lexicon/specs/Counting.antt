@@ -1,5 +1,5 @@
 -- How many entries are counted. Inner: the crate's own functions alone speak of it.
-use Rattle.std.specs.Prelude.{◌≡◌, ℕ, ◌+◌, ◌-◌, ◌^◌, Bool, List, [], ◌++◌, ◌⊎◌, Contains, IsTrue, Option, None, Some, bytes_eq, cond, get_or, length, map, min, slice_get, sum_by}
+use Rattle.std.specs.Prelude.{◌≡◌, ℕ, ◌+◌, ◌-◌, ◌^◌, Bool, List, [], ◌++◌, ◌⊎◌, All, Contains, IsTrue, Option, None, Some, bytes_eq, cond, get_or, length, map, min, slice_get, sum_by}
 use Rattle.std.specs.List.{AllZip}
 use Rattle.std.specs.Option.{unwrap_or}
 use Rattle.std.specs.Str.{encode_utf8_all}
@@ -55,6 +55,13 @@ pub record AreCounts (coded : CodedForms) (counts : Counts) : Type 0 where
   pub total : counts.total ≡ length (content_in coded)
   pub each : (form : Form) → Contains (forms_of coded.states) form →
       TellsForm coded.lists counts form
+
+-- so many entries are told, and of each form as many as its list has codes
+pub record TellsEach (coded : CodedForms) (entries : ℕ) : Type 0 where
+  pub total : entries ≡ length (content_in coded)
+  pub each : All (λ (form : Form).
+      length (read_in (slice_get coded.lists form.code)) ≡ made_of coded.lists form)
+      (forms_of coded.states)
 
 -- nothing is counted
 pub record AreNone (counts : Counts) : Type 0 where

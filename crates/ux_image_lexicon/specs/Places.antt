@@ -5,7 +5,7 @@ use Rattle.std.specs.Str.{chars}
 use Rattle.ux_alphabet.specs.Letters.{Letters}
 use Rattle.ux_dela.specs.declared.entry.Entry.{Entry}
 use Rattle.ux_image_lists.specs.Sizes.{forms_of}
-use Rattle.ux_image_look_ups.specs.Ways.{AreWays}
+use Rattle.ux_image_look_ups.specs.Ways.{LeadsBy}
 use Rattle.ux_image_lexicon.specs.Told.{content_in}
 use Rattle.ux_image_lexicon.specs.declared.reached.ImageReached.{ImageReached}
 
@@ -14,5 +14,5 @@ pub record IsReachedInImage (alphabet : Letters) (content : List Entry) (text : 
     (place : ImageReached) : Type 0 where
   pub own : content ≡ content_in place.coded.now
   pub utf8 : IsUtf8 text
-  pub ways : AreWays place.coded.now.states alphabet (chars text)
-      (forms_of place.coded.now.states) place.ways.items
+  pub ways : LeadsBy place.coded.now.states alphabet (chars text)
+      (forms_of place.coded.now.states) place.ways

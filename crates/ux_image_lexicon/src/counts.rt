@@ -22,9 +22,9 @@ use ux_image_content::text_of;
 #[derive(Drop)]
 pub(crate) struct Counts {
     /// Those of all forms.
-    total: usize,
+    pub(crate) total: usize,
     /// Those of each form that has fewer entries than codes.
-    fewer: IndexMap<String, usize>,
+    pub(crate) fewer: IndexMap<String, usize>,
 }
 
 /// How many entries the automaton and its lists tell. Goes to each form once, and makes the entries

@@ -1,6 +1,7 @@
 //! The entries that codes make of forms.
 
 ghost use Rattle.std.specs.Prelude.{◌≡◌, ◌++◌, IfOk, OnOk, map, slice_get};
+ghost use Rattle.ux_dict.specs.Content.{AreDifferent};
 ghost use Rattle.ux_image_lexicon.specs.Told.{entries_by, entries_told as told_of, entry_by, read_in};
 
 use crate::codes::{ReadCode, ReadList};
@@ -8,10 +9,11 @@ use std::alloc::Global;
 use ux_base::{Mem, Txt};
 use ux_dawg::Form;
 use ux_dela::{Codes, Entry};
+use ux_dict::different;
 use ux_image::lemma_of;
 use ux_image_content::text_of;
 
-/// What the codes of their lists make of the forms, one after another.
+/// What the codes of their lists make of the forms, one after another, with no room beyond it.
 pub(crate) fn entries_told(alloc: Global, lists: &[ReadList], forms: &[Form]) -> Mem<Vec<Entry>>
     ensures { IfOk result (λ entries. entries.items ≡ told_of lists.now forms.now) }
 {
@@ -19,7 +21,18 @@ pub(crate) fn entries_told(alloc: Global, lists: &[ReadList], forms: &[Form]) ->
     for form in forms {
         push_form(alloc, lists, form, &mut entries)?;
     }
+    entries.shrink_to_fit();
     Ok(entries)
+}
+
+/// The entries, each at its first place alone. Takes no memory for fewer than two.
+pub(crate) fn each_once(alloc: Global, entries: Vec<Entry>) -> Mem<Vec<Entry>>
+    ensures { IfOk result (λ once. AreDifferent entries.items once.items) }
+{
+    if entries.len() < 2 {
+        return Ok(entries);
+    }
+    different(alloc, entries)
 }
 
 /// Puts what the codes of its list make of the form last.

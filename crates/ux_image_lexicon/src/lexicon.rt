@@ -33,11 +33,11 @@ use ux_image_reader::ImageError;
 /// tells, each once, in ascending order of their forms and in the order of each form's codes.
 #[derive(Drop)]
 pub struct ImageLexicon {
-    coded: Coded,
+    pub(crate) coded: Coded,
     /// The length in characters of the longest form.
-    longest: usize,
+    pub(crate) longest: usize,
     /// How many entries there are.
-    counts: Counts,
+    pub(crate) counts: Counts,
 }
 
 impl Model for ImageLexicon {
@@ -127,7 +127,7 @@ impl ImageLexicon {
             IsFitting alphabet.now text.now self.now found.items) }
         ensures sound { IfOk result (λ found. All IsSound found.items) }
     {
-        self.reached(alloc, text, alphabet)?.ending(alloc)
+        self.reached(alloc, text, alphabet)?.ending(alloc, text)
     }
 
     /// Whether some form begins with characters that fit the text, one by one. Where none does, no

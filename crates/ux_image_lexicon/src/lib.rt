@@ -1,8 +1,9 @@
-//! Dictionaries that stay the automata of their images.
+//! Dictionaries that are automata: those of their images, or of the forms of a text.
 //!
 //! A look-up goes along the edges of the automaton, and makes the entries that were asked for of
 //! their forms and codes; no list of all entries is there. Begin with `lexicon`, where `read_image`
-//! makes an `ImageLexicon` of a file. `reached` is a place in one, to which a text leads. Inside,
+//! makes an `ImageLexicon` of an image, or with `of_text`, where `read_text` makes one of a file of forms.
+//! `reached` is a place in one, to which a text leads. Inside,
 //! `coded` is the automaton with its lists of codes, `lists` reads these once, and `entries` makes
 //! entries. `counts` counts them once, by a `walk` that has one form at a time, and `apart` finds the
 //! lists of which that is seen at once. `finding` goes to the list of a form by its letters. Which
@@ -22,10 +23,12 @@ mod entries;
 mod finding;
 pub mod lexicon;
 mod lists;
+pub mod of_text;
 pub mod reached;
 mod walk;
 
 pub use coded::Coded;
 pub use codes::{ReadCode, ReadList};
 pub use lexicon::{ImageLexicon, read_image};
+pub use of_text::read_text;
 pub use reached::ImageReached;

@@ -8,27 +8,27 @@ ghost use Rattle.ux_dict.specs.Forms.{IsFitting, MayBegin};
 ghost use Rattle.ux_image_lexicon.specs.Places.{IsReachedInImage};
 
 use crate::coded::Coded;
-use crate::entries::entries_told;
+use crate::entries::{each_once, entries_told};
 use std::alloc::Global;
 use ux_alphabet::Alphabet;
 use ux_base::Mem;
 use ux_dela::Entry;
-use ux_dict::different;
 use ux_image_look_ups as look_ups;
-use ux_image_look_ups::Way;
+use ux_image_look_ups::Ways;
 
 /// A place in the automaton of an image.
 #[derive(Drop)]
 pub struct ImageReached<'a> {
     pub(crate) coded: &'a Coded,
     /// The ways by which the text so far leads.
-    pub(crate) ways: Vec<Way>,
+    pub(crate) ways: Ways,
 }
 
 impl<'a> ImageReached<'a> {
     /// Where the text so far leads with this one behind it. Halves the edges of each state on the way,
     /// or takes a look at each where several letters fit the character, once for each way to write the
-    /// text with lower-case letters that some form has.
+    /// text with lower-case letters that some form has. Takes memory for one list of ways, or for one
+    /// a character where another letter fits one of this text.
     pub fn go_on(&self, alloc: Global, text: &str, alphabet: &Alphabet) -> Mem<ImageReached<'a>>
         ensures { IfOk result (λ next. (content : List Entry) (front : List ℕ) →
             IsReachedInImage alphabet.now content front self.now →
@@ -50,18 +50,17 @@ impl<'a> ImageReached<'a> {
         look_ups::may_go_on(self.coded.states(), &self.ways)
     }
 
-    /// The entries whose form fits the text so far character by character, in the order of the
-    /// content. They are made of their forms and codes.
-    pub fn ending(&self, alloc: Global) -> Mem<Vec<Entry>>
-        ensures found { IfOk result (λ found. (alphabet : Letters) (content : List Entry)
-            (text : List ℕ) → IsReachedInImage alphabet content text self.now →
-            IsFitting alphabet text content found.items) }
-        ensures sound { IfOk result (λ found. (alphabet : Letters) (content : List Entry)
-            (text : List ℕ) → IsReachedInImage alphabet content text self.now →
-            All IsSound found.items) }
+    /// The entries whose form fits the text that led here character by character, in the order of the
+    /// content. They are made of their forms and codes. Takes no memory where no form ends here.
+    pub fn ending(&self, alloc: Global, text: &str) -> Mem<Vec<Entry>>
+        ensures found { IfOk result (λ found. (alphabet : Letters) (content : List Entry) →
+            IsReachedInImage alphabet content text.now self.now →
+            IsFitting alphabet text.now content found.items) }
+        ensures sound { IfOk result (λ found. (alphabet : Letters) (content : List Entry) →
+            IsReachedInImage alphabet content text.now self.now → All IsSound found.items) }
     {
-        let forms = look_ups::ending(alloc, self.coded.states(), &self.ways)?;
+        let forms = look_ups::ending(alloc, self.coded.states(), &self.ways, text)?;
         let entries = entries_told(alloc, self.coded.lists(), &forms)?;
-        different(alloc, entries)
+        each_once(alloc, entries)
     }
 }

@@ -16,8 +16,7 @@ use Rattle.ux_dict.specs.Forms.{IsChosen, none, kept}
 use Rattle.ux_dict.proofs.ChosenLemmas.{chosen-all, chosen-again, chosen-append, chosen-from, chosen-member, chosen-none}
 use Rattle.ux_dict.proofs.PairLemmas.{Contains-cons_cases, Contains-nil}
 use Rattle.ux_image_lists.specs.Sizes.{forms_of}
-use Rattle.ux_image_look_ups.specs.declared.ways.Way.{Way}
-use Rattle.ux_image_look_ups.specs.Ways.{behind_all, branches, forms_at, forms_by, forms_on, AreWays, BeginsFitting, FitsText, HaveForms, IsWay, MayBegin}
+use Rattle.ux_image_look_ups.specs.Ways.{behind_all, branches, forms_at, forms_by, forms_on, AreSpelt, BeginsFitting, FitsText, HaveForms, IsSpelt, MayBegin, Spelt}
 use Rattle.ux_image_look_ups.proofs.WayLemmas.{behind_all-none, branch, by_edges, chosen-full, ended, from_here, passed, whole_begins}
 
 -- a state is alive where it has edges
@@ -96,32 +95,32 @@ module _ (states : List State) (fit : AreStates states) where
       alive_some root (omega (arith, last)) alive (λ t low. have t (omega (arith, low, last)))
 
   -- the way of the empty text
-  abbrev pub first_way : ℕ → Way
+  abbrev pub first_way : ℕ → Spelt
   first_way root = record { letters = []; state = root }
 
   pub ways_begin : HaveForms states → (root : ℕ) → length states ≡ root + 1 →
       IsAlive (at root) → (alphabet : Letters) →
-      AreWays states alphabet [] (forms_of states) (first_way root ∷ [])
+      AreSpelt states alphabet [] (forms_of states) (first_way root ∷ [])
   ways_begin have root last alive alphabet =
       let same : length states - 1 ≡ root = omega (arith, last) in
       let forms = forms_at states root in
       let P = BeginsFitting alphabet [] in
       let whole : forms_on states (first_way root ∷ []) ≡ forms =
       append-nil (map (behind_all []) forms) ∙ behind_all-none forms in
-      subst (λ n. AreWays states alphabet [] (forms_at states n) (first_way root ∷ [])) (sym same)
+      subst (λ n. AreSpelt states alphabet [] (forms_at states n) (first_way root ∷ [])) (sym same)
       (record {
         whole = subst (IsChosen P forms) (sym whole)
             (chosen-full P forms (λ k d less. ([], (get_or forms k d).letters, tt, refl)));
-        each = All-cons (IsWay states alphabet []) (first_way root) [] (record {
+        each = All-cons (IsSpelt states alphabet []) (first_way root) [] (record {
           within = omega (arith, last);
           fit = tt;
           some = root_some have root last alive;
-        }) (All-nil (IsWay states alphabet []));
+        }) (All-nil (IsSpelt states alphabet []));
       })
 
   -- where the root isn't alive there is no form
   pub ways_begin_none : (root : ℕ) → length states ≡ root + 1 → (IsAlive (at root) → ⊥) →
-      (alphabet : Letters) → AreWays states alphabet [] (forms_of states) []
+      (alphabet : Letters) → AreSpelt states alphabet [] (forms_of states) []
   ways_begin_none root last dead alphabet =
       let same : length states - 1 ≡ root = omega (arith, last) in
       let no_code = without_code (at root).code refl in
@@ -130,9 +129,9 @@ module _ (states : List State) (fit : AreStates states) where
       from_here states fit root (omega (arith, last))
       ∙ ap (λ (o : Option ℕ). ending o ++ branches states (at root).edges) no_code
       ∙ ap (branches states) no_edge in
-      subst (λ n. AreWays states alphabet [] (forms_at states n) []) (sym same)
-      (subst (λ (l : List Form). AreWays states alphabet [] l []) (sym nothing)
-      (record { whole = none; each = All-nil (IsWay states alphabet []) }))
+      subst (λ n. AreSpelt states alphabet [] (forms_at states n) []) (sym same)
+      (subst (λ (l : List Form). AreSpelt states alphabet [] l []) (sym nothing)
+      (record { whole = none; each = All-nil (IsSpelt states alphabet []) }))
     where
       without_code : (code : Option ℕ) → (at root).code ≡ code → (at root).code ≡ None
       without_code None is = is
@@ -148,8 +147,8 @@ module _ (states : List State) (fit : AreStates states) where
           )))
 
   -- some form goes on exactly where there is a way
-  pub ways_some : (alphabet : Letters) (text : List ℕ) (forms : List Form) (ways : List Way) →
-      AreWays states alphabet text forms ways →
+  pub ways_some : (alphabet : Letters) (text : List ℕ) (forms : List Form) (ways : List Spelt) →
+      AreSpelt states alphabet text forms ways →
       (0 < length ways) ↔ MayBegin alphabet text forms
   ways_some alphabet text forms ways are = (
     λ some. from_first (forms_on states ways) are.whole (first ways are.each some),
@@ -158,17 +157,17 @@ module _ (states : List State) (fit : AreStates states) where
         nonempty ways (let less = member.1 in omega (arith, less)),
   )
     where
-      first : (ways : List Way) → All (IsWay states alphabet text) ways → 0 < length ways →
+      first : (ways : List Spelt) → All (IsSpelt states alphabet text) ways → 0 < length ways →
           0 < length (forms_on states ways)
       first [] each some = absurd (omega (arith, some))
       first (way ∷ ways) each some =
-          let is = All-head (IsWay states alphabet text) way ways each in
+          let is = All-head (IsSpelt states alphabet text) way ways each in
           let one = is.some in
           let long = length-map (forms_at states way.state) (behind_all way.letters) in
           let parts = length-append (forms_by states way) (forms_on states ways) in
           omega (arith, one, long, parts)
 
-      nonempty : (ways : List Way) → 0 < length (forms_on states ways) → 0 < length ways
+      nonempty : (ways : List Spelt) → 0 < length (forms_on states ways) → 0 < length ways
       nonempty [] some = absurd (omega (arith, some))
       nonempty (way ∷ ways) some = omega arith
 
@@ -182,8 +181,8 @@ module _ (states : List State) (fit : AreStates states) where
             (chosen-all (BeginsFitting alphabet text) chosen),
       )
 
-  module _ (alphabet : Letters) (text : List ℕ) (way : Way)
-      (is : IsWay states alphabet text way) where
+  module _ (alphabet : Letters) (text : List ℕ) (way : Spelt)
+      (is : IsSpelt states alphabet text way) where
     abbrev Fit : Form → Type 0
     Fit = FitsText alphabet text
 
@@ -242,7 +241,7 @@ module _ (states : List State) (fit : AreStates states) where
 
   -- of the forms by the ways those that fit are those of all forms
   pub ending_among : (alphabet : Letters) (text : List ℕ) (forms found : List Form)
-      (ways : List Way) → AreWays states alphabet text forms ways →
+      (ways : List Spelt) → AreSpelt states alphabet text forms ways →
       IsChosen (FitsText alphabet text) (forms_on states ways) found →
       IsChosen (FitsText alphabet text) forms found
   ending_among alphabet text forms found ways are chosen =

@@ -17,8 +17,7 @@ use Rattle.ux_dict.specs.Forms.{IsChosen, none, kept}
 use Rattle.ux_dict.proofs.ChosenLemmas.{chosen-again, chosen-append, chosen-none}
 use Rattle.ux_dict.proofs.FittingLemmas.{same_front, zip_apart}
 use Rattle.ux_image_lists.proofs.SumLemmas.{from_depth}
-use Rattle.ux_image_look_ups.specs.declared.ways.Way.{Way}
-use Rattle.ux_image_look_ups.specs.Ways.{behind_all, branches, forms_at, forms_by, forms_on, way_on, AreWays, BeginsFitting, FitsText, GoesTo, HaveForms, IsWay}
+use Rattle.ux_image_look_ups.specs.Ways.{behind_all, branches, forms_at, forms_by, forms_on, way_on, AreSpelt, BeginsFitting, FitsText, GoesTo, HaveForms, IsSpelt, Spelt}
 
 -- all members are chosen where all have the property
 pub chosen-full : {X : Type 0} (P : X → Type 0) (xs : List X) → All P xs → IsChosen P xs xs
@@ -72,16 +71,16 @@ module _ (states : List State) where
   at t = get_or states t bare
 
   -- the form that ends where the way does, if there is one
-  abbrev pub ended : Way → List Form
+  abbrev pub ended : Spelt → List Form
   ended way = map (behind_all way.letters) (ending (at way.state).code)
 
   -- the forms that go on by the edge
-  abbrev pub branch : Way → Edge → List Form
+  abbrev pub branch : Spelt → Edge → List Form
   branch way edge =
       map (behind_all way.letters) (map (behind edge.letter) (forms_at states edge.target))
 
   -- those that end there, or go on by one of the edges
-  abbrev pub passed : Way → List Edge → List Form
+  abbrev pub passed : Spelt → List Edge → List Form
   passed way edges = ended way ++ flat_map (branch way) edges
 
   fit_at : AreStates states → (t : ℕ) → t < most → IsFit t (at t)
@@ -104,7 +103,7 @@ module _ (states : List State) where
       from_depth states fit most (suc most) t (at t) (fit_at fit t less) (omega (arith, less))
       (omega (arith, less)) (omega (arith, less))
 
-  map-branches : (way : Way) (edges : List Edge) →
+  map-branches : (way : Spelt) (edges : List Edge) →
       map (behind_all way.letters) (branches states edges) ≡ flat_map (branch way) edges
   map-branches way [] = refl
   map-branches way (e ∷ edges) =
@@ -113,7 +112,7 @@ module _ (states : List State) where
       ∙ ap (λ (l : List Form). branch way e ++ l) (map-branches way edges)
 
   -- the forms of a way are those that end there and those of all edges
-  pub by_edges : AreStates states → (way : Way) → way.state < most →
+  pub by_edges : AreStates states → (way : Spelt) → way.state < most →
       forms_by states way ≡ passed way (at way.state).edges
   by_edges fit way less =
       ap (map (behind_all way.letters)) (from_here fit way.state less)
@@ -122,21 +121,21 @@ module _ (states : List State) where
       ∙ ap (λ (l : List Form). ended way ++ l) (map-branches way (at way.state).edges)
 
   -- the forms of ways so far and of the next one
-  pub forms_on-push : (ways : List Way) (way : Way) →
+  pub forms_on-push : (ways : List Spelt) (way : Spelt) →
       forms_on states (ways ++ way ∷ []) ≡ forms_on states ways ++ forms_by states way
   forms_on-push ways way =
       flat_map-append (forms_by states) ways (way ∷ [])
       ∙ ap (λ (l : List Form). forms_on states ways ++ l) (append-nil (forms_by states way))
 
-  pub forms_on-more : (ways : List Way) (i : ℕ) (way : Way) → i < length ways →
+  pub forms_on-more : (ways : List Spelt) (i : ℕ) (way : Spelt) → i < length ways →
       way ≡ get_or ways i way →
       forms_on states (take (i + 1) ways) ≡ forms_on states (take i ways) ++ forms_by states way
   forms_on-more ways i way less is =
       ap (forms_on states) (take_more ways i way less
-      ∙ ap (λ (w : Way). take i ways ++ w ∷ []) (sym is))
+      ∙ ap (λ (w : Spelt). take i ways ++ w ∷ []) (sym is))
       ∙ forms_on-push (take i ways) way
 
-  pub passed-more : (way : Way) (edges : List Edge) (i : ℕ) (edge : Edge) → i < length edges →
+  pub passed-more : (way : Spelt) (edges : List Edge) (i : ℕ) (edge : Edge) → i < length edges →
       edge ≡ get_or edges i edge →
       passed way (take (i + 1) edges) ≡ passed way (take i edges) ++ branch way edge
   passed-more way edges i edge less is =
@@ -149,11 +148,11 @@ module _ (states : List State) where
       ∙ sym (append_assoc (ended way) (flat_map (branch way) (take i edges)) (branch way edge))
 
   -- the forms of a way that goes on by an edge
-  by_way_on : (way : Way) (edge : Edge) → forms_by states (way_on way edge) ≡ branch way edge
+  by_way_on : (way : Spelt) (edge : Edge) → forms_by states (way_on way edge) ≡ branch way edge
   by_way_on way edge = behind_all-one way.letters edge.letter (forms_at states edge.target)
 
-  module _ (alphabet : Letters) (front : List ℕ) (c : ℕ) (way : Way)
-      (is : IsWay states alphabet front way) where
+  module _ (alphabet : Letters) (front : List ℕ) (c : ℕ) (way : Spelt)
+      (is : IsSpelt states alphabet front way) where
     abbrev Begins : Form → Type 0
     Begins = BeginsFitting alphabet (front ++ c ∷ [])
 
@@ -210,9 +209,9 @@ module _ (states : List State) where
             (subst (λ (l : List ℕ). AllZip (Fits alphabet) l (front ++ c ∷ [])) (sym one) zip))
 
     -- before any edge
-    pub ways_start : (forms : List Form) (old : List Way) →
-        AreWays states alphabet (front ++ c ∷ []) forms old →
-        AreWays states alphabet (front ++ c ∷ []) (forms ++ passed way []) old
+    pub ways_start : (forms : List Form) (old : List Spelt) →
+        AreSpelt states alphabet (front ++ c ∷ []) forms old →
+        AreSpelt states alphabet (front ++ c ∷ []) (forms ++ passed way []) old
     ways_start forms old so_far = record {
       whole = subst (λ (l : List Form). IsChosen Begins (forms ++ l) (forms_on states old))
           (sym (append-nil (ended way)))
@@ -224,21 +223,21 @@ module _ (states : List State) where
     }
 
     -- with one edge more
-    pub ways_by_edge : (forms : List Form) (edge : Edge) (old new : List Way) →
+    pub ways_by_edge : (forms : List Form) (edge : Edge) (old new : List Spelt) →
         edge.target < most → 0 < length (forms_at states edge.target) →
         GoesTo alphabet way edge c old new →
-        AreWays states alphabet (front ++ c ∷ []) forms old →
-        AreWays states alphabet (front ++ c ∷ []) (forms ++ branch way edge) new
+        AreSpelt states alphabet (front ++ c ∷ []) forms old →
+        AreSpelt states alphabet (front ++ c ∷ []) (forms ++ branch way edge) new
     ways_by_edge forms edge old new within some goes so_far = elim goes [
       | inl (fits, pushed) ↦
-          subst (AreWays states alphabet (front ++ c ∷ []) (forms ++ branch way edge)) (sym pushed)
+          subst (AreSpelt states alphabet (front ++ c ∷ []) (forms ++ branch way edge)) (sym pushed)
           (record {
             whole = subst (IsChosen Begins (forms ++ branch way edge))
                 (sym (forms_on-push old (way_on way edge)
                 ∙ ap (λ (l : List Form). forms_on states old ++ l) (by_way_on way edge)))
                 (chosen-append Begins so_far.whole
                 (chosen-full Begins (branch way edge) (branch_fits edge fits)));
-            each = All-push (IsWay states alphabet (front ++ c ∷ [])) old (way_on way edge)
+            each = All-push (IsSpelt states alphabet (front ++ c ∷ [])) old (way_on way edge)
                 so_far.each (record {
                   within = within;
                   fit = AllZip-push (Fits alphabet) way.letters front edge.letter c is.fit fits;
@@ -246,7 +245,7 @@ module _ (states : List State) where
                 });
           })
       | inr (fails, same) ↦
-          subst (AreWays states alphabet (front ++ c ∷ []) (forms ++ branch way edge)) (sym same)
+          subst (AreSpelt states alphabet (front ++ c ∷ []) (forms ++ branch way edge)) (sym same)
           (record {
             whole = subst (IsChosen Begins (forms ++ branch way edge))
                 (append-nil (forms_on states old))
@@ -257,30 +256,30 @@ module _ (states : List State) where
     ]
 
     -- each edge that fits puts its way
-    abbrev Passes : List Edge → (old new : List Way) → Type 0
+    abbrev Passes : List Edge → (old new : List Spelt) → Type 0
     Passes [] old new = new ≡ old
     Passes (e ∷ edges) old new =
-        (mid : List Way) × GoesTo alphabet way e c old mid × Passes edges mid new
+        (mid : List Spelt) × GoesTo alphabet way e c old mid × Passes edges mid new
 
     ways_by_edges : (edges : List Edge) → ((e : Edge) → Contains edges e →
         (e.target < most) × (0 < length (forms_at states e.target))) → (forms : List Form)
-        (old new : List Way) → Passes edges old new →
-        AreWays states alphabet (front ++ c ∷ []) forms old →
-        AreWays states alphabet (front ++ c ∷ []) (forms ++ flat_map (branch way) edges) new
+        (old new : List Spelt) → Passes edges old new →
+        AreSpelt states alphabet (front ++ c ∷ []) forms old →
+        AreSpelt states alphabet (front ++ c ∷ []) (forms ++ flat_map (branch way) edges) new
     ways_by_edges [] lead forms old new same so_far =
-        subst (λ (l : List Form). AreWays states alphabet (front ++ c ∷ []) l new)
+        subst (λ (l : List Form). AreSpelt states alphabet (front ++ c ∷ []) l new)
         (sym (append-nil forms))
-        (subst (AreWays states alphabet (front ++ c ∷ []) forms) (sym same) so_far)
+        (subst (AreSpelt states alphabet (front ++ c ∷ []) forms) (sym same) so_far)
     ways_by_edges (e ∷ edges) lead forms old new (mid, goes, rest) so_far =
         let first = lead e (0, omega arith, refl) in
-        subst (λ (l : List Form). AreWays states alphabet (front ++ c ∷ []) l new)
+        subst (λ (l : List Form). AreSpelt states alphabet (front ++ c ∷ []) l new)
         (append_assoc forms (branch way e) (flat_map (branch way) edges))
         (ways_by_edges edges (λ d has. lead d (suc has.0, omega (arith, has.1), has.2))
         (forms ++ branch way e) mid new rest
         (ways_by_edge forms e old mid first.0 first.1 goes so_far))
 
     -- where none fits
-    passes_none : (edges : List Edge) (old : List Way) →
+    passes_none : (edges : List Edge) (old : List Spelt) →
         ((e : Edge) → Contains edges e → Fits alphabet e.letter c → ⊥) → Passes edges old old
     passes_none [] old fails = refl
     passes_none (e ∷ edges) old fails = (
@@ -290,7 +289,7 @@ module _ (states : List State) where
     )
 
     -- where one fits, which is that of the character itself
-    passes_one : (edges : List Edge) (old : List Way) (target : ℕ) → AreAscending edges →
+    passes_one : (edges : List Edge) (old : List Spelt) (target : ℕ) → AreAscending edges →
         Contains edges (edge_to c target) → FitsAlone alphabet c →
         Passes edges old (old ++ way_on way (edge_to c target) ∷ [])
     passes_one [] old target up (k, less, at) alone = absurd (omega (arith, less))
@@ -315,13 +314,13 @@ module _ (states : List State) where
         )
 
     -- the ways that the edges of the state put
-    continues : AreStates states → HaveForms states → (forms : List Form) (old new : List Way) →
+    continues : AreStates states → HaveForms states → (forms : List Form) (old new : List Spelt) →
         Passes (at way.state).edges old new →
-        AreWays states alphabet (front ++ c ∷ []) forms old →
-        AreWays states alphabet (front ++ c ∷ []) (forms ++ forms_by states way) new
+        AreSpelt states alphabet (front ++ c ∷ []) forms old →
+        AreSpelt states alphabet (front ++ c ∷ []) (forms ++ forms_by states way) new
     continues fit have forms old new passes so_far =
         let edges = (at way.state).edges in
-        subst (λ (l : List Form). AreWays states alphabet (front ++ c ∷ []) l new)
+        subst (λ (l : List Form). AreSpelt states alphabet (front ++ c ∷ []) l new)
         (append_assoc forms (passed way []) (flat_map (branch way) edges)
         ∙ ap (λ (l : List Form). forms ++ (l ++ flat_map (branch way) edges))
         (append-nil (ended way))
@@ -332,9 +331,9 @@ module _ (states : List State) where
 
     -- a step by the character itself is the only way on, where no other letter fits it
     pub steps_on : AreStates states → HaveForms states → FitsAlone alphabet c →
-        (target : ℕ) → IsStep states way.state c target → (forms : List Form) (old : List Way) →
-        AreWays states alphabet (front ++ c ∷ []) forms old →
-        AreWays states alphabet (front ++ c ∷ []) (forms ++ forms_by states way)
+        (target : ℕ) → IsStep states way.state c target → (forms : List Form) (old : List Spelt) →
+        AreSpelt states alphabet (front ++ c ∷ []) forms old →
+        AreSpelt states alphabet (front ++ c ∷ []) (forms ++ forms_by states way)
         (old ++ way_on way (edge_to c target) ∷ [])
     steps_on fit have alone target step forms old =
         let has = subst (λ (s : State). Contains s.edges (edge_to c target))
@@ -346,8 +345,8 @@ module _ (states : List State) where
     -- and where it makes none, there is no way on
     pub steps_nowhere : AreStates states → HaveForms states → FitsAlone alphabet c →
         ((target : ℕ) → IsStep states way.state c target → ⊥) → (forms : List Form)
-        (old : List Way) → AreWays states alphabet (front ++ c ∷ []) forms old →
-        AreWays states alphabet (front ++ c ∷ []) (forms ++ forms_by states way) old
+        (old : List Spelt) → AreSpelt states alphabet (front ++ c ∷ []) forms old →
+        AreSpelt states alphabet (front ++ c ∷ []) (forms ++ forms_by states way) old
     steps_nowhere fit have alone nowhere forms old =
         continues fit have forms old old (passes_none (at way.state).edges old (λ e has fits.
         let here : e ≡ edge_to c e.target =
@@ -360,9 +359,9 @@ module _ (states : List State) where
 
   -- what holds of the forms of the ways holds of all forms
   pub ways_among : (alphabet : Letters) (front more : List ℕ) (forms : List Form)
-      (ways next : List Way) → AreWays states alphabet front forms ways →
-      AreWays states alphabet (front ++ more) (forms_on states ways) next →
-      AreWays states alphabet (front ++ more) forms next
+      (ways next : List Spelt) → AreSpelt states alphabet front forms ways →
+      AreSpelt states alphabet (front ++ more) (forms_on states ways) next →
+      AreSpelt states alphabet (front ++ more) forms next
   ways_among alphabet front more forms ways next are step = record {
     whole = chosen-again (BeginsFitting alphabet front) (BeginsFitting alphabet (front ++ more))
         (fits_less alphabet front more) are.whole step.whole;
@@ -370,5 +369,5 @@ module _ (states : List State) where
   }
 
   -- no way, no form
-  pub ways_none : (alphabet : Letters) (text : List ℕ) → AreWays states alphabet text [] []
-  ways_none alphabet text = record { whole = none; each = All-nil (IsWay states alphabet text) }
+  pub ways_none : (alphabet : Letters) (text : List ℕ) → AreSpelt states alphabet text [] []
+  ways_none alphabet text = record { whole = none; each = All-nil (IsSpelt states alphabet text) }

@@ -1,3 +1,4 @@
+pub mod Changes
 pub mod Ways
 pub mod Pieces
 pub mod Longest

@@ -1,8 +1,9 @@
--- Letters in pieces. Inner: the crate's own functions alone speak of it.
-use Rattle.std.specs.Prelude.{ℕ, List, flat_map}
+-- Changes in pieces. Inner: the crate's own functions alone speak of it.
+use Rattle.std.specs.Prelude.{List, flat_map}
 use Rattle.std.specs.declared.alloc.Global.{Global}
 use Rattle.std.specs.declared.rc.Rc.{Rc}
+use Rattle.ux_image_look_ups.specs.declared.trail.Change.{Change}
 
--- the letters of all pieces, one piece after another
-abbrev pub letters_in : List (Rc (List ℕ) Global) → List ℕ
-letters_in pieces = flat_map (λ (piece : Rc (List ℕ) Global). piece.value) pieces
+-- the changes of all pieces, one piece after another
+abbrev pub changes_in : List (Rc (List Change) Global) → List Change
+changes_in pieces = flat_map (λ (piece : Rc (List Change) Global). piece.value) pieces

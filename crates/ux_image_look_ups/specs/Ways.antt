@@ -11,7 +11,18 @@ use Rattle.ux_dawg.specs.declared.state.Edge.{Edge}
 use Rattle.ux_dawg.specs.declared.state.Form.{Form}
 use Rattle.ux_dawg.specs.declared.state.State.{State}
 use Rattle.ux_dict.specs.Forms.{IsChosen}
+use Rattle.ux_image_look_ups.specs.Changes.{changed, AreIn}
 use Rattle.ux_image_look_ups.specs.declared.ways.Way.{Way}
+use Rattle.ux_image_look_ups.specs.declared.ways.Ways.{Ways}
+
+-- a way with all its letters
+pub record Spelt : Type 0 where
+  pub letters : List ℕ
+  pub state : ℕ
+
+-- the way along the text: its letters are the text's with its changes
+abbrev pub spelt : (text : List ℕ) → Way → Spelt
+spelt text way = record { letters = changed text way.changes; state = way.state }
 
 -- the form with these letters in front
 abbrev pub behind_all : (letters : List ℕ) → Form → Form
@@ -22,11 +33,11 @@ abbrev pub forms_at : List State → ℕ → List Form
 forms_at states number = forms_from (length states) states (get_or states number bare)
 
 -- the forms that begin by the way
-abbrev pub forms_by : List State → Way → List Form
+abbrev pub forms_by : List State → Spelt → List Form
 forms_by states way = map (behind_all way.letters) (forms_at states way.state)
 
 -- the forms that begin by one of the ways, way by way
-abbrev pub forms_on : List State → List Way → List Form
+abbrev pub forms_on : List State → List Spelt → List Form
 forms_on states ways = flat_map (forms_by states) ways
 
 -- the forms that begin with one of the edges
@@ -51,24 +62,41 @@ abbrev pub HaveForms : List State → Type 0
 HaveForms states = (i : ℕ) → i + 1 < length states → 0 < length (forms_at states i)
 
 -- the letters of the way fit these, and some form begins by it
-pub record IsWay (states : List State) (alphabet : Letters) (front : List ℕ) (way : Way) :
+pub record IsSpelt (states : List State) (alphabet : Letters) (front : List ℕ) (way : Spelt) :
     Type 0 where
   pub within : way.state < length states
   pub fit : AllZip (Fits alphabet) way.letters front
   pub some : 0 < length (forms_at states way.state)
 
 -- by the ways begin those of the forms that begin with letters that fit the text, in order
+pub record AreSpelt (states : List State) (alphabet : Letters) (text : List ℕ) (forms : List Form)
+    (ways : List Spelt) : Type 0 where
+  pub whole : IsChosen (BeginsFitting alphabet text) forms (forms_on states ways)
+  pub each : All (IsSpelt states alphabet text) ways
+
+-- the way changes the text at places of its own, and fits it
+pub record IsWay (states : List State) (alphabet : Letters) (text : List ℕ) (way : Way) : Type 0 where
+  pub places : AreIn text way.changes
+  pub is : IsSpelt states alphabet text (spelt text way)
+
+-- so does each of the ways, and by all begin those of the forms that begin so, in order
 pub record AreWays (states : List State) (alphabet : Letters) (text : List ℕ) (forms : List Form)
     (ways : List Way) : Type 0 where
-  pub whole : IsChosen (BeginsFitting alphabet text) forms (forms_on states ways)
-  pub each : All (IsWay states alphabet text) ways
+  pub places : All (λ (way : Way). AreIn text way.changes) ways
+  pub are : AreSpelt states alphabet text forms (map (spelt text) ways)
+
+-- the text leads by the ways, which know how long it is
+pub record LeadsBy (states : List State) (alphabet : Letters) (text : List ℕ) (forms : List Form)
+    (ways : Ways) : Type 0 where
+  pub long : ways.len ≡ length text
+  pub lead : AreWays states alphabet text forms ways.ways.items
 
 -- the way goes on by the edge
-abbrev pub way_on : Way → Edge → Way
+abbrev pub way_on : Spelt → Edge → Spelt
 way_on way edge = record { letters = way.letters ++ edge.letter ∷ []; state = edge.target }
 
 -- the way that goes on by the edge stands last, where the edge fits the character
-abbrev pub GoesTo : Letters → Way → Edge → (c : ℕ) → (old new : List Way) → Type 0
+abbrev pub GoesTo : Letters → Spelt → Edge → (c : ℕ) → (old new : List Spelt) → Type 0
 GoesTo alphabet way edge c old new =
     (Fits alphabet edge.letter c × (new ≡ old ++ way_on way edge ∷ []))
     ⊎ ((Fits alphabet edge.letter c → ⊥) × (new ≡ old))

@@ -1,38 +1,51 @@
-//! The letters of a way.
+//! What a way changes in a text.
 //!
-//! A way goes on token by token, and may be as long as the text. So a trail shares its letters with
-//! those that it goes on from: it keeps them in pieces, each at least twice as long as the next one, of
-//! which there are at most as many as the binary number of the letters' count has digits. The letters
-//! of a token stand behind the pieces until the token ends, and become one piece then.
+//! The letters of a way are those of its text, but where a lower-case letter of a form stands for an
+//! upper-case one of the text. A way goes on token by token, and may be as long as the text, which
+//! may be written in upper case. So a trail shares its changes with those that it goes on from: it
+//! keeps them in pieces, each at least twice as long as the next one, of which there are at most as
+//! many as the binary number of the changes' count has digits. The changes of a token stand behind the
+//! pieces until the token ends, and become one piece then. With no change a trail takes no memory.
 
-ghost use Rattle.std.specs.Prelude.{◌≡◌, ◌<◌, ◌∷◌, ◌++◌, [], IfOk, OnOk, MatchOption, length};
-ghost use Rattle.ux_image_look_ups.specs.Pieces.{letters_in};
+ghost use Rattle.std.specs.Prelude.{◌≡◌, ◌<◌, ◌∷◌, ◌++◌, [], IfOk, OnOk, MatchOption, length, slice_set};
+ghost use Rattle.ux_image_look_ups.specs.Changes.{changed};
+ghost use Rattle.ux_image_look_ups.specs.Pieces.{changes_in};
 
 use std::alloc::{AllocError, Global};
 use std::marker::Model;
 use std::rc::Rc;
 use ux_base::Lst;
 
-/// The letters of a way, seen as the list of them.
+/// Another letter than the text has.
+#[derive(Clone, Copy)]
+pub struct Change {
+    /// The place of the character, counted in characters from the front of the text, from 0.
+    pub(crate) place: usize,
+    /// The letter that stands there in the form.
+    pub(crate) letter: char,
+}
+
+/// What a way changes, seen as the list of changes.
 #[derive(Drop)]
 pub struct Trail {
-    /// The letters of the tokens that ended.
-    pieces: Vec<Rc<Lst<char>>>,
+    /// The changes of the tokens that ended.
+    pieces: Vec<Rc<Lst<Change>>>,
     /// Those of a token that didn't.
-    begun: Vec<char>,
+    begun: Vec<Change>,
 }
 
 impl Model for Trail {
-    ghost use Rattle.std.specs.Prelude.{◌++◌, List, ℕ};
-    ghost use Rattle.ux_image_look_ups.specs.Pieces.{letters_in};
+    ghost use Rattle.std.specs.Prelude.{◌++◌, List};
+    ghost use Rattle.ux_image_look_ups.specs.Pieces.{changes_in};
+    ghost use Rattle.ux_image_look_ups.specs.declared.trail.Change.{Change};
 
-    ghost Value = { List ℕ };
+    ghost Value = { List Change };
 
-    ghost view = { λ trail. letters_in trail.pieces.items ++ trail.begun.items };
+    ghost view = { λ trail. changes_in trail.pieces.items ++ trail.begun.items };
 }
 
 impl Trail {
-    /// No letter. Takes no memory.
+    /// No change. Takes no memory.
     pub(crate) fn empty(alloc: Global) -> Trail
         ensures { result ≡ [] }
     {
@@ -42,29 +55,33 @@ impl Trail {
         }
     }
 
-    /// These letters and one more of a token.
-    pub(crate) fn with(self, letter: char) -> Result<Trail, AllocError>
-        ensures { IfOk result (λ trail. trail ≡ self ++ letter ∷ []) }
+    /// These changes and one more, of a token.
+    pub(crate) fn with(self, change: Change) -> Result<Trail, AllocError>
+        ensures { IfOk result (λ trail. trail ≡ self ++ change ∷ []) }
     {
         let Trail { pieces, mut begun } = self;
-        begun.push(letter)?;
+        begun.push(change)?;
         Ok(Trail { pieces, begun })
     }
 
-    /// The same letters, once the token ends. Takes one piece, and now and then a step a letter: a
-    /// letter moves into a piece half as long again as its own, or a longer one.
+    /// The same changes, once the token ends. Takes one piece, if the token has a change, and now and
+    /// then a step a change: a change moves into a piece half as long again as its own, or a longer
+    /// one.
     pub(crate) fn close(self, alloc: Global) -> Result<Trail, AllocError>
         ensures { IfOk result (λ trail. trail ≡ self) }
     {
         let Trail { mut pieces, begun } = self;
-        put_letters(alloc, begun, &mut pieces)?;
+        if begun.is_empty() {
+            return Ok(Trail { pieces, begun });
+        }
+        put_changes(alloc, begun, &mut pieces)?;
         Ok(Trail {
             pieces,
             begun: Vec::new(alloc),
         })
     }
 
-    /// The same letters. Takes a step a piece, and one a letter of a token that didn't end.
+    /// The same changes. Takes a step a piece, and one a change of a token that didn't end.
     pub(crate) fn copy(&self, alloc: Global) -> Result<Trail, AllocError>
         ensures { IfOk result (λ trail. trail ≡ self.now) }
     {
@@ -74,20 +91,45 @@ impl Trail {
         })
     }
 
-    /// The letters as a list.
-    pub(crate) fn to_list(&self, alloc: Global) -> Result<Lst<char>, AllocError>
-        ensures { IfOk result (λ letters. letters ≡ self.now) }
+    /// Makes the changes in the text of these letters.
+    pub(crate) fn change(&self, letters: &mut [char])
+        ensures { letters.new ≡ changed letters.old self.now }
     {
-        let mut letters = Vec::new(alloc);
-        put_all(&self.pieces, &mut letters)?;
-        letters.extend_from_slice(&self.begun)?;
-        Ok(Lst::new(letters))
+        change_pieces(&self.pieces, letters);
+        change_all(&self.begun, letters);
+    }
+}
+
+/// Makes the changes of all pieces in the text of these letters.
+fn change_pieces(pieces: &[Rc<Lst<Change>>], letters: &mut [char])
+    ensures { letters.new ≡ changed letters.old (changes_in pieces.now) }
+{
+    for piece in pieces {
+        change_all(piece.as_slice(), letters);
+    }
+}
+
+/// Makes the changes in the text of these letters.
+fn change_all(changes: &[Change], letters: &mut [char])
+    ensures { letters.new ≡ changed letters.old changes.now }
+{
+    for change in changes {
+        change_one(*change, letters);
+    }
+}
+
+/// Makes the change in the text of these letters, if it has the place.
+fn change_one(change: Change, letters: &mut [char])
+    ensures { letters.new ≡ slice_set letters.old change.place change.letter }
+{
+    if change.place < letters.len() {
+        letters[change.place] = change.letter;
     }
 }
 
 /// The pieces, shared.
-fn copies(alloc: Global, pieces: &[Rc<Lst<char>>]) -> Result<Vec<Rc<Lst<char>>>, AllocError>
-    ensures { IfOk result (λ copies. letters_in copies.items ≡ letters_in pieces.now) }
+fn copies(alloc: Global, pieces: &[Rc<Lst<Change>>]) -> Result<Vec<Rc<Lst<Change>>>, AllocError>
+    ensures { IfOk result (λ copies. changes_in copies.items ≡ changes_in pieces.now) }
 {
     let mut copies = Vec::new(alloc);
     for piece in pieces {
@@ -96,16 +138,16 @@ fn copies(alloc: Global, pieces: &[Rc<Lst<char>>]) -> Result<Vec<Rc<Lst<char>>>,
     Ok(copies)
 }
 
-/// Puts letters behind the pieces, in one with those that aren't twice as long as what is behind them.
-fn put_letters(
+/// Puts changes behind the pieces, in one with those that aren't twice as long as what is behind them.
+fn put_changes(
     alloc: Global,
-    letters: Vec<char>,
-    pieces: &mut Vec<Rc<Lst<char>>>,
+    changes: Vec<Change>,
+    pieces: &mut Vec<Rc<Lst<Change>>>,
 ) -> Result<(), AllocError>
     ensures { OnOk result
-        (letters_in pieces.new.items ≡ letters_in pieces.old.items ++ letters.items) }
+        (changes_in pieces.new.items ≡ changes_in pieces.old.items ++ changes.items) }
 {
-    let mut behind = letters;
+    let mut behind = changes;
     while let Some(piece) = take_short(pieces, behind.len()) {
         behind = joined(alloc, piece.as_slice(), &behind)?;
     }
@@ -113,42 +155,32 @@ fn put_letters(
     Ok(())
 }
 
-/// The last piece, which is taken, if it isn't twice as long as so many letters.
-fn take_short(pieces: &mut Vec<Rc<Lst<char>>>, letters: usize) -> Option<Rc<Lst<char>>>
-    ensures { MatchOption result (letters_in pieces.new.items ≡ letters_in pieces.old.items)
-        (λ piece. (letters_in pieces.old.items ≡ letters_in pieces.new.items ++ piece.value)
+/// The last piece, which is taken, if it isn't twice as long as so many changes.
+fn take_short(pieces: &mut Vec<Rc<Lst<Change>>>, changes: usize) -> Option<Rc<Lst<Change>>>
+    ensures { MatchOption result (changes_in pieces.new.items ≡ changes_in pieces.old.items)
+        (λ piece. (changes_in pieces.old.items ≡ changes_in pieces.new.items ++ piece.value)
         × (length pieces.new.items < length pieces.old.items)) }
 {
-    if is_short(pieces, letters) {
+    if is_short(pieces, changes) {
         return pieces.pop();
     }
     None
 }
 
-/// Whether there is a piece, and the last one isn't twice as long as so many letters.
-fn is_short(pieces: &[Rc<Lst<char>>], letters: usize) -> bool {
+/// Whether there is a piece, and the last one isn't twice as long as so many changes.
+fn is_short(pieces: &[Rc<Lst<Change>>], changes: usize) -> bool {
     match pieces.last() {
-        Some(piece) => piece.as_slice().len() / 2 < letters,
+        Some(piece) => piece.as_slice().len() / 2 < changes,
         None => false,
     }
 }
 
-/// Letters and others behind them.
-fn joined(alloc: Global, letters: &[char], behind: &[char]) -> Result<Vec<char>, AllocError>
-    ensures { IfOk result (λ joined. joined.items ≡ letters.now ++ behind.now) }
+/// Changes and others behind them.
+fn joined(alloc: Global, changes: &[Change], behind: &[Change]) -> Result<Vec<Change>, AllocError>
+    ensures { IfOk result (λ joined. joined.items ≡ changes.now ++ behind.now) }
 {
-    let mut joined = Vec::with_capacity(alloc, letters.len().saturating_add(behind.len()))?;
-    joined.extend_from_slice(letters)?;
+    let mut joined = Vec::with_capacity(alloc, changes.len().saturating_add(behind.len()))?;
+    joined.extend_from_slice(changes)?;
     joined.extend_from_slice(behind)?;
     Ok(joined)
-}
-
-/// Puts the letters of all pieces last.
-fn put_all(pieces: &[Rc<Lst<char>>], letters: &mut Vec<char>) -> Result<(), AllocError>
-    ensures { OnOk result (letters.new.items ≡ letters.old.items ++ letters_in pieces.now) }
-{
-    for piece in pieces {
-        letters.extend_from_slice(piece.as_slice())?;
-    }
-    Ok(())
 }

@@ -16,20 +16,22 @@ impl Lexicon for ImageLexicon {
         Ok(Reached::Image(ImageLexicon::begin(self, alloc)?))
     }
 
-    /// The entries whose form fits the text. Takes a look at each edge of the states on the way, once
-    /// for each way to write the text with lower-case letters, and makes the entries that are found.
+    /// The entries whose form fits the text. Halves the edges of each state on the way, or takes a look
+    /// at each where several letters fit the character, once for each way to write the text with
+    /// lower-case letters that some form has, and makes the entries that are found.
     fn fitting(&self, alloc: Global, text: &str, alphabet: &Alphabet) -> Mem<Vec<Entry>> {
         ImageLexicon::fitting(self, alloc, text, alphabet)
     }
 
-    /// Whether some form begins with characters that fit the text. Takes a look at each edge of the
-    /// states on the way, once for each way to write the text with lower-case letters.
+    /// Whether some form begins with characters that fit the text. Halves the edges of each state on the
+    /// way, or takes a look at each where several letters fit the character, once for each way to write
+    /// the text with lower-case letters that some form has.
     fn may_begin(&self, alloc: Global, text: &str, alphabet: &Alphabet) -> Mem<bool> {
         ImageLexicon::may_begin(self, alloc, text, alphabet)
     }
 
-    /// The number of entries of exactly this form. Takes a look at each edge of the states on the
-    /// way.
+    /// The number of entries of exactly this form. Halves the edges of each state on the way, and takes
+    /// no memory.
     fn exact(&self, form: &str) -> Option<usize> {
         ImageLexicon::exact(self, form)
     }

@@ -11,7 +11,8 @@
 //! let lexicon = AnyLexicon::Image(read_image(rt.alloc(), &bytes)?);
 //! lexicon.fitting(rt.alloc(), "The", &alphabet)?      // the entries of `the` and `The`
 //! let red = lexicon.begin(rt.alloc())?.go_on(rt.alloc(), "red", &alphabet)?;
-//! red.go_on(rt.alloc(), " fox", &alphabet)?.ending(rt.alloc())?      // the entries of `red fox`
+//! let fox = red.go_on(rt.alloc(), " fox", &alphabet)?;
+//! fox.ending(rt.alloc(), "red fox")?      // the entries of `red fox`
 //! ```
 #![tactic(auto)]
 

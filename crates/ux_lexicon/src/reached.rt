@@ -1,8 +1,9 @@
 //! Places in a dictionary, to which texts lead.
 //!
 //! A text is gone along piece by piece: `Lexicon::begin` gives the place of the empty text, and each
-//! piece leads from one place to the next. A place tells which entries fit the text so far, and
-//! whether a longer text may have any, with no second look at the text.
+//! piece leads from one place to the next. A place tells whether a longer text may have any entries,
+//! with no second look at the text, and which entries fit the text so far, which it is given for those
+//! that are made anew.
 
 ghost use Rattle.std.specs.Prelude.{◌↔◌, ◌++◌, ℕ, List, All, IsTrue, IfOk};
 ghost use Rattle.ux_alphabet.specs.Letters.{Letters};
@@ -53,18 +54,19 @@ impl<'a> Reached<'a> {
         }
     }
 
-    /// The entries whose form fits the text so far character by character, in the order of the
-    /// content. Takes a copy of each, or makes each of its form and code.
-    pub fn ending(&self, alloc: Global) -> Mem<Vec<Entry>>
-        ensures found { IfOk result (λ found. (alphabet : Letters) (content : List Entry)
-            (text : List ℕ) → IsReachedBy alphabet content text self.now →
-            IsFitting alphabet text content found.items) }
-        ensures sound { IfOk result (λ found. (alphabet : Letters) (content : List Entry)
-            (text : List ℕ) → IsReachedBy alphabet content text self.now → All IsSound found.items) }
+    /// The entries whose form fits the text that led here character by character, in the order of the
+    /// content. Takes a copy of each, or makes each of its form and code, and no memory where no form
+    /// ends here.
+    pub fn ending(&self, alloc: Global, text: &str) -> Mem<Vec<Entry>>
+        ensures found { IfOk result (λ found. (alphabet : Letters) (content : List Entry) →
+            IsReachedBy alphabet content text.now self.now →
+            IsFitting alphabet text.now content found.items) }
+        ensures sound { IfOk result (λ found. (alphabet : Letters) (content : List Entry) →
+            IsReachedBy alphabet content text.now self.now → All IsSound found.items) }
     {
         match self {
             Reached::List(place) => place.ending(alloc),
-            Reached::Image(place) => place.ending(alloc),
+            Reached::Image(place) => place.ending(alloc, text),
         }
     }
 }

@@ -1,4 +1,3 @@
 pub mod LinesLemmas
 pub mod PlacesLemmas
-pub mod ApplyingLemmas
 pub mod ReportLemmas

@@ -1,19 +1,18 @@
 -- Lines as they are collected, one after the other.
-use Rattle.std.proofs.Common.{arith, ◌≡◌, ◌↔◌, ◌⊎◌, ℕ, ◌+◌, ◌<◌, ◌≤◌, Bool, true, false, cond, List, [], ◌∷◌, ◌++◌, length, get_or, take, refl, sym, ◌∙◌, ap, subst, inl, inr}
+use Rattle.std.proofs.Common.{arith, ◌≡◌, ◌↔◌, ◌⊎◌, ℕ, ◌+◌, ◌<◌, ◌≤◌, Bool, true, false, cond, List, [], ◌∷◌, ◌++◌, append-nil, append_assoc, length, get_or, take, refl, sym, ◌∙◌, ap, subst, inl, inr}
 use Rattle.std.specs.Prelude.{Contains, IsSomeAnd, Option, None, Some, slice_get}
-use Rattle.std.specs.Ordering.{nat_cmp, is_eq}
-use Rattle.std.specs.declared.cmp.Ordering.{Ordering}
-use Rattle.std.specs.declared.cmp.Ordering.TheVariants.{Less, Equal, Greater}
-use Rattle.std.specs.Cmp.Lexicographic.{slice_cmp, nat_list_cmp_total}
-use Rattle.std.specs.BTreeMap.{is_at}
-use Rattle.std.specs.BTreeSet.{BTreeSet, contains, Updates}
-use Rattle.std.proofs.lemmas.Map.Lookups.{exact_bytes}
-use Rattle.std.proofs.lemmas.Map.Views.{btree_set_contains_iff}
+use Rattle.std.specs.List.{IsDistinct, dedup, dedup_from, flat_map, list_any}
+use Rattle.std.specs.Str.{bytes_eq}
+use Rattle.std.proofs.lemmas.Slice.Eq.{bytes_eq-Decides}
+use Rattle.std.proofs.lemmas.Grind.{flat_map-append}
 use Rattle.std.proofs.lemmas.List.{take_more, take_all}
 use Rattle.std.proofs.lemmas.List.Elements.{Contains-append_left, Contains-push, Contains-push_cases}
 use Rattle.std.proofs.lemmas.Option.{same_Some}
 use Rattle.std.proofs.lemmas.Bool.{cases_eq}
+use Rattle.indexmap.specs.IndexSet.{insert_key}
+use Rattle.indexmap.proofs.CallerLemmas.{Contains-list_any}
 use Rattle.ux_dela.specs.declared.entry.Entry.{Entry}
+use Rattle.ux_tokens.specs.TokenFile.{line_of}
 use Rattle.ux_apply.specs.Tables.{Tables}
 use Rattle.ux_report.specs.Lines.{FromSome, HasMore, IsCompoundBefore, IsLongerPrinted}
 
@@ -156,37 +155,71 @@ exact-of P lines more line = (
   λ is. (more line).1 (inr is),
 )
 
-either : (b c : Bool) → cond b true c ≡ true → (b ≡ true) ⊎ (c ≡ true)
-either true c is = inl refl
-either false c is = inr is
-
-both : (b : Bool) → cond b true true ≡ true
-both true = refl
-both false = refl
-
-equal_from_test : (o : Ordering) → is_eq o ≡ true → o ≡ Equal
-equal_from_test Less is = cc
-equal_from_test Equal is = refl
-equal_from_test Greater is = cc
-
 -- a set with one line more
-pub more-insert : (set all_new : BTreeSet (List ℕ)) (line : List ℕ) →
-    Updates (slice_cmp nat_cmp) set all_new line true →
-    HasMore set.keys (λ (other : List ℕ). other ≡ line) all_new.keys
-more-insert set all_new line update other =
-    let reads = λ (t : BTreeSet (List ℕ)) (q : List ℕ).
-    btree_set_contains_iff nat_list_cmp_total exact_bytes t q in
-    let here = is_at (slice_cmp nat_cmp line) other in (
-      λ has. elim (either here (contains (slice_cmp nat_cmp) set other)
-          (sym (update.0 other) ∙ (reads all_new other).1 has)) [
-            | inl is ↦ inr (sym (exact_bytes line other
-                (equal_from_test (slice_cmp nat_cmp line other) is)))
-            | inr old ↦ inl ((reads set other).0 old)
+pub more-insert : (old all_new : List (List ℕ)) (line : List ℕ) →
+    all_new ≡ insert_key bytes_eq old line →
+    HasMore old (λ (other : List ℕ). other ≡ line) all_new
+more-insert old all_new line made = by (list_any (bytes_eq line) old) refl
+  where
+    exact : (x y : List ℕ) → bytes_eq x y ≡ true → x ≡ y
+    exact x y = (bytes_eq-Decides x y).0
+
+    by : (there : Bool) → list_any (bytes_eq line) old ≡ there →
+        HasMore old (λ (other : List ℕ). other ≡ line) all_new
+    by true found =
+        let same : all_new ≡ old = made ∙ ap (λ c. cond c old (old ++ line ∷ [])) found in
+        subst (λ (l : List (List ℕ)). HasMore old (λ (other : List ℕ). other ≡ line) l) (sym same)
+        (λ other. (
+          λ has. inl has,
+          λ one. elim one [
+            | inl has ↦ has
+            | inr is ↦ subst (Contains old) (sym is) (Contains-list_any bytes_eq exact old line found)
           ],
-      λ one. elim one [
-        | inl old ↦ (reads all_new other).0 (update.0 other
-            ∙ (ap (λ (c : Bool). cond here true c) ((reads set other).1 old) ∙ both here))
-        | inr is ↦ subst (λ (q : List ℕ). Contains all_new.keys q) (sym is)
-            ((reads all_new line).0 update.1)
-      ],
-    )
+        ))
+    by false missed =
+        let grown : all_new ≡ old ++ line ∷ [] =
+        made ∙ ap (λ c. cond c old (old ++ line ∷ [])) missed in
+        subst (λ (l : List (List ℕ)). HasMore old (λ (other : List ℕ). other ≡ line) l) (sym grown)
+        (λ other. (
+          λ has. elim (Contains-push_cases old line other has) [
+            | inl was ↦ inl was
+            | inr is ↦ inr (sym is)
+          ],
+          λ one. elim one [
+            | inl was ↦ Contains-append_left old (line ∷ []) other was
+            | inr is ↦ subst (Contains (old ++ line ∷ [])) (sym is) (Contains-push old line)
+          ],
+        ))
+
+-- a list in which no item stands twice is as it was after `dedup`
+module _ {X : Type 0} (same : X → X → Bool) (flips : (x y : X) → same x y ≡ same y x) where
+  dedup_from-distinct : (x : X) (xs : List X) → IsDistinct same (x ∷ xs) →
+      dedup_from same x xs ≡ x ∷ xs
+  unfolding IsDistinct
+  dedup_from-distinct x [] once = refl
+  dedup_from-distinct x (y ∷ ys) once =
+      let differ : same y x ≡ false = flips y x ∙ once.0.0 in
+      ap (λ c. cond c (dedup_from same x ys) (x ∷ dedup_from same y ys)) differ
+      ∙ ap (λ (l : List X). x ∷ l) (dedup_from-distinct y ys once.1)
+
+  pub dedup-distinct : (xs : List X) → IsDistinct same xs → dedup same xs ≡ xs
+  dedup-distinct [] once = refl
+  dedup-distinct (x ∷ xs) once = dedup_from-distinct x xs once
+
+-- one line more is written
+pub written-more : (lines : List (List ℕ)) (i : ℕ) (line : List ℕ) → i < length lines →
+    line ≡ get_or lines i line → (old now all_new : List ℕ) →
+    now ≡ old ++ flat_map line_of (take i lines) → all_new ≡ now ++ line_of line →
+    all_new ≡ old ++ flat_map line_of (take (i + 1) lines)
+written-more lines i line lt at old now all_new before grown =
+    let so_far = flat_map line_of (take i lines) in
+    let more : take (i + 1) lines ≡ take i lines ++ line ∷ [] =
+    take_more lines i line lt ∙ ap (λ (l : List ℕ). take i lines ++ l ∷ []) (sym at) in
+    let written : flat_map line_of (take (i + 1) lines) ≡ so_far ++ line_of line =
+    ap (flat_map line_of) more
+    ∙ (flat_map-append line_of (take i lines) (line ∷ [])
+    ∙ ap (λ (l : List ℕ). so_far ++ l) (append-nil (line_of line))) in
+    grown
+    ∙ (ap (λ (l : List ℕ). l ++ line_of line) before
+    ∙ (append_assoc old so_far (line_of line)
+    ∙ ap (λ (l : List ℕ). old ++ l) (sym written)))

@@ -14,22 +14,23 @@ use Rattle.ux_tokens.proofs.DistinctLemmas.{different_texts-once}
 use Rattle.ux_apply.specs.declared.priority.Priority.{Priority}
 use Rattle.ux_apply.specs.Applying.{AreApplying}
 use Rattle.ux_apply.specs.Tables.{Tables, AreApplied, AreSimpleOf}
+use Rattle.ux_apply.proofs.OneTableLaws.{one_applying}
 use Rattle.ux_apply.proofs.ZipLemmas.{zip-at, zip-length}
 use Rattle.ux_report.specs.Lines.{FromSome, HasMore, IsCompoundBefore, IsSimpleAt, IsText, LieWithin}
 use Rattle.ux_report.specs.Report.{AreLinesOf, IsCompoundLine, IsSimpleLine, IsUnknownLine}
 use Rattle.ux_report.specs.Words.{AreWordPlaces}
-use Rattle.ux_report.proofs.ApplyingLemmas.{applying-members}
 use Rattle.ux_report.proofs.LinesLemmas.{exact-of}
 
--- lines that are collected are those of another property that says the same
-pub lines-are : (P Q : List ℕ → Type 0) (lines : List (List ℕ)) →
-    IsStrictlySortedBy (slice_cmp nat_cmp) lines → HasMore [] P lines →
-    ((line : List ℕ) → P line ↔ Q line) → AreLinesOf Q lines
-lines-are P Q lines ordered more same = record {
+-- lines that are collected are, in order, those of another property that says the same
+pub lines-are : (P Q : List ℕ → Type 0) (lines sorted : List (List ℕ)) →
+    HasMore [] P lines → IsStrictlySortedBy (slice_cmp nat_cmp) sorted →
+    ((line : List ℕ) → Contains sorted line ↔ Contains lines line) →
+    ((line : List ℕ) → P line ↔ Q line) → AreLinesOf Q sorted
+lines-are P Q lines sorted more ordered all same = record {
   ordered = ordered;
   exact = λ line. (
-    λ has. (same line).0 ((exact-of P lines more line).0 has),
-    λ is. (exact-of P lines more line).1 ((same line).1 is),
+    λ has. (same line).0 ((exact-of P lines more line).0 ((all line).0 has)),
+    λ is. (all line).1 ((exact-of P lines more line).1 ((same line).1 is)),
   );
 }
 
@@ -104,10 +105,11 @@ module _ (tokens : List Token) (tables : Tables) (places : List (Option ℕ))
             let own = row-of is.place is.token is.stands is.word in
             let other = row-of kept.1 word.token word.stands word.word in
             let same : is.row ≡ own.0 = same_Some is.row own.0 (sym is.entries ∙ own.1) in
+            let one : own.0 ≡ other.0 =
+            one_applying alphabet dics word.token.text
+            (subst (λ (t : List ℕ). AreApplying alphabet dics t own.0) text own.2) other.2 in
             let member : Contains other.0 is.entry =
-            applying-members alphabet dics word.token.text own.0 other.0
-            (subst (λ (t : List ℕ). AreApplying alphabet dics t own.0) text own.2) other.2 is.entry
-            (subst (λ (l : List Entry). Contains l is.entry) same is.member) in (
+            subst (λ (l : List Entry). Contains l is.entry) (same ∙ one) is.member in (
               Some kept.1,
               member-at places (Some kept.1) kept.0 kept.2,
               (other.0, other.1, (is.entry, member, is.line_is)),

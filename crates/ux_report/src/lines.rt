@@ -1,20 +1,23 @@
 //! The lines of each section, each once and in order of their bytes.
+//!
+//! A section's lines are collected as they come, in a hashed set, and sorted once at the end: one
+//! long entry may be told at each place of a text, and is kept once.
 
-ghost use Rattle.std.specs.Prelude.{◌≡◌, ◌↔◌, ◌<◌, ℕ, [], IfOk, IfSome, OnOk, Some, length, slice_get};
+ghost use Rattle.std.specs.Prelude.{◌≡◌, ◌↔◌, ◌<◌, ℕ, [], Contains, IfOk, IfSome, OnOk, Some, length, slice_get};
+ghost use Rattle.std.specs.List.{IsDistinct};
 ghost use Rattle.std.specs.List.Sorted.{IsStrictlySortedBy};
-ghost use Rattle.std.specs.Ordering.{nat_cmp};
-ghost use Rattle.std.specs.Cmp.Lexicographic.{slice_cmp};
 ghost use Rattle.ux_report.specs.Lines.{FromSome, HasMore, IsCompoundBefore, IsLongerPrinted, IsPrinted, IsSimpleAt, IsText, LieWithin};
 
-use std::alloc::Global;
-use std::collections::BTreeSet;
+use indexmap::IndexSet;
+use std::alloc::{AllocError, Global};
+use std::hash::Hash;
 use ux_apply::Applied;
 use ux_base::{Mem, Txt};
 use ux_dela::{Entry, print_delaf};
 use ux_tokens::Text;
 
-/// Lines, each once and in order of their bytes.
-pub(crate) type Lines = BTreeSet<Txt>;
+/// Lines, each once, in the order in which they came.
+pub(crate) type Lines = IndexSet<Txt>;
 
 /// What is printed for the simple entries of the words at these places.
 pub(crate) fn simple_lines(alloc: Global, applied: &Applied, places: &[Option<usize>]) -> Mem<Lines>
@@ -22,7 +25,7 @@ pub(crate) fn simple_lines(alloc: Global, applied: &Applied, places: &[Option<us
     ensures { IfOk result (λ lines.
         HasMore [] (FromSome places.now (IsSimpleAt applied.now)) lines.keys) }
 {
-    let mut lines = BTreeSet::new(alloc);
+    let mut lines = IndexSet::new(alloc);
     for place in places {
         put_simple(&mut lines, alloc, applied, *place)?;
     }
@@ -58,7 +61,7 @@ pub(crate) fn compound_lines(alloc: Global, applied: &Applied, count: usize) -> 
     ensures { IfOk result (λ lines.
         HasMore [] (IsCompoundBefore applied.now count) lines.keys) }
 {
-    let mut lines = BTreeSet::new(alloc);
+    let mut lines = IndexSet::new(alloc);
     for first in 0..count {
         put_row(&mut lines, alloc, first, applied.compounds(first))?;
     }
@@ -106,7 +109,7 @@ pub(crate) fn unknown_lines(
     ensures { IfOk result (λ lines.
         HasMore [] (FromSome applied.now.unknown (IsText text.now places.now)) lines.keys) }
 {
-    let mut lines = BTreeSet::new(alloc);
+    let mut lines = IndexSet::new(alloc);
     for number in applied.unknown() {
         put_word(&mut lines, alloc, text, places, *number)?;
     }
@@ -149,9 +152,21 @@ fn put_line(lines: &mut Lines, line: Txt) -> Mem<()>
     Ok(())
 }
 
-/// Lines are in order.
-pub(crate) fn lines_ascend(lines: &Lines)
-    ensures { IsStrictlySortedBy (slice_cmp nat_cmp) lines.now.keys }
+/// The items of a set, in order. Takes the memory of the list alone, and a few comparisons an item.
+pub(crate) fn in_order<T: Ord + Hash + Drop>(alloc: Global, set: IndexSet<T>) -> Mem<Vec<T>>
+    ensures in_order { IfOk result (λ sorted. IsStrictlySortedBy T.cmp sorted.items) }
+    ensures same { IfOk result (λ sorted. (item : T) →
+        Contains sorted.items item ↔ Contains set.keys item) }
 {
-    let _count = lines.len();
+    let mut sorted = listed(alloc, set)?;
+    sorted.sort_unstable();
+    Ok(sorted)
+}
+
+/// The items of a set, as a list.
+fn listed<T: Eq + Hash + Drop>(alloc: Global, set: IndexSet<T>) -> Result<Vec<T>, AllocError>
+    ensures items { IfOk result (λ listed. listed.items ≡ set.keys) }
+    ensures once { IfOk result (λ listed. IsDistinct T.eq listed.items) }
+{
+    set.into_iter().collect(alloc)
 }

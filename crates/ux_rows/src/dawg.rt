@@ -78,7 +78,7 @@ fn automaton_of_states(alloc: Global, row: States) -> Mem<Option<Dawg>> {
     if !are_states(&states) {
         return Ok(None);
     }
-    Ok(Some(Dawg::of_states(states)))
+    Ok(Some(Dawg::of_states(alloc, &states)?))
 }
 
 /// The states by number, each with its number of a form or `-`, and its edges: `0 -s0 `.
@@ -100,11 +100,9 @@ fn push_state(alloc: Global, automaton: &Dawg, number: usize, text: &mut String)
         Some(code) => text.push_str(format!(in alloc; "{code}")?.as_str())?,
         None => text.push('-')?,
     }
-    if let Some(state) = automaton.state(number) {
-        for edge in state.edges.as_slice() {
-            text.push(edge.letter)?;
-            text.push_str(format!(in alloc; "{}", edge.target)?.as_str())?;
-        }
+    for edge in automaton.edges(number) {
+        text.push(edge.letter)?;
+        text.push_str(format!(in alloc; "{}", edge.target)?.as_str())?;
     }
     text.push(' ')?;
     Ok(())

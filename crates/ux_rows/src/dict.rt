@@ -1,4 +1,4 @@
-//! What dictionaries find, by rows: the list of the entries, and their image.
+//! What dictionaries find, by rows: the list of the entries, their automaton, and their image.
 
 use crate::comparing::compare;
 use crate::image_lexicon::image_lexicon;
@@ -8,6 +8,7 @@ use std::test::Fail;
 use ux_alphabet::Alphabet;
 use ux_dela::{DelaError, Entry, print_delaf, read_delaf};
 use ux_dict::{ListLexicon, Stored, content_in, content_of, different, store_all};
+use ux_image_lexicon::read_text;
 use ux_lexicon::{AnyLexicon, Lexicon};
 
 /// The pairs of letters in all rows: `X` has none.
@@ -30,11 +31,12 @@ type Counts = (
     usize,
 );
 
-/// The dictionaries of the lines: the list of their entries, and their image.
-fn lexicons(alloc: Global, lines: &str) -> Result<[AnyLexicon; 2], Fail> {
+/// The dictionaries of the lines: the list of their entries, their automaton, and their image.
+fn lexicons(alloc: Global, lines: &str) -> Result<[AnyLexicon; 3], Fail> {
     let list = AnyLexicon::List(ListLexicon::read(alloc, lines)?);
+    let automaton = AnyLexicon::Image(read_text(alloc, lines)?);
     let image = AnyLexicon::Image(image_lexicon(alloc, lines)?);
-    Ok([list, image])
+    Ok([list, automaton, image])
 }
 
 /// The entries as lines, each between brackets.
@@ -182,7 +184,7 @@ fn entries_are_counted(rt: HostRuntime) -> Result<(), Fail> {
 }
 
 /// The dictionaries of one entry, whose form is 10,000 times `a`.
-fn long_lexicons(alloc: Global) -> Result<[AnyLexicon; 2], Fail> {
+fn long_lexicons(alloc: Global) -> Result<[AnyLexicon; 3], Fail> {
     let mut line = "a".repeat(alloc, 10000)?;
     line.push_str(",.N")?;
     lexicons(alloc, line.as_str())
@@ -232,9 +234,12 @@ fn a_list_makes_the_dictionary_of_its_file(rt: HostRuntime) -> Result<(), Fail> 
 
 #[test]
 fn the_first_bad_line_of_a_dictionary_is_named(rt: HostRuntime) {
-    let refused = ListLexicon::read(rt.alloc(), "a,.N\n\nabc\nabcd").err();
+    const LINES: &str = "a,.N\n\nabc\nabcd";
     let line_three = DelaError::NoComma { line: 3, place: 3 };
-    compare(&rt, "a file", refused, Some(line_three));
+    let list = ListLexicon::read(rt.alloc(), LINES).err();
+    compare(&rt, "a list", list, Some(line_three));
+    let automaton = read_text(rt.alloc(), LINES).err();
+    compare(&rt, "an automaton", automaton, Some(line_three));
 }
 
 #[test]

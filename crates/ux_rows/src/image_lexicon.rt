@@ -62,6 +62,19 @@ fn found(alloc: Global, lexicon: &ImageLexicon, text: &str) -> Result<String, Fa
     printed(alloc, &entries)
 }
 
+/// The same, as an image is gone along by one token after another.
+fn found_by_tokens(alloc: Global, lines: &str, tokens: &[&str]) -> Result<String, Fail> {
+    let alphabet = Alphabet::read(alloc, PAIRS)?;
+    let lexicon = image_lexicon(alloc, lines)?;
+    let mut place = lexicon.begin(alloc)?;
+    let mut text = String::new(alloc);
+    for token in tokens {
+        place = place.go_on(alloc, token, &alphabet)?;
+        text.push_str(token)?;
+    }
+    printed(alloc, &place.ending(alloc, text.as_str())?)
+}
+
 /// The same of entries in memory.
 fn found_in_list(alloc: Global, lines: &str, text: &str) -> Result<String, Fail> {
     let alphabet = Alphabet::read(alloc, PAIRS)?;
@@ -154,6 +167,79 @@ fn an_image_finds_what_its_entries_say(rt: HostRuntime) -> Result<(), Fail> {
     ];
     for row in ROWS {
         check_found(&rt, rt.alloc(), row)?;
+    }
+    Ok(())
+}
+
+#[test]
+fn letters_are_the_forms_own_where_the_text_has_capitals(rt: HostRuntime) -> Result<(), Fail> {
+    const CASES: &str = "The,.b\ntHe,.h\nthe,.a";
+    const SPANS: &str = "THE The the,.d\ntHe The the,.e\nthe THE the,.f\nthe the the,.c";
+    const LONG: &str = "thecatthecatthecatthecatthecatthecatthec,.N";
+    const ROWS: &[Found] = &[
+        (
+            "capitals alone",
+            CASES,
+            "THE",
+            "[The,.b][tHe,.h][the,.a]",
+            true,
+            3,
+            0,
+            3,
+        ),
+        ("a capital", CASES, "The", "[The,.b][the,.a]", true, 3, 1, 3),
+        ("none", CASES, "the", "[the,.a]", true, 3, 1, 3),
+        (
+            "a text of each kind",
+            SPANS,
+            "THE The the",
+            "[THE The the,.d][tHe The the,.e][the the the,.c]",
+            true,
+            11,
+            1,
+            4,
+        ),
+        (
+            "forty capitals",
+            LONG,
+            "THECATTHECATTHECATTHECATTHECATTHECATTHEC",
+            "[thecatthecatthecatthecatthecatthecatthec,.N]",
+            true,
+            40,
+            0,
+            1,
+        ),
+    ];
+    for row in ROWS {
+        check_found(&rt, rt.alloc(), row)?;
+    }
+    Ok(())
+}
+
+#[test]
+fn an_image_is_gone_along_by_tokens(rt: HostRuntime) -> Result<(), Fail> {
+    const SPANS: &str = "THE The the,.d\ntHe The the,.e\nthe THE the,.f\nthe the the,.c";
+    const LONG: &str = "thecatthecatthecatthecatthecatthecatthec,.N";
+    const HALF: &str = "THECATTHECATTHECATTH";
+    let rows: [(&str, &str, &[&str], &str); 4] = [
+        (
+            "a text of each kind",
+            SPANS,
+            &["THE", " ", "The", " ", "the"],
+            "[THE The the,.d][tHe The the,.e][the the the,.c]",
+        ),
+        ("a front", SPANS, &["THE", " ", "The"], ""),
+        (
+            "capitals and none",
+            LONG,
+            &[HALF, "ecatthe", "CATTHECATTHEC"],
+            "[thecatthecatthecatthecatthecatthecatthec,.N]",
+        ),
+        ("no form", SPANS, &["THE", "The"], ""),
+    ];
+    for (name, lines, tokens, want) in rows {
+        let found = found_by_tokens(rt.alloc(), lines, tokens)?;
+        compare(&rt, name, found.as_str(), want);
     }
     Ok(())
 }

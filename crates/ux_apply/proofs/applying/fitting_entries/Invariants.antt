@@ -1,4 +1,4 @@
-use Rattle.std.proofs.Common.{ℕ, List, take}
+use Rattle.std.proofs.Common.{List, take}
 use Rattle.std.specs.Prelude.{All}
 use Rattle.std.specs.List.{AllZip}
 use Rattle.ux_alphabet.specs.Letters.{Letters}
@@ -12,8 +12,7 @@ use Rattle.ux_apply.proofs.applying.fitting_entries.Given as goal
 
 -- the entries of the dictionaries so far, which are sound
 abbrev pub invariant-loop-cursor : goal.invariant-loop-cursor
-invariant-loop-cursor l = (alphabet : Letters) (text : List ℕ)
-    (dics : List (Priority × List Entry)) →
-    AllZip (IsCursor alphabet text) dics (take l.cursor-index l.cursors) →
-    IsFitting alphabet text (content_at l.priority dics) l.entries.items
+invariant-loop-cursor l = (alphabet : Letters) (dics : List (Priority × List Entry)) →
+    AllZip (IsCursor alphabet l.text) dics (take l.cursor-index l.cursors) →
+    IsFitting alphabet l.text (content_at l.priority dics) l.entries.items
     × All IsSound l.entries.items

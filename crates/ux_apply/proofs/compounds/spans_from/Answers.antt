@@ -10,7 +10,8 @@ use Rattle.ux_apply.specs.Applying.{contents}
 use Rattle.ux_apply.specs.Cursors.{AreReachedBy}
 use Rattle.ux_apply.specs.Kept.{AreSoundMembers}
 use Rattle.ux_apply.specs.Spans.{text_of}
-use Rattle.ux_apply.specs.Tables.{AreCompoundUpTo, more}
+use Rattle.ux_apply.specs.Tables.{AreCompoundUpTo}
+use Rattle.ux_apply.proofs.CompoundLemmas.{row-more}
 use Rattle.ux_apply.proofs.SpanLemmas.{front-more, joined-none, none-begins, none-past, row-whole}
 use Rattle.ux_apply.proofs.StartLemmas.{front-nearest, nearest-within, row-start}
 use Rattle.ux_apply.proofs.RowLemmas.{sound-more}
@@ -62,13 +63,14 @@ loop-last-preserved g c =
     (sym c.deref-in-loop-last-2.ensures.value) led in
     let later : first < last = omega (arith, c.requires.from) in record {
       row = subst (AreCompoundUpTo lines dics tokens first (last + 1)) (sym c.in_ok-push_row.ensures)
-          (more last c.loop-last.row.items c.in_ok-entries.entries.items before.row
-          (c.in_ok-entries.ensures.entries lines dics first later before.front there));
+          (row-more lines dics tokens first last c.loop-last.row.items
+          c.in_ok-entries.entries.items before.row
+          (c.in_ok-entries.ensures.entries lines dics there));
       front = front-more tokens first last c.kind.result before.front c.kind.ensures
           (c.may_stand.ensures.0 c.if-not-may_stand.false);
       sound = subst AreSoundMembers (sym c.in_ok-push_row.ensures)
           (sound-more last c.loop-last.row.items c.in_ok-entries.entries.items before.sound
-          (c.in_ok-entries.ensures.sound lines dics (text_of tokens first last) there));
+          (c.in_ok-entries.ensures.sound lines dics there));
       from_first = omega (arith, later);
       to_last = omega arith;
       led = led;
@@ -99,7 +101,7 @@ returns-then-not-may_go_on-clause-row g c =
     before.led c.in_ok-cursors-2.ensures in
     row-whole lines dics tokens first last c.loop-last.row.items (omega arith) before.row
     (none-begins lines dics tokens first last text refl led.utf8 (omega arith)
-    (c.may_go_on.ensures c.if-not-may_go_on.true lines dics text
+    (c.may_go_on.ensures c.if-not-may_go_on.true text lines dics
     (subst (AreReachedBy lines dics text) (sym c.deref-in-loop-last.ensures.value) led)))
 
 pub returns-clause-row : goal.returns-clause-row

@@ -14,7 +14,7 @@ loop-cursor-preserved c alphabet text =
     let f = c.if-may_go_on.false in cc)
 
 pub returns : goal.returns
-returns c = λ _ alphabet dics text led.
+returns c = λ _ text alphabet dics led.
     c.loop-cursor.invariant alphabet text dics
     (taken-all alphabet c.args.cursors.now c.loop-cursor.cursor-index text dics (omega arith)
     led.each)

@@ -6,14 +6,14 @@ use Rattle.ux_dawg.proofs.pending.cut.Goals as goal
 pub loop-register-preserved : goal.loop-register-preserved
 loop-register-preserved c =
     let long = closed_less _ _ _ _ _ _ c.in_ok-top.ensures in (
-      cut_step c.args.register.now.keys c.args.above.now.items c.args.top _ _ _ _ _ _
+      cut_step c.args.register.now c.args.pending.now.above.items c.args.top _ _ _ _ _ _
           c.loop-register.invariant.0 c.in_ok-top.ensures,
       omega (arith, long),
     )
 
 pub returns : goal.returns
 returns c =
-    let depth : length c.loop-register.above.items ≡ c.args.depth = omega arith in
-    subst (λ n. IsCut c.args.register.now.keys c.args.above.now.items c.args.top
-    c.loop-register.register.keys c.loop-register.above.items c.loop-register.top n)
+    let depth : length c.loop-register.pending.above.items ≡ c.args.depth = omega arith in
+    subst (λ n. IsCut c.args.register.now c.args.pending.now.above.items c.args.top
+    c.loop-register.register c.loop-register.pending.above.items c.loop-register.top n)
     depth c.loop-register.invariant.0

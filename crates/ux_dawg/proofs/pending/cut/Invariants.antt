@@ -4,9 +4,9 @@ use Rattle.ux_dawg.proofs.pending.cut.Given as goal
 
 abbrev pub invariant-loop-register : goal.invariant-loop-register
 invariant-loop-register l =
-    IsCut l.initial.register.keys l.initial.above.items l.initial.top
-    l.register.keys l.above.items l.top (length l.above.items)
-    × (l.depth ≤ length l.above.items)
+    IsCut l.initial.register l.initial.pending.above.items l.initial.top
+    l.register l.pending.above.items l.top (length l.pending.above.items)
+    × (l.depth ≤ length l.pending.above.items)
 
 abbrev pub decreases-loop-register : goal.decreases-loop-register
-decreases-loop-register l = length l.above.items
+decreases-loop-register l = length l.pending.above.items

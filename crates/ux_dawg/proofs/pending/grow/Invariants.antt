@@ -4,5 +4,5 @@ use Rattle.ux_dawg.proofs.pending.grow.Given as goal
 
 abbrev pub invariant-loop-letter : goal.invariant-loop-letter
 invariant-loop-letter l =
-    IsGrown l.register.keys l.initial.above.items l.initial.top (take l.letter-index l.word)
-    l.above.items l.top
+    IsGrown l.register l.initial.pending.above.items l.initial.top (take l.letter-index l.word)
+    l.pending.above.items l.top

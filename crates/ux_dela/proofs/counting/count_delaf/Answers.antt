@@ -16,27 +16,24 @@ overflow_add-number c =
 
 pub loop-line-preserved : goal.loop-line-preserved
 loop-line-preserved c =
-    let adds = c.in_ok-read_line.ensures.ok in
-    let counted = c.loop-line.invariant.counted in
+    let says = c.in_ok-count_line.ensures.ok in
     record {
       next = tt;
       finite = tt;
       counted = count_more DelafSays RefusesDelaf (lines_of c.args.text.now) c.loop-line.line-iterator
           c.next.new.self c.loop-line.number c.loop-line.count c.in_ok-count.count
-          c.in-Some.line.now c.loop-line.entries.items c.read_line.new.entries.items adds.said counted
-          c.in-Some.ensures.steps adds.says c.loop-line.invariant.empty adds.added
+          c.in-Some.line.now says.0 c.loop-line.invariant.counted c.in-Some.ensures.steps says.1
           (search rules);
-      empty = search rules;
     }
 
-pub returns-in_err-read_line-clause-refused : goal.returns-in_err-read_line-clause-refused
-returns-in_err-read_line-clause-refused c =
+pub returns-in_err-count_line-clause-refused : goal.returns-in_err-count_line-clause-refused
+returns-in_err-count_line-clause-refused c =
     let p = err_from_is_err_and c.from_residual.result c.from_residual.ensures.1 in
     let counted = c.loop-line.invariant.counted in
     let stops = read_stops DelafSays RefusesDelaf (lines_of c.args.text.now) c.loop-line.line-iterator
     c.next.new.self c.loop-line.number c.in-Some.line.now counted.said
-    c.in_err-read_line.field-0.0 counted.read c.in-Some.ensures.steps in
-    rw (p.1, p.2) (elim c.in_err-read_line.ensures.err [
+    c.in_err-count_line.field-0.0 counted.read c.in-Some.ensures.steps in
+    rw (p.1, p.2) (elim c.in_err-count_line.ensures.err [
       | inl memory ↦ inl memory
       | inr refuses ↦ inr (stops refuses)
     ])

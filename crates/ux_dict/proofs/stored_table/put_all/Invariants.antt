@@ -1,8 +1,6 @@
-use Rattle.std.proofs.Common.{◌≡◌}
-use Rattle.indexmap.specs.IndexSet.{insert_all}
-use Rattle.ux_dict.specs.Equal.{entry_eq}
+use Rattle.std.proofs.Common.{◌≡◌, ◌++◌}
 use Rattle.ux_dict.proofs.stored_table.put_all.Given as goal
 
--- the entries so far are in the table
+-- the entries so far are kept behind the others
 abbrev pub invariant-loop-entry : goal.invariant-loop-entry
-invariant-loop-entry l = l.table.keys ≡ insert_all entry_eq l.initial.table.keys l.yielded
+invariant-loop-entry l = l.kept.items ≡ l.initial.kept.items ++ l.yielded

@@ -1,8 +1,9 @@
 use Rattle.std.proofs.Common.{ℕ, List, [], ◌∷◌, ◌++◌, sym, ◌∙◌, ap, subst}
+use Rattle.std.specs.Str.{chars}
 use Rattle.ux_dawg.specs.Forms.{form_of}
 use Rattle.ux_image.specs.Grouping.{IsKept}
 use Rattle.ux_image.specs.declared.code.CodeList.{CodeList}
-use Rattle.ux_image.proofs.GroupLemmas.{grouped_start, grouped_step, behind_shorter, grouped_end}
+use Rattle.ux_image.proofs.GroupLemmas.{comes_next, grouped_start, grouped_step, behind_shorter, grouped_end}
 use Rattle.ux_image.proofs.listing.list_codes.Goals as goal
 
 pub loop-first-init : goal.loop-first-init
@@ -16,6 +17,12 @@ loop-first-smaller c =
     c.split_at.result.1.now c.in-Some.first.now c.form-form.result.now c.run_len.result
     c.in-Some.ensures.value c.form-form.ensures c.run_len.ensures c.split_at.ensures.front
     c.split_at.ensures.back
+
+pub with_form-requires : goal.with_form-requires
+with_form-requires c =
+    comes_next c.args.content.now c.loop-first.rest.now _ c.loop-first.builder c.in-Some.first.now _
+    c.loop-first.invariant (sym c.in-Some.ensures.value)
+    (c.deref.ensures.value ∙ c.in_ok-spell.ensures ∙ ap chars c.form-form.ensures)
 
 pub loop-first-preserved : goal.loop-first-preserved
 loop-first-preserved c =

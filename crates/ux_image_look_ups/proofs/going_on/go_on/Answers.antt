@@ -4,22 +4,30 @@ use Rattle.std.proofs.lemmas.Iterator.{YieldsList-from_chars}
 use Rattle.std.proofs.lemmas.Iterator.Consumers.{YieldsList-end}
 use Rattle.std.proofs.lemmas.List.{append-nil, append_assoc, map-id}
 use Rattle.std.proofs.lemmas.Result.{IfOk-weaker}
-use Rattle.ux_image_look_ups.specs.Ways.{AreWays}
+use Rattle.ux_image_look_ups.specs.Ways.{LeadsBy}
+use Rattle.ux_image_look_ups.proofs.SpeltLemmas.{same_ways}
 use Rattle.ux_image_look_ups.proofs.going_on.go_on.Goals as goal
 
+pub returns-then-fit_alone : goal.returns-then-fit_alone
+returns-then-fit_alone c =
+    IfOk-weaker c.follow_all.result _ _
+    (λ next goes front forms leads. goes c.args.alphabet.now front forms
+    (c.fit_alone.ensures c.if-fit_alone.true) leads) c.follow_all.ensures
+
 pub loop-c-init : goal.loop-c-init
-loop-c-init c front forms are =
-    subst (λ (l : List ℕ). AreWays c.args.states.now c.args.alphabet.now l forms
-    c.in_ok-next.next.items) (sym (append-nil front))
-    (subst (AreWays c.args.states.now c.args.alphabet.now front forms) (sym c.in_ok-next.ensures) are)
+loop-c-init c front forms leads =
+    subst (λ (l : List ℕ). LeadsBy c.args.states.now c.args.alphabet.now l forms
+    c.in_ok-next.next) (sym (append-nil front))
+    (same_ways c.args.states.now c.args.alphabet.now front forms c.args.ways.now c.in_ok-next.next
+    c.in_ok-next.ensures.0 c.in_ok-next.ensures.1 leads)
 
 pub loop-c-preserved : goal.loop-c-preserved
-loop-c-preserved c front forms are =
+loop-c-preserved c front forms leads =
     let states = c.args.states.now in
     let alphabet = c.args.alphabet.now in
     let goes = c.in_ok-next-2.ensures (front ++ c.loop-c.yielded) forms
-    (c.loop-c.invariant front forms are) in
-    subst (λ (l : List ℕ). AreWays states alphabet l forms c.in_ok-next-2.next.items)
+    (c.loop-c.invariant front forms leads) in
+    subst (λ (l : List ℕ). LeadsBy states alphabet l forms c.in_ok-next-2.next)
     (append_assoc front c.loop-c.yielded (c.in-Some.c ∷ [])) goes
 
 -- all characters were met
@@ -31,7 +39,7 @@ returns c =
     c.loop-c.yielded_by _ _ c.in-None.is c.next.ensures.steps in
     let whole : c.loop-c.yielded ≡ chars c.args.text.now =
     sym (map-id c.loop-c.yielded) ∙ t.0 in
-    IfOk-weaker c.closed.result _ _ (λ ways same front forms are.
-    subst (AreWays states alphabet (front ++ chars c.args.text.now) forms) (sym same)
-    (subst (λ (l : List ℕ). AreWays states alphabet (front ++ l) forms c.loop-c.next.items) whole
-    (c.loop-c.invariant front forms are))) c.closed.ensures
+    IfOk-weaker c.closed.result _ _ (λ ways same front forms leads.
+    same_ways states alphabet (front ++ chars c.args.text.now) forms c.loop-c.next ways same.0 same.1
+    (subst (λ (l : List ℕ). LeadsBy states alphabet (front ++ l) forms c.loop-c.next) whole
+    (c.loop-c.invariant front forms leads))) c.closed.ensures

@@ -1,7 +1,7 @@
 use Rattle.std.proofs.Common.{◌≡◌, take}
-use Rattle.ux_image_look_ups.specs.Pieces.{letters_in}
+use Rattle.ux_image_look_ups.specs.Pieces.{changes_in}
 use Rattle.ux_image_look_ups.proofs.trail.copies.Given as goal
 
--- the copies have the letters of the pieces so far
+-- the copies have the changes of the pieces so far
 abbrev pub invariant-loop-piece : goal.invariant-loop-piece
-invariant-loop-piece l = letters_in l.copies.items ≡ letters_in (take l.piece-index l.pieces)
+invariant-loop-piece l = changes_in l.copies.items ≡ changes_in (take l.piece-index l.pieces)

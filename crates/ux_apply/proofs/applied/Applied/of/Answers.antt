@@ -18,7 +18,7 @@ returns g c =
     let dics = contents g.L.Lexicon.content c.args.dics.now in
     let tokens = c.args.text.now in
     let words = c.in_ok-words.words in
-    let entries = c.in_ok-entries.entries.items in
+    let entries = c.in_ok-asked.asked.entries.items in
     let tags = c.in_ok-tags.tags in
     let rows = c.in_ok-compounds.compounds in
     let unknown = c.in_ok-unknown.unknown.items in
@@ -30,17 +30,17 @@ returns g c =
     } in
     let are : AreApplied lines dics tokens tables = record {
       simple = simple-whole tokens entries tags words c.in_ok-words.ensures lines dics
-          c.in_ok-entries.ensures.applying c.in_ok-tags.ensures;
+          c.in_ok-asked.ensures.applying c.in_ok-tags.ensures;
       compounds = rows-whole lines dics tokens rows (length words)
           (sym (zip-length (IsWordNumber tokens) tokens words c.in_ok-words.ensures))
           c.in_ok-compounds.ensures.rows;
       unknown = unknown-whole tokens entries tags words c.in_ok-words.ensures unknown
           c.in_ok-unknown.ensures.ascending
           (λ n. subst (λ (rs : List (Vec Entry _)). Contains unknown n ↔ IsWithoutRow words rs n)
-          c.deref-4.ensures.value (exact n));
+          c.deref-3.ensures.value (exact n));
     } in record {
       applied = are;
       belongs = applied_belongs lines dics tokens tables are
           (kept_well tokens entries tags words c.in_ok-words.ensures lines c.in_ok-tags.ensures
-          c.in_ok-entries.ensures.sound rows unknown c.in_ok-compounds.ensures.sound);
+          c.in_ok-asked.ensures.sound rows unknown c.in_ok-compounds.ensures.sound);
     }

@@ -7,7 +7,7 @@ use Rattle.ux_dawg.proofs.builder.Builder.add.Goals as goal
 
 pub grow-requires-clause-under : goal.grow-requires-clause-under
 grow-requires-clause-under c =
-    under c.self.inside.register.keys c.self.inside.above.items c.self.inside.top
+    under c.self.inside.register c.self.inside.pending.above.items c.self.inside.top
     c.args.letters.now c.shared-depth.result
     (subst (λ (l : List Frame). IsShared (letters l) c.args.letters.now c.shared-depth.result)
     c.as_slice.ensures.value c.shared-depth.ensures)

@@ -3,7 +3,7 @@ use Rattle.ux_dawg.proofs.builder.Builder.new.Goals as goal
 
 pub invariant_of-result : goal.invariant_of-result
 invariant_of-result c =
-    (started _ _ _ c.new.ensures.empty c.new-2.ensures.items c.empty_state.ensures).1
+    (started _ _ _ c.new.ensures c.new-2.ensures.items c.empty_state.ensures).1
 
 pub returns : goal.returns
-returns c = (started _ _ _ c.new.ensures.empty c.new-2.ensures.items c.empty_state.ensures).0
+returns c = (started _ _ _ c.new.ensures c.new-2.ensures.items c.empty_state.ensures).0

@@ -1,7 +1,10 @@
-use Rattle.ux_dawg.proofs.FinishLemmas.{step_is}
+use Rattle.std.proofs.Common.{◌≡◌, ◌↔◌, ℕ, List, subst}
+use Rattle.std.specs.Prelude.{Some}
+use Rattle.ux_dawg.specs.declared.state.State.{State}
+use Rattle.ux_dawg.specs.Paths.{IsStep}
 use Rattle.ux_dawg.proofs.dawg.Dawg.step.Goals as goal
 
-pub returns-in-Some : goal.returns-in-Some
-returns-in-Some c =
-    step_is c.args.self.now c.args.number c.args.letter c.in-Some.state.now _ _
-    c.in-Some.ensures.fit.ascending c.in-Some.ensures.value c.as_slice.ensures c.target_of.ensures
+pub returns : goal.returns
+returns c =
+    subst (λ (states : List State). (t : ℕ) → (c.step.result ≡ Some t)
+    ↔ IsStep states c.args.number c.args.letter t) c.self.view_is c.step.ensures

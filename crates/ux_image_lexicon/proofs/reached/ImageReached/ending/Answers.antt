@@ -17,20 +17,20 @@ ending-requires c =
 pub returns-clause-found : goal.returns-clause-found
 returns-clause-found c =
     let place = c.args.self.now in
+    let text = c.args.text.now in
     let some = c.in_ok-forms.forms.items in
     let entries = c.in_ok-entries.ensures
-    ∙ ap (λ (l : List ReadList). entries_told l c.deref-2.result.now) c.lists.ensures
-    ∙ ap (entries_told place.coded.now.lists) c.deref-2.ensures.value in
-    IfOk-weaker c.different.result _ _ (λ found different alphabet content text leads.
+    ∙ ap (λ (l : List ReadList). entries_told l c.deref.result.now) c.lists.ensures
+    ∙ ap (entries_told place.coded.now.lists) c.deref.ensures.value in
+    IfOk-weaker c.each_once.result _ _ (λ found different alphabet content leads.
     fitting_at alphabet content text place c.states.ensures.is leads some found.items
-    (c.in_ok-forms.ensures alphabet (chars text) (forms_of place.coded.now.states)
-    (ways_lent alphabet (chars text) place c.states.result.now c.deref.result.now
-    c.states.ensures.value c.deref.ensures.value leads.ways))
-    (subst (λ (l : List Entry). AreDifferent l found.items) entries different)) c.different.ensures
+    (c.in_ok-forms.ensures alphabet (forms_of place.coded.now.states)
+    (ways_lent alphabet (chars text) place c.states.result.now c.states.ensures.value leads.ways))
+    (subst (λ (l : List Entry). AreDifferent l found.items) entries different)) c.each_once.ensures
 
 pub returns-clause-sound : goal.returns-clause-sound
 returns-clause-sound c =
     let place = c.args.self.now in
-    IfOk-weaker c.different.result _ _ (λ found fits alphabet content text leads.
-    sound_at alphabet content text place c.states.ensures.is leads found.items
-    (fits alphabet content text leads)) (returns-clause-found c)
+    IfOk-weaker c.each_once.result _ _ (λ found fits alphabet content leads.
+    sound_at alphabet content c.args.text.now place c.states.ensures.is leads found.items
+    (fits alphabet content leads)) (returns-clause-found c)

@@ -14,7 +14,6 @@ returns c alphabet content text leads =
     let place = c.args.self.now in
     let forms = forms_of place.coded.now.states in
     let some = c.may_go_on.ensures alphabet (chars text) forms
-    (ways_lent alphabet (chars text) place c.states.result.now c.deref.result.now
-    c.states.ensures.value c.deref.ensures.value leads.ways) in
+    (ways_lent alphabet (chars text) place c.states.result.now c.states.ensures.value leads.ways) in
     let begins = may_begin_at alphabet content text place c.states.ensures.is leads in
     (λ t. begins.0 (some.0 t), λ may. some.1 (begins.1 may))

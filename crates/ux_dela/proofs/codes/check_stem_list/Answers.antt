@@ -1,0 +1,43 @@
+use Rattle.std.proofs.lemmas.Result.{err_from_is_err_and}
+use Rattle.ux_dela.specs.Signs.{is_plus}
+use Rattle.ux_dela.specs.declared.part.Stop.TheVariants.{Plus}
+use Rattle.ux_dela.proofs.CutLemmas.{is_none, is_some_text}
+use Rattle.ux_dela.proofs.RunLemmas.{ends_code}
+use Rattle.ux_dela.proofs.ListLemmas.{behind_gram, stem_list_there, class_stops, stem_sem_stops}
+use Rattle.ux_dela.proofs.codes.check_stem_list.Goals as goal
+
+pub returns-then-is_empty-clause-err : goal.returns-then-is_empty-clause-err
+returns-then-is_empty-clause-err c =
+    let class = c.split_part.result.0.now in
+    class_stops c.args.text.now class c.split_part.result.1.now c.requires
+    c.split_part.ensures.split
+    (is_none c.is_empty.result class c.is_empty.ensures c.if-is_empty.true)
+
+pub behind_run-requires-clause-closed : goal.behind_run-requires-clause-closed
+behind_run-requires-clause-closed c =
+    behind_gram c.args.text.now c.split_part.result.0.now c.split_part.result.1.now is_plus
+    c.requires c.split_part.ensures.split
+
+pub behind_run-requires-clause-ends : goal.behind_run-requires-clause-ends
+behind_run-requires-clause-ends c =
+    let behind = c.split_part.result.1.now in
+    let closed =
+    behind_gram c.args.text.now c.split_part.result.0.now behind is_plus c.requires
+    c.split_part.ensures.split in
+    ends_code Plus behind closed c.split_part.ensures.split.ends
+
+pub returns-in_err-behind_run-clause-err : goal.returns-in_err-behind_run-clause-err
+returns-in_err-behind_run-clause-err c =
+    let p = err_from_is_err_and c.from_residual.result c.from_residual.ensures.1 in
+    let class = c.split_part.result.0.now in
+    let some = is_some_text c.is_empty.result class c.is_empty.ensures c.if-is_empty.false in
+    rw (p.1, p.2) (stem_sem_stops c.args.text.now class c.split_part.result.1.now _
+    c.split_part.ensures.split some c.in_err-behind_run.ensures.err)
+
+pub returns-clause-ok : goal.returns-clause-ok
+returns-clause-ok c =
+    let class = c.split_part.result.0.now in
+    let some = is_some_text c.is_empty.result class c.is_empty.ensures c.if-is_empty.false in
+    stem_list_there c.args.text.now class c.split_part.result.1.now c.in_ok-behind_run.field-0.now
+    c.in_ok-plain.field-0 c.split_part.ensures.split some c.in_ok-behind_run.ensures.ok
+    c.in_ok-plain.ensures
