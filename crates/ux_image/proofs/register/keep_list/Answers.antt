@@ -1,5 +1,5 @@
 use Rattle.ux_image.proofs.KeepLemmas.{kept_list, lists_decide}
-use Rattle.ux_image.proofs.listing.keep_list.Goals as goal
+use Rattle.ux_image.proofs.register.keep_list.Goals as goal
 
 pub returns : goal.returns
 returns c =
