@@ -1,12 +1,13 @@
 #!/usr/bin/env python3
 """Times `unitex compress`, and `unitex dico` with the image that it writes and with the dictionary itself, on the data of
 dico.py: 150,000 and 300,000 lines. Beside them a program over the map of the crate fst (fst_map.rs), which makes a map of
-the same forms, sorted, and looks the words of the same text up in it. Prints the best of three runs in turn, and peak
-memory, that of `compress` by line.
+the same forms, sorted, looks the words of the same text up in it, and writes the same report by it. Prints the best of
+three runs in turn, and peak memory, that of `compress` by line. Ends where the two reports differ.
 
 Needs the built program (make build), rustc, the sources of fst 0.3 and byteorder as Debian's package librust-fst-dev has
 them, and a folder to write to (bench/data). REGISTRY tells where the sources are.
 """
+import filecmp
 import glob
 import os
 import subprocess
@@ -56,22 +57,26 @@ def main():
     for size in [150_000, 300_000]:
         apart(dico.write, size)
         dictionary, forms, text = dico.paths_of(size)
-        image, ordered, table = [os.path.join(DATA, f"dico{size}{end}") for end in (".udi", ".sorted", ".map")]
+        image, ordered, table, report, peer_report = [
+            os.path.join(DATA, f"dico{size}{end}") for end in (".udi", ".sorted", ".map", ".report", ".peer")]
         apart(sort_forms, forms, ordered)
         print(f"{size} lines, a text of {os.path.getsize(text) / 1e6:.1f} MB")
         programs = [
             ("unitex compress", [PROGRAM, "compress", dictionary], image),
             ("fst, a map of the forms", [PEER, "build", ordered, table], None),
-            ("unitex dico, the image", [PROGRAM, "dico", text, letters, image], None),
+            ("unitex dico, the image", [PROGRAM, "dico", text, letters, image], report),
             ("fst, the words looked up", [PEER, "look", table, text], None),
+            ("fst, the same report", [PEER, "report", table, dictionary, text], peer_report),
             ("unitex dico, the dictionary", [PROGRAM, "dico", text, letters, dictionary], None),
         ]
         runs = [[run(arguments, *([output] if output else [])) for _, arguments, output in programs]
                 for _ in range(RUNS)]
         for (name, _, output), column in zip(programs, zip(*runs)):
             seconds, memory = least(column)
-            by_line = f"  {memory / size:.0f} bytes a line" if output else ""
+            by_line = f"  {memory / size:.0f} bytes a line" if output == image else ""
             print(f"  {name:28}  {seconds:.3f} s  {memory / 1e6:.1f} MB{by_line}")
+        if not filecmp.cmp(report, peer_report, shallow=False):
+            sys.exit("the reports differ")
         print(f"  the image {os.path.getsize(image) / 1e6:.1f} MB, the map {os.path.getsize(table) / 1e6:.1f} MB")
 
 

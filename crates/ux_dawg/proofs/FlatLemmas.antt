@@ -9,7 +9,7 @@ use Rattle.ux_dawg.specs.declared.state.State.{State}
 use Rattle.ux_dawg.specs.declared.states.Row.{Row}
 use Rattle.ux_dawg.specs.Building.{bare}
 use Rattle.ux_dawg.specs.Paths.{edge, AreAscending, AreStates, IsEdge, IsPath, IsStep}
-use Rattle.ux_dawg.specs.Flat.{between, start_at, state_of, states_from, AreRows, KeepsRows, PutsRow}
+use Rattle.ux_dawg.specs.Flat.{between, code_in, start_at, state_of, states_from, AreRows, KeepsRows, PutsRow}
 
 -- the last row ends no earlier than the first one begins
 pub begins-le : (start many : ℕ) (rows : List Row) → AreRows start many rows → start ≤ many
@@ -27,7 +27,7 @@ length-states start (row ∷ rows) edges = ap suc (length-states row.end rows ed
 -- a state is what its row says
 pub state_at : (start : ℕ) (rows : List Row) (edges : List Edge) (number : ℕ) (d : Row) →
     number < length rows → get_or (states_from start rows edges) number bare
-    ≡ state_of (get_or rows number d).code
+    ≡ state_of (code_in (get_or rows number d).mark)
     (between (start_at start rows number) (get_or rows number d).end edges)
 state_at start [] edges number d within = absurd (omega arith)
 state_at start (row ∷ rows) edges zero d within = refl
@@ -83,15 +83,15 @@ between-last start edges more is =
 pub states-push : (start : ℕ) (rows : List Row) (row : Row) (edges more : List Edge) →
     AreRows start (length edges) rows → row.end ≡ length edges + length more →
     states_from start (rows ++ row ∷ []) (edges ++ more)
-    ≡ states_from start rows edges ++ state_of row.code more ∷ []
+    ≡ states_from start rows edges ++ state_of (code_in row.mark) more ∷ []
 states-push start [] row edges more are ends =
-    ap (λ (l : List Edge). state_of row.code l ∷ [])
+    ap (λ (l : List Edge). state_of (code_in row.mark) l ∷ [])
     (ap (λ (n : ℕ). between start n (edges ++ more)) ends ∙ between-last start edges more are)
 states-push start (first ∷ rows) row edges more are ends =
     let within = begins-le first.end (length edges) rows are.1 in
-    ap (λ (l : List Edge). state_of first.code l ∷ states_from first.end (rows ++ row ∷ [])
+    ap (λ (l : List Edge). state_of (code_in first.mark) l ∷ states_from first.end (rows ++ row ∷ [])
     (edges ++ more)) (between-append start first.end edges more are.0 within)
-    ∙ ap (λ (l : List State). state_of first.code (between start first.end edges) ∷ l)
+    ∙ ap (λ (l : List State). state_of (code_in first.mark) (between start first.end edges) ∷ l)
     (states-push first.end rows row edges more are.1 ends)
 
 -- and the rows are such again
@@ -109,12 +109,12 @@ module _ (rows shown : List Row) (edges : List Edge) (states : List State) (numb
   length-seen = sym (length-states 0 rows edges) ∙ ap (length {A = State}) seen
 
   state_there : (row : Row) → number < length shown → row ≡ get_or shown number row →
-      get_or states number bare ≡ state_of row.code (between (start_at 0 shown number) row.end edges)
+      get_or states number bare ≡ state_of (code_in row.mark) (between (start_at 0 shown number) row.end edges)
   state_there row within read =
       ap (λ (l : List State). get_or l number bare) (sym seen)
       ∙ ap (λ (l : List Row). get_or (states_from 0 l edges) number bare) (sym lent)
       ∙ state_at 0 shown edges number row within
-      ∙ ap (λ (r : Row). state_of r.code (between (start_at 0 shown number) r.end edges)) (sym read)
+      ∙ ap (λ (r : Row). state_of (code_in r.mark) (between (start_at 0 shown number) r.end edges)) (sym read)
 
   state_nowhere : length shown ≤ number → get_or states number bare ≡ bare
   state_nowhere past =
@@ -124,7 +124,7 @@ module _ (rows shown : List Row) (edges : List Edge) (states : List State) (numb
 
   -- the number of its list
   pub code_there : (row : Row) → number < length shown → row ≡ get_or shown number row →
-      row.code ≡ (get_or states number bare).code
+      code_in row.mark ≡ (get_or states number bare).code
   code_there row within read =
       sym (ap (λ (s : State). s.code) (state_there row within read))
 
@@ -170,7 +170,7 @@ module _ {T E : Type 0} (code : Option ℕ) (more : List Edge) (old new : List R
   states_after (Ok done) are states seen put =
       rw (put.rows, put.all)
       (states-push 0 old put.row before more are put.ends
-      ∙ ap (λ (l : List State). l ++ state_of put.row.code more ∷ []) seen
+      ∙ ap (λ (l : List State). l ++ state_of (code_in put.row.mark) more ∷ []) seen
       ∙ ap (λ (n : Option ℕ). states ++ state_of n more ∷ []) put.code_is)
   states_after (Err error) are states seen put = tt
 

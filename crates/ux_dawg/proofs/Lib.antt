@@ -15,4 +15,8 @@ pub mod OrderLemmas
 pub mod OneLemmas
 pub mod FlatLemmas
 pub mod HalvingLemmas
+pub mod NewestLemmas
+pub mod MarksLemmas
 pub mod IndexLemmas
+pub mod SearchLemmas
+pub mod RepeatedLemmas

@@ -30,14 +30,6 @@ edges_decide a b =
       λ h. d.1 (ap (λ (e : Edge). e.letter) h, ap (λ (e : Edge). e.target) h),
     )
 
-pub states_decide : (E : Edge → Edge → Bool) → ((a b : Edge) → Decides (E a b) (a ≡ b)) → (a b : State) →
-    Decides (option_eq nat_eq a.code b.code && pointwise E a.edges b.edges) (a ≡ b)
-states_decide E edges a b =
-    let d = Decides-and (option_eq nat_eq a.code b.code) (pointwise E a.edges b.edges) (options_decide a.code b.code) (pointwise_decides edges a.edges b.edges) in (
-      λ h. let e = d.0 h in λ j. record { code = e.0 j; edges = e.1 j },
-      λ h. d.1 (ap (λ (s : State). s.code) h, ap (λ (s : State). s.edges) h),
-    )
-
 -- a state with this number of a list is the one with these edges, where its edges are these
 pub edges_tell : (E : Edge → Edge → Bool) → ((a b : Edge) → Decides (E a b) (a ≡ b)) →
     (s : State) (code : Option ℕ) (edges shown : List Edge) (answer : Bool) → s.code ≡ code →

@@ -1,5 +1,5 @@
 -- States whose edges stand in one list. Public: the crate's public contracts speak of it.
-use Rattle.std.specs.Prelude.{◌≡◌, ℕ, zero, suc, ◌-◌, ◌≤◌, List, [], ◌∷◌, ◌++◌, ◌+◌, Option, drop, length, take}
+use Rattle.std.specs.Prelude.{◌≡◌, ℕ, zero, suc, ◌-◌, ◌≤◌, List, [], ◌∷◌, ◌++◌, ◌+◌, Option, Some, None, drop, length, take}
 use Rattle.ux_dawg.specs.declared.state.Edge.{Edge}
 use Rattle.ux_dawg.specs.declared.state.State.{State}
 use Rattle.ux_dawg.specs.declared.states.Row.{Row}
@@ -7,6 +7,11 @@ use Rattle.ux_dawg.specs.declared.states.Row.{Row}
 -- the state with this number of a list and these edges
 abbrev pub state_of : Option ℕ → List Edge → State
 state_of code edges = record { code = code; edges = edges }
+
+-- the number of a list in the mark of a row, which is one more; 0 means none
+abbrev pub code_in : (mark : ℕ) → Option ℕ
+code_in zero = None
+code_in (suc code) = Some code
 
 -- the edges from one place to another
 abbrev pub between : (start end : ℕ) → List Edge → List Edge
@@ -16,7 +21,7 @@ between start end edges = take (end - start) (drop start edges)
 abbrev pub states_from : (start : ℕ) → List Row → List Edge → List State
 states_from start [] edges = []
 states_from start (row ∷ rows) edges =
-    state_of row.code (between start row.end edges) ∷ states_from row.end rows edges
+    state_of (code_in row.mark) (between start row.end edges) ∷ states_from row.end rows edges
 
 -- no row ends before the one in front of it, and the last one ends where so many edges do
 abbrev pub AreRows : (start many : ℕ) → List Row → Type 0
@@ -33,7 +38,7 @@ start_at start (row ∷ rows) (suc number) = start_at row.end rows number
 pub record PutsRow (code : Option ℕ) (edges : List Edge) (old new : List Row)
     (before behind : List Edge) : Type 0 where
   pub row : Row
-  pub code_is : row.code ≡ code
+  pub code_is : code_in row.mark ≡ code
   pub ends : row.end ≡ length before + length edges
   pub rows : new ≡ old ++ row ∷ []
   pub all : behind ≡ before ++ edges

@@ -21,7 +21,11 @@ abbrev pub edge_word : (letter target : ℕ) → ℕ
 edge_word letter target = letter * 2 ^ 32 + target
 
 -- the words of the state, mixed one after another
-unfoldable pub hash_of : State → ℕ
-hash_of s =
+unfoldable pub mixed_words : State → ℕ
+mixed_words s =
     fold (λ hash (e : Edge). mixed hash (edge_word e.letter e.target))
     (mixed 0x243f_6a88_85a3_08d3 (code_word s.code)) s.edges
+
+-- the low half of that
+unfoldable pub hash_of : State → ℕ
+hash_of s = bit_and (mixed_words s) (2 ^ 32 - 1)

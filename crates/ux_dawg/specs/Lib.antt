@@ -8,3 +8,4 @@ pub mod Automaton
 pub mod Flat
 pub mod Hash
 pub mod Indexed
+pub mod Repeated

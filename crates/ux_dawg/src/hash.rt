@@ -1,11 +1,12 @@
 //! The hash of a state: one multiplication for its number of a list, and one for each edge.
 //!
 //! The two halves of a product of 128 bits are joined by `^`, so that all bits of a word reach all
-//! bits of the hash. No contract depends on how well it spreads states over buckets.
+//! bits of the next product. The hash is the low half of the last one. No contract depends on how
+//! well it spreads states over buckets.
 
 ghost use Rattle.std.specs.Prelude.{◌≡◌};
 ghost use Rattle.ux_dawg.specs.Flat.{state_of};
-ghost use Rattle.ux_dawg.specs.Hash.{code_word, edge_word, folded, hash_of, mixed};
+ghost use Rattle.ux_dawg.specs.Hash.{code_word, edge_word, folded, hash_of, mixed, mixed_words};
 
 use crate::state::Edge;
 
@@ -16,8 +17,15 @@ const MULTIPLIER: u64 = 0x9e37_79b9_7f4a_7c15;
 const SEED: u64 = 0x243f_6a88_85a3_08d3;
 
 /// The hash of the state with this number of a list and these edges.
-pub(crate) fn state_hash(code: Option<u32>, edges: &[Edge]) -> u64
+pub(crate) fn state_hash(code: Option<u32>, edges: &[Edge]) -> u32
     ensures { result ≡ hash_of (state_of code edges.now) }
+{
+    (mix_state(code, edges) & 0xffff_ffff) as u32
+}
+
+/// The words of the state, mixed one after another.
+fn mix_state(code: Option<u32>, edges: &[Edge]) -> u64
+    ensures { result ≡ mixed_words (state_of code edges.now) }
 {
     let start = mix(SEED, word_of_code(code));
     edges.iter().fold(

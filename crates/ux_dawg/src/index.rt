@@ -1,33 +1,47 @@
-//! Where states are found by what they are: buckets, in which a state has a mark for the next older
-//! one.
+//! Where states are found by what they are: buckets, in which a state has a link to the next older
+//! one, with 32 bits of its own hash.
 //!
-//! There are at least twice as many buckets as states, so most buckets have one state at most. When
-//! there are half as many states as buckets, twice as many buckets are made, in one pass over the
-//! states; so a state costs 12 to 20 bytes here, and is put into a bucket three times at most on
-//! average.
+//! A look-up compares hashes, and looks at a state itself only where they are equal: so another
+//! state of the bucket costs one load. An index that is widened has at least twice as many buckets
+//! as states, so most buckets have one state at most. When there are half as many states as
+//! buckets, twice as many buckets are made of the hashes alone, beside those of before. A state
+//! costs 8 to 16 bytes of buckets and 8 of its link here, and is put into a bucket three times at
+//! most on average. With room for a known number there are 4 to 8 bytes of buckets a state, which
+//! is put in once.
 
-ghost use Rattle.std.specs.Prelude.{◌≡◌, ◌↔◌, ◌<◌, [], IfOk, IsTrue, OnErr, OnOk, get_or, length};
-ghost use Rattle.ux_dawg.specs.declared.index.Index.{Index as IndexRecord};
+ghost use Rattle.std.specs.Prelude.{◌≡◌, ◌↔◌, ◌+◌, ◌<◌, [], IfOk, IsTrue, OnErr, OnOk, get_or, length};
 ghost use Rattle.ux_dawg.specs.Building.{bare};
 ghost use Rattle.ux_dawg.specs.Flat.{state_of};
-ghost use Rattle.ux_dawg.specs.Indexed.{bucket_in, buckets, AreIndexed, IsLinked, IsPlace, IsSameIndex, IsStored};
+ghost use Rattle.ux_dawg.specs.Hash.{hash_of};
+ghost use Rattle.ux_dawg.specs.Indexed.{bucket_in, buckets, held, AreIndexed, AreLinked, HasSameHashes, IsAdded, IsBegun, IsPlace, IsSameIndex, IsStored, IsWidened};
 
-use crate::hash::state_hash;
 use crate::state::Edge;
 use crate::states::States;
 use std::alloc::Global;
 use ux_base::{Mem, NoMemory};
 
-/// How many buckets there are at first.
+/// How many buckets there are at least, where there are any.
 const FEWEST: usize = 16;
+
+/// How many states have marks: one less than there are marks.
+const MOST: usize = 0xffff_ffff;
+
+/// What the index has of a state.
+#[derive(Clone, Copy, Debug)]
+struct Link {
+    /// The mark of the next older state of the bucket.
+    older: u32,
+    /// The hash of the state.
+    hash: u32,
+}
 
 /// An index of states. A mark is one more than the number of a state, and 0 where there is none.
 #[derive(Debug, Drop)]
 pub struct Index {
     /// For each bucket the mark of its newest state.
     newest: Vec<u32>,
-    /// For each state the mark of the next older one in its bucket.
-    older: Vec<u32>,
+    /// For each state its link.
+    links: Vec<Link>,
 }
 
 impl Index {
@@ -37,131 +51,152 @@ impl Index {
     {
         Index {
             newest: Vec::new(alloc),
-            older: Vec::new(alloc),
+            links: Vec::new(alloc),
         }
     }
 
-    /// How many buckets there are.
-    pub(crate) fn len(&self) -> usize
-        ensures { result ≡ buckets self.now }
+    /// The index of no state, with buckets and room for so many.
+    pub(crate) fn with_room(alloc: Global, many: usize) -> Mem<Index>
+        ensures indexed { IfOk result (λ index. AreIndexed [] 0 index) }
+        ensures some { IfOk result (λ index. 0 < buckets index) }
     {
-        self.newest.len()
+        let rounded = many.checked_next_power_of_two().ok_or(NoMemory)?;
+        Ok(Index {
+            newest: vec![in alloc; 0; rounded.max(FEWEST)]?,
+            links: Vec::with_capacity(alloc, many)?,
+        })
     }
 
-    /// Makes more buckets, where there are no more than twice as many as states.
-    pub(crate) fn widen(&mut self, states: &States) -> Mem<()>
-        requires { AreIndexed states.now (length states.now) self.old }
-        ensures indexed { AreIndexed states.now (length states.now) self.new }
+    /// Makes twice as many buckets, where there are no more than twice as many as states.
+    pub(crate) fn widen(&mut self) -> Mem<()>
+        requires { AreLinked (held self.old) self.old }
+        ensures widened { IsWidened self.old self.new }
         ensures some { OnOk result (0 < buckets self.new) }
     {
         let many = self.newest.len();
-        if states.len() < many / 2 {
+        if self.links.len() < many / 2 {
             return Ok(());
         }
         let alloc = *self.newest.allocator();
-        *self = Index::of(alloc, states, many.saturating_mul(2).max(FEWEST))?;
+        self.newest = vec![in alloc; 0; many.saturating_mul(2).max(FEWEST)]?;
+        self.link_all();
         Ok(())
     }
 
-    /// The index of the states, with so many buckets.
-    fn of(alloc: Global, states: &States, many: usize) -> Mem<Index>
-        requires { 0 < many }
-        ensures indexed { IfOk result (λ index. AreIndexed states.now (length states.now) index) }
-        ensures many { IfOk result (λ index. buckets index ≡ many) }
+    /// Puts all links into the buckets, which are empty.
+    fn link_all(&mut self)
+        requires empty { AreLinked 0 self.old }
+        requires some { 0 < buckets self.old }
+        ensures linked { AreLinked (held self.new) self.new }
+        ensures same { HasSameHashes self.old self.new }
     {
-        let mut index = Index {
-            newest: vec![in alloc; 0; many]?,
-            older: Vec::with_capacity(alloc, states.len())?,
-        };
-        for number in 0..states.len() {
-            let bucket = bucket_of(many, states.code(number), states.edges(number));
-            index.link(bucket)?;
+        for number in 0..self.links.len() {
+            self.link(number);
         }
-        Ok(index)
     }
 
-    /// Puts the next state into the bucket.
-    fn link(&mut self, bucket: usize) -> Mem<()>
-        requires { bucket < buckets self.old }
-        ensures ok { OnOk result (IsLinked bucket self.old self.new) }
+    /// Puts the link of this number into its bucket, where those before it are in theirs.
+    fn link(&mut self, number: usize)
+        requires linked { AreLinked number self.old }
+        requires within { number < held self.old }
+        requires some { 0 < buckets self.old }
+        ensures linked { AreLinked (number + 1) self.new }
+        ensures same { HasSameHashes self.old self.new }
+    {
+        let hash = self.links[number].hash;
+        let bucket = self.bucket_of(hash);
+        let older = self.newest[bucket];
+        self.links[number] = Link { older, hash };
+        self.newest[bucket] = number as u32 + 1;
+    }
+
+    /// Puts a link for the hash last, and gives its number. It is in no bucket yet.
+    fn begin(&mut self, hash: u32) -> Mem<usize>
+        ensures ok { IfOk result (λ number. IsBegun hash number self.old self.new) }
         ensures err { OnErr result (IsSameIndex self.old self.new) }
     {
-        let number = u32::try_from(self.older.len()).map_err(|_| NoMemory)?;
-        let mark = number.checked_add(1).ok_or(NoMemory)?;
-        self.older.push(self.newest[bucket])?;
-        self.newest[bucket] = mark;
+        let number = self.links.len();
+        if number >= MOST {
+            return Err(NoMemory);
+        }
+        self.links.push(Link { older: 0, hash })?;
+        Ok(number)
+    }
+
+    /// Puts the hash of the next state last, and into its bucket.
+    pub(crate) fn add(&mut self, hash: u32) -> Mem<()>
+        requires linked { AreLinked (held self.old) self.old }
+        requires some { 0 < buckets self.old }
+        ensures { OnOk result (IsAdded hash self.old self.new) }
+    {
+        let number = self.begin(hash)?;
+        self.link(number);
         Ok(())
     }
 
-    /// Takes the last state out of its bucket.
-    fn unlink(&mut self, bucket: usize)
-        requires { bucket < buckets self.old }
-        ensures { (index : IndexRecord) → IsLinked bucket index self.old → IsSameIndex index self.new }
-    {
-        if let Some(mark) = self.older.pop() {
-            self.newest[bucket] = mark;
-        }
-    }
-
-    /// The number of the state in its bucket, if it is there.
+    /// The number of the state of this hash among those that the index has, if it is one of them.
     pub(crate) fn place(
         &self,
         states: &States,
-        bucket: usize,
+        hash: u32,
         code: Option<u32>,
         edges: &[Edge],
     ) -> Option<usize>
-        requires indexed { AreIndexed states.now (length states.now) self.now }
-        requires bucket { bucket ≡ bucket_in (buckets self.now) (state_of code edges.now) }
-        requires within { bucket < buckets self.now }
-        ensures { IsPlace states.now (state_of code edges.now) result }
+        requires indexed { AreIndexed states.now (held self.now) self.now }
+        requires hash { hash ≡ hash_of (state_of code edges.now) }
+        requires some { 0 < buckets self.now }
+        ensures { IsPlace states.now (held self.now) (state_of code edges.now) result }
     {
+        let bucket = self.bucket_of(hash);
         let mut mark = self.newest[bucket];
         while mark > 0 {
             let number = mark as usize - 1;
-            if is_state(states, number, code, edges) {
+            let link = self.links[number];
+            if link.hash == hash && is_state(states, number, code, edges) {
                 return Some(number);
             }
-            mark = self.older[number];
+            mark = link.older;
         }
         None
     }
 
-    /// Puts the state last, and into its bucket; neither, where memory runs out.
+    /// Puts the state of this hash last, and into its bucket; neither, where memory runs out.
     pub(crate) fn store(
         &mut self,
         states: &mut States,
-        bucket: usize,
+        hash: u32,
         code: Option<u32>,
         edges: &[Edge],
     ) -> Mem<usize>
         requires indexed { AreIndexed states.old (length states.old) self.old }
-        requires bucket { bucket ≡ bucket_in (buckets self.old) (state_of code edges.now) }
-        requires within { bucket < buckets self.old }
+        requires hash { hash ≡ hash_of (state_of code edges.now) }
+        requires some { 0 < buckets self.old }
         ensures ok { IfOk result (λ i.
             IsStored (state_of code edges.now) i states.old states.new self.new) }
         ensures same { OnErr result (states.new ≡ states.old) }
         ensures err { OnErr result (AreIndexed states.new (length states.new) self.new) }
     {
-        let number = states.len();
-        self.link(bucket)?;
+        let number = self.begin(hash)?;
         match states.push(code, edges) {
-            Ok(()) => Ok(number),
+            Ok(()) => {
+                self.link(number);
+                Ok(number)
+            }
             Err(error) => {
-                self.unlink(bucket);
+                self.links.pop();
                 Err(error)
             }
         }
     }
-}
 
-/// The bucket of the state with this number of a list and these edges.
-pub(crate) fn bucket_of(many: usize, code: Option<u32>, edges: &[Edge]) -> usize
-    requires { 0 < many }
-    ensures bucket { result ≡ bucket_in many (state_of code edges.now) }
-    ensures within { result < many }
-{
-    state_hash(code, edges) as usize & (many - 1)
+    /// The bucket of the hash: of the low bits, since the buckets are a power of two.
+    fn bucket_of(&self, hash: u32) -> usize
+        requires { 0 < buckets self.now }
+        ensures bucket { result ≡ bucket_in (buckets self.now) hash }
+        ensures within { result < buckets self.now }
+    {
+        hash as usize & (self.newest.len() - 1)
+    }
 }
 
 /// Whether the state of the number has this number of a list and these edges.

@@ -28,7 +28,8 @@
 //! ```
 //!
 //! An automaton that was written somewhere is made again of its states by `Dawg::of_states`, or
-//! read into `States`, which has all edges in one list.
+//! read into `States`, which has all edges in one list. `first_repeated` finds the first of them
+//! that equals an earlier one, by the index of a register.
 #![tactic(auto)]
 
 mod builder;
@@ -40,6 +41,7 @@ mod items;
 mod laws;
 mod pending;
 mod register;
+mod repeated;
 mod sorted;
 mod state;
 mod states;
@@ -49,6 +51,7 @@ pub use dawg::Dawg;
 pub use fit::are_states;
 pub use items::Items;
 pub use laws::forms_decide_states;
+pub use repeated::first_repeated;
 pub use sorted::{are_sorted, comes_before, have_few_letters};
 pub use state::{Edge, Form, State};
 pub use states::States;

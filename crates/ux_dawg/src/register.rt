@@ -1,15 +1,17 @@
 //! The states that no later form can change, each once.
 //!
 //! All their edges stand in one list, and a state is looked up by its hash, from what it would be:
-//! neither a look-up nor a state takes memory of its own. A state with one edge costs 32 to 36
-//! bytes, and up to twice as much where a list has just grown; a look-up takes a step for each edge
-//! of the states in one bucket.
+//! neither a look-up nor a state takes memory of its own. A state with one edge costs 32 to 40
+//! bytes: 8 and 8 of them in the list of states, 8 of its link, and 8 to 16 of buckets. All but
+//! the buckets take up to twice as much where a list has just grown. A look-up takes a step for
+//! each edge, and one for each other state in the bucket.
 
 ghost use Rattle.std.specs.Prelude.{◌≡◌, [], IfOk};
 ghost use Rattle.ux_dawg.specs.Flat.{state_of};
 ghost use Rattle.ux_dawg.specs.Register.{AreOnceStates, IsKeptState};
 
-use crate::index::{Index, bucket_of};
+use crate::hash::state_hash;
+use crate::index::Index;
 use crate::state::Edge;
 use crate::states::States;
 use std::alloc::Global;
@@ -52,11 +54,11 @@ impl Register {
         ensures { IfOk result (λ i.
             IsKeptState self.old self.new (state_of code edges.now) i) }
     {
-        self.index.widen(&self.states)?;
-        let bucket = bucket_of(self.index.len(), code, edges);
-        match self.index.place(&self.states, bucket, code, edges) {
+        self.index.widen()?;
+        let hash = state_hash(code, edges);
+        match self.index.place(&self.states, hash, code, edges) {
             Some(number) => Ok(number),
-            None => self.index.store(&mut self.states, bucket, code, edges),
+            None => self.index.store(&mut self.states, hash, code, edges),
         }
     }
 

@@ -1,11 +1,11 @@
 //! The states of an automaton, with the edges of all of them in one list.
 //!
 //! So a step to another state is a step in memory, and no more, and a state has no list of its own:
-//! it takes 16 bytes, and 8 for each edge.
+//! it takes 8 bytes, and 8 for each edge.
 
-ghost use Rattle.std.specs.Prelude.{◌≡◌, ◌↔◌, ◌<◌, ◌≤◌, ◌∷◌, ◌++◌, ℕ, [], Contains, OnErr, OnOk, Some, get_or, length};
+ghost use Rattle.std.specs.Prelude.{◌≡◌, ◌↔◌, ◌<◌, ◌≤◌, ◌+◌, ◌∷◌, ◌++◌, ℕ, [], Contains, IfOk, OnErr, OnOk, Some, get_or, length};
 ghost use Rattle.ux_dawg.specs.Building.{bare};
-ghost use Rattle.ux_dawg.specs.Flat.{between, start_at, state_of, KeepsRows, PutsRow};
+ghost use Rattle.ux_dawg.specs.Flat.{between, code_in, start_at, state_of, KeepsRows, PutsRow};
 ghost use Rattle.ux_dawg.specs.Paths.{edge, AreAscending, AreStates, IsStep};
 
 use crate::state::Edge;
@@ -13,11 +13,13 @@ use std::alloc::Global;
 use std::marker::Model;
 use ux_base::{Mem, NoMemory};
 
-/// A state among others: its number of a list, and where its edges end.
+/// A state among others.
 #[derive(Clone, Copy, Debug)]
 struct Row {
-    code: Option<u32>,
-    end: usize,
+    /// One more than its number of a list, and 0 where it has none.
+    mark: u32,
+    /// Where its edges end.
+    end: u32,
 }
 
 /// The states of an automaton by number, with their edges in one list. Contracts see the list of
@@ -60,7 +62,8 @@ impl States {
         self.rows.len()
     }
 
-    /// Adds a state with this number of a list and copies of these edges.
+    /// Adds a state with this number of a list and copies of these edges. Where 32 bits don't hold the
+    /// number or count the edges of all states, it answers that memory ran out.
     pub fn push(&mut self, code: Option<u32>, edges: &[Edge]) -> Mem<()>
         ensures ok { OnOk result (self.new ≡ self.old ++ state_of code edges.now ∷ []) }
         ensures err { OnErr result (self.new ≡ self.old) }
@@ -74,7 +77,7 @@ impl States {
         ensures { result ≡ (get_or self.now number bare).code }
     {
         match self.rows.get(number) {
-            Some(row) => row.code,
+            Some(row) => code_in(row.mark),
             None => None,
         }
     }
@@ -86,7 +89,11 @@ impl States {
     {
         let rows = self.rows.as_slice();
         match rows.get(number) {
-            Some(row) => part(self.edges.as_slice(), start_of(rows, number), row.end),
+            Some(row) => part(
+                self.edges.as_slice(),
+                start_of(rows, number),
+                row.end as usize,
+            ),
             None => &[],
         }
     }
@@ -120,16 +127,41 @@ fn push_row(rows: &mut Vec<Row>, all: &mut Vec<Edge>, code: Option<u32>, edges: 
         all.new.items) }
 {
     let many = all.len();
-    all.extend_from_slice(edges)?;
     let row = Row {
-        code,
-        end: all.len(),
+        mark: mark_of(code)?,
+        end: end_behind(many, edges)?,
     };
+    all.extend_from_slice(edges)?;
     if rows.push(row).is_err() {
         all.truncate(many);
         return Err(NoMemory);
     }
     Ok(())
+}
+
+/// One more than the number, and 0 for none.
+fn mark_of(code: Option<u32>) -> Mem<u32>
+    ensures { IfOk result (λ mark. code_in mark ≡ code) }
+{
+    match code {
+        Some(code) => code.checked_add(1).ok_or(NoMemory),
+        None => Ok(0),
+    }
+}
+
+/// The number that is one less, if there is one.
+fn code_in(mark: u32) -> Option<u32>
+    ensures { result ≡ code_in mark }
+{
+    mark.checked_sub(1)
+}
+
+/// Where these edges end behind so many others.
+fn end_behind(many: usize, edges: &[Edge]) -> Mem<u32>
+    ensures { IfOk result (λ end. end ≡ many + length edges.now) }
+{
+    let end = many.checked_add(edges.len()).ok_or(NoMemory)?;
+    u32::try_from(end).map_err(|_| NoMemory)
 }
 
 /// The edges from one place to another.
@@ -147,7 +179,7 @@ fn start_of(rows: &[Row], number: usize) -> usize
     ensures { result ≡ start_at 0 rows.now number }
 {
     match number.checked_sub(1) {
-        Some(before) => rows[before].end,
+        Some(before) => rows[before].end as usize,
         None => 0,
     }
 }

@@ -23,5 +23,6 @@ pub mod StemLemmas
 pub mod StemUniqueLemmas
 pub mod StopLemmas
 pub mod TagLemmas
+pub mod TextsLemmas
 pub mod UniqueLaws
 pub mod UniqueLemmas

@@ -7,4 +7,5 @@ pub mod Reading
 pub mod Signs
 pub mod Sound
 pub mod Tag
+pub mod Texts
 pub mod Written

@@ -109,7 +109,7 @@ pub record IsRunOf (kind : Kind) (text : List ℕ) (items : List (List ℕ)) (re
 
 -- they were read
 abbrev pub IsRun : Kind → List ℕ → Run → Type 0
-IsRun kind text run = IsRunOf kind text run.codes.items run.rest.now
+IsRun kind text run = IsRunOf kind text run.codes run.rest.now
 
 -- the rest stands behind them, whatever they are
 abbrev pub IsBehindRun : Kind → (text rest : List ℕ) → Type 0

@@ -10,10 +10,12 @@ ghost use Rattle.ux_dela.specs.Written.{IsPart};
 ghost use Rattle.ux_dela.specs.declared.codes.CodeFault.TheVariants.{NoRoom};
 
 use crate::entry::Codes;
+use crate::joined::Joined;
 use crate::part::{Stop, begins_with, split_part};
-use crate::plain::{Mark, plain};
+use crate::plain::{Mark, plain, push_plain};
+use crate::texts::Texts;
 use std::alloc::{AllocError, AllocFailed, Global};
-use ux_base::{Lst, Txt};
+use ux_base::Txt;
 
 /// Why codes aren't read.
 #[derive(Clone, Copy)]
@@ -55,7 +57,7 @@ pub enum Kind {
 #[derive(Drop)]
 pub struct Run<'a> {
     /// What the codes mean.
-    pub codes: Vec<Txt>,
+    pub codes: Texts,
     /// What stands behind them.
     pub rest: &'a str,
 }
@@ -75,7 +77,7 @@ pub struct StemCodes {
     /// The class.
     pub class: Txt,
     /// The semantic codes.
-    pub sem: Lst<Txt>,
+    pub sem: Texts,
 }
 
 /// The codes of an entry.
@@ -92,8 +94,8 @@ pub fn read_list<'a>(alloc: Global, text: &'a str) -> Result<Codes, CodeFault<'a
     let infl = read_run(alloc, Kind::Infl, sem.rest)?;
     Ok(Codes {
         gram: plain(alloc, Mark::AsItself, gram)?,
-        sem: Lst::new(sem.codes),
-        infl: Lst::new(infl.codes),
+        sem: sem.codes,
+        infl: infl.codes,
     })
 }
 
@@ -110,7 +112,7 @@ pub fn read_stem_list<'a>(alloc: Global, text: &'a str) -> Result<StemCodes, Cod
     let sem = read_run(alloc, Kind::StemSem, behind)?;
     Ok(StemCodes {
         class: plain(alloc, Mark::AsItself, class)?,
-        sem: Lst::new(sem.codes),
+        sem: sem.codes,
     })
 }
 
@@ -150,14 +152,16 @@ fn read_run<'a>(alloc: Global, kind: Kind, text: &'a str) -> Result<Run<'a>, Cod
     ensures ok { IfOk result (IsRun kind text.now) }
     ensures err { IfErr result (StopsRun kind text.now) }
 {
-    let mut codes = Vec::new(alloc);
+    let mut codes = Joined::new(alloc);
     let mut rest = text;
     while let Some(next) = next_code(kind, rest)? {
-        codes.push(plain(alloc, Mark::AsItself, next.code)?)?;
+        push_plain(alloc, Mark::AsItself, next.code, &mut codes)?;
         rest = next.rest;
     }
-    codes.shrink_to_fit();
-    Ok(Run { codes, rest })
+    Ok(Run {
+        codes: Texts::new(alloc, codes)?,
+        rest,
+    })
 }
 
 /// What stands behind the codes of the kind at the front of the text. Takes no memory.

@@ -1,11 +1,12 @@
 //! What dictionary lines say: entries of forms, and lemmas with their classes.
 //!
-//! All are records of texts.
+//! All are records of texts. Copies share the lists of codes.
 
 ghost use Rattle.std.specs.Prelude.{◌≡◌, ◌↔◌, IsTrue, IfOk};
 
+use crate::texts::Texts;
 use std::alloc::AllocError;
-use ux_base::{Lst, Txt};
+use ux_base::Txt;
 
 /// What a line of forms says of a form.
 #[derive(Clone, Drop)]
@@ -17,9 +18,9 @@ pub struct Entry {
     /// The grammatical code.
     pub gram: Txt,
     /// The semantic codes.
-    pub sem: Lst<Txt>,
+    pub sem: Texts,
     /// The inflection codes.
-    pub infl: Lst<Txt>,
+    pub infl: Texts,
 }
 
 /// What a line of lemmas says of a lemma.
@@ -32,7 +33,7 @@ pub struct Stem {
     /// The grammatical code: the class without its digits.
     pub gram: Txt,
     /// The semantic codes.
-    pub sem: Lst<Txt>,
+    pub sem: Texts,
 }
 
 /// The codes of an entry.
@@ -41,9 +42,9 @@ pub struct Codes {
     /// The grammatical code.
     pub gram: Txt,
     /// The semantic codes.
-    pub sem: Lst<Txt>,
+    pub sem: Texts,
     /// The inflection codes.
-    pub infl: Lst<Txt>,
+    pub infl: Texts,
 }
 
 /// Whether two texts are equal.
@@ -54,7 +55,7 @@ fn same_text(a: &Txt, b: &Txt) -> bool
 }
 
 /// Whether two lists of texts are equal.
-fn same_texts(a: &Lst<Txt>, b: &Lst<Txt>) -> bool
+fn same_texts(a: &Texts, b: &Texts) -> bool
     ensures { IsTrue result ↔ (a.now ≡ b.now) }
 {
     a == b

@@ -6,6 +6,7 @@ ghost use Rattle.std.specs.Prelude.{◌≡◌, ◌<◌, ◌++◌, ◌∷◌, [],
 ghost use Rattle.ux_dela.specs.Reading.{characters, characters_from, mark_sign, mark_in, is_sign_before, IsSignAt};
 ghost use Rattle.ux_dela.specs.Written.{meant_as};
 
+use crate::joined::Joined;
 use crate::part::{before, behind};
 use std::alloc::{AllocError, Global};
 use ux_base::Txt;
@@ -28,6 +29,26 @@ pub fn plain(alloc: Global, mark: Mark, part: &str) -> Result<Txt, AllocError>
     let mut text = resolved(alloc, mark, part)?;
     text.shrink_to_fit();
     Ok(Txt::new(text))
+}
+
+/// Puts what the part means behind the texts. Only a part with a backslash or a mark takes memory
+/// of its own, for the time of the call.
+pub fn push_plain(
+    alloc: Global,
+    mark: Mark,
+    part: &str,
+    texts: &mut Joined,
+) -> Result<(), AllocError>
+    ensures { OnOk result (texts.new
+        ≡ texts.old ++ meant_as (mark_sign mark) (characters part.now) ∷ []) }
+{
+    match find_sign(mark, false, part.as_bytes()) {
+        None => texts.push(part),
+        Some(_) => {
+            let meant = resolved(alloc, mark, part)?;
+            texts.push(meant.as_str())
+        }
+    }
 }
 
 /// The bytes that the part means.

@@ -16,8 +16,9 @@ use crate::codes::{CodeFault, read_list};
 use crate::entry::{Codes, Entry};
 use crate::part::{Stop, before, begins_with, behind, split_part};
 use crate::tag::has_feed;
+use crate::texts::Texts;
 use std::alloc::{AllocError, Global};
-use ux_base::{Lst, NoMemory, Txt};
+use ux_base::{NoMemory, Txt};
 
 /// The signs that get a backslash.
 #[derive(Clone, Copy)]
@@ -137,29 +138,24 @@ fn put_lemma(line: &mut String, form: &str, lemma: &str) -> Result<(), AllocErro
 }
 
 /// Puts the codes with their signs.
-fn put_codes(
-    text: &mut String,
-    gram: &Txt,
-    sem: &Lst<Txt>,
-    infl: &Lst<Txt>,
-) -> Result<(), AllocError>
+fn put_codes(text: &mut String, gram: &Txt, sem: &Texts, infl: &Texts) -> Result<(), AllocError>
     ensures { OnOk result (string_bytes text.new
         ≡ string_bytes text.old ++ printed_list gram.now sem.now infl.now) }
 {
     put_shielded(text, Signs::Code, gram.as_str())?;
-    put_all(text, "+", sem.as_slice())?;
-    put_all(text, ":", infl.as_slice())
+    put_all(text, "+", sem)?;
+    put_all(text, ":", infl)
 }
 
 /// Puts the codes, with the sign before each.
-fn put_all(text: &mut String, sign: &str, codes: &[Txt]) -> Result<(), AllocError>
+fn put_all(text: &mut String, sign: &str, codes: &Texts) -> Result<(), AllocError>
     ensures { (byte : ℕ) → sign.now ≡ byte ∷ [] → OnOk result (string_bytes text.new
         ≡ string_bytes text.old
         ++ written (all_behind byte (all_shielded is_printed_code_sign codes.now))) }
 {
-    for code in codes {
+    for number in 0..codes.len() {
         text.push_str(sign)?;
-        put_shielded(text, Signs::Code, code.as_str())?;
+        put_shielded(text, Signs::Code, codes.text(number))?;
     }
     Ok(())
 }

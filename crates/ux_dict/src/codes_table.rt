@@ -69,8 +69,8 @@ impl Hash for WholeCodes {
 
     fn hash<H: Hasher>(&self, state: &mut H) {
         self.codes.gram.hash(state);
-        self.codes.sem.as_slice().hash(state);
-        self.codes.infl.as_slice().hash(state);
+        self.codes.sem.hash(state);
+        self.codes.infl.hash(state);
     }
 }
 

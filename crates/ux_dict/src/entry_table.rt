@@ -74,8 +74,8 @@ impl Hash for Whole {
         self.entry.form.hash(state);
         self.entry.lemma.hash(state);
         self.entry.gram.hash(state);
-        self.entry.sem.as_slice().hash(state);
-        self.entry.infl.as_slice().hash(state);
+        self.entry.sem.hash(state);
+        self.entry.infl.hash(state);
     }
 }
 

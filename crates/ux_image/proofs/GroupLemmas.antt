@@ -1,6 +1,6 @@
 -- The forms of a content with their codes, a form at a time.
-use Rattle.std.proofs.Common.{arith, ◌≡◌, ◌≢◌, ℕ, ◌<◌, List, [], ◌∷◌, ◌++◌, append_assoc, Bool, true, false, not, cond, inl, inr, refl, sym, ◌∙◌, ap, subst, length, take, drop, map, filter}
-use Rattle.std.specs.Prelude.{All, Some, None, slice_get}
+use Rattle.std.proofs.Common.{arith, ◌≡◌, ◌≢◌, ℕ, ◌+◌, ◌<◌, List, [], ◌∷◌, ◌++◌, append_assoc, Bool, true, false, not, cond, inl, inr, refl, sym, ◌∙◌, ap, subst, length, take, drop, map, filter}
+use Rattle.std.specs.Prelude.{All, Some, slice_get}
 use Rattle.std.specs.Cmp.Lexicographic.{slice_cmp}
 use Rattle.std.specs.List.{take_while}
 use Rattle.std.specs.Ordering.{nat_cmp}
@@ -21,7 +21,7 @@ use Rattle.ux_dela.specs.declared.entry.Entry.{Entry}
 use Rattle.ux_image.specs.Contents.{AreInOrder, IsContent, Precedes, forms_in, entries_of_form, code_list, forms_with_codes, AreNumbered, AreForms}
 use Rattle.ux_image.specs.Grouping.{ComesNext, IsPut, IsGrouped}
 use Rattle.ux_image.specs.declared.code.CodeList.{CodeList}
-use Rattle.ux_image.proofs.OrderLemmas.{has_form, run_of, run_same, run_some, run_count, behind_run, others_behind}
+use Rattle.ux_image.proofs.OrderLemmas.{has_form, run_of, run_same, run_some, run_first, behind_run, others_behind}
 
 is_false : (b : Bool) → (b ≡ true → ⊥) → b ≡ false
 is_false true h = absurd (h refl)
@@ -297,46 +297,38 @@ grouped_more content (entry ∷ rest) run behind first lists lists' forms forms'
             (All-tail (λ (e : Entry). e.form ≡ first.form) e es all)
 
 -- the same, as the function counts and cuts
-module _ (content rest run behind : List Entry) (first : Entry) (form : List ℕ) (count : ℕ)
-    (at : Some first ≡ slice_get rest 0) (is_form : form ≡ first.form)
-    (counted : count ≡ length (take_while (has_form form) rest)) (front : run ≡ take count rest)
-    (back : behind ≡ drop count rest) where
-  counts : count ≡ run_of first.form rest
-  counts = counted ∙ run_count form rest ∙ ap (λ (t : List ℕ). run_of t rest) is_form
+module _ (content rest run behind : List Entry) (first : Entry) (later : List Entry)
+    (form : List ℕ) (count : ℕ) (cut : rest ≡ first ∷ later) (is_form : form ≡ first.form)
+    (counted : count ≡ length (take_while (has_form form) later))
+    (front : run ≡ take (1 + count) rest) (back : behind ≡ drop (1 + count) rest) where
+  counts : 1 + count ≡ run_of first.form rest
+  counts =
+      run_first form first later count is_form counted
+      ∙ ap (λ (t : List ℕ). run_of t (first ∷ later)) is_form
+      ∙ ap (run_of first.form) (sym cut)
 
   pub grouped_step : (lists lists' : List CodeList) (forms forms' : List Form) →
       IsGrouped content rest lists forms → IsPut form run lists lists' forms forms' →
       IsGrouped content behind lists' forms'
   grouped_step lists lists' forms forms' so_far put =
-      grouped_more content rest run behind first lists lists' forms forms' so_far (sym at)
+      grouped_more content rest run behind first lists lists' forms forms' so_far
+      (ap (λ (es : List Entry). slice_get es 0) cut)
       (front ∙ ap (λ n. take n rest) counts) (back ∙ ap (λ n. drop n rest) counts)
       (subst (λ (t : List ℕ). IsPut t run lists lists' forms forms') is_form put)
 
   pub behind_shorter : length behind < length rest
-  behind_shorter = by rest refl
-    where
-      by : (es : List Entry) → rest ≡ es → length behind < length rest
-      by [] is =
-          absurd (none-some first (sym (ap (λ (es : List Entry). slice_get es 0) is) ∙ sym at))
-      by (entry ∷ es) is =
-          let one = same_Some entry first
-          (sym (ap (λ (es : List Entry). slice_get es 0) is) ∙ sym at) in
-          let some = run_some first.form entry es (ap (λ (e : Entry). e.form) one) in
-          let same = ap (λ (xs : List Entry). run_of first.form xs) is in
-          omega (
-            arith,
-            some,
-            same,
-            counts,
-            ap (length {A = Entry}) is,
-            ap (length {A = Entry}) back,
-            length-drop count rest,
-          )
+  behind_shorter =
+      omega (
+        arith,
+        ap (length {A = Entry}) cut,
+        ap (length {A = Entry}) back,
+        length-drop (1 + count) rest,
+      )
 
 -- at the end all are
 pub grouped_end : (content rest : List Entry) (lists : List CodeList) (forms : List Form) →
-    IsGrouped content rest lists forms → slice_get rest 0 ≡ None → AreForms content lists forms
-grouped_end content (entry ∷ rest) lists forms so_far none = absurd (none-some entry (sym none))
+    IsGrouped content rest lists forms → length rest ≡ 0 → AreForms content lists forms
+grouped_end content (entry ∷ rest) lists forms so_far none = absurd (omega (arith, none))
 grouped_end content [] lists forms so_far none =
     subst (λ (gs : List (List ℕ × CodeList)). AreNumbered gs lists forms)
     (sym (append-nil so_far.done) ∙ so_far.whole) so_far.numbered

@@ -7,7 +7,7 @@ use Rattle.std.proofs.lemmas.Bool.Decides.{Decides-and, Decides-eqb}
 use Rattle.indexmap.specs.IndexSet.{insert_key}
 use Rattle.ux_base.specs.Distinct.{AreFirsts, GrowsBy}
 use Rattle.ux_base.proofs.DistinctLemmas.{slice_get-append}
-use Rattle.ux_base.proofs.FirstsLemmas.{AreFirsts-known, AreFirsts-new, Contains-first, Contains-after, Contains-cases, Contains-none}
+use Rattle.ux_base.proofs.FirstsLemmas.{AreFirsts-known, AreFirsts-new, Contains-from_place, Contains-first, Contains-after, Contains-cases, Contains-none}
 use Rattle.ux_image.specs.Grouping.{IsKept}
 use Rattle.ux_image.specs.declared.code.Pair.{Pair}
 use Rattle.ux_image.specs.declared.code.Code.{Code}
@@ -105,4 +105,14 @@ kept_list eq decides old new list number is k at same = record {
   grows = set_grows eq decides old new list is;
   same = set_keeps eq decides old new list is;
   stored = at ∙ ap Some (sym ((decides list k).0 same));
+}
+
+-- a list that is found stays where it is, as all do
+pub found_list : (lists : List CodeList) (list : CodeList) (number : ℕ) →
+    slice_get lists number ≡ Some list → IsKept lists lists list number
+found_list lists list number at = record {
+  grows = λ seen firsts. AreFirsts-known seen lists list firsts
+      (Contains-from_place lists number list at);
+  same = λ k other is. is;
+  stored = at;
 }

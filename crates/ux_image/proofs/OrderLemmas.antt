@@ -112,6 +112,15 @@ pub run_count : (form : List ℕ) (entries : List Entry) →
 run_count form entries =
     length-take-le (run_of form entries) entries (prefix_len-le-length (has_form form) entries)
 
+-- it is one more than that of the entries behind the first of the form
+pub run_first : (form : List ℕ) (first : Entry) (later : List Entry) (count : ℕ) →
+    form ≡ first.form → count ≡ length (take_while (has_form form) later) →
+    1 + count ≡ run_of form (first ∷ later)
+run_first form first later count same counted =
+    ap (λ n. 1 + n) (counted ∙ run_count form later)
+    ∙ sym (ap (λ b. cond b (1 + run_of form later) 0)
+    ((bytes_eq-Decides first.form form).1 (sym same)))
+
 -- entries in order behind a form come after what it comes after
 all_later : (low last : List ℕ) (entries : List Entry) → Precedes low last →
     AreInOrder last entries → All (λ (e : Entry). Precedes low e.form) entries

@@ -4,7 +4,7 @@ use Rattle.std.specs.Prelude.{IsUtf8}
 use Rattle.std.specs.List.{common_prefix_len}
 use Rattle.std.specs.Str.{chars, encode_utf8_all, IsCharBoundary}
 use Rattle.std.proofs.lemmas.Bool.Decides.{Decides-eqb}
-use Rattle.std.proofs.lemmas.List.{take-append-drop, take_at, length-drop, drop-drop}
+use Rattle.std.proofs.lemmas.List.{take-append-drop, take_at, drop_all, length-drop, drop-drop}
 use Rattle.std.proofs.lemmas.Str.{encodes-chars, encodes-append, length-le-encodes, IsCharBoundary-at_seam}
 use Rattle.ux_image.specs.Codes.{shared_len, behind_chars, front_chars}
 
@@ -54,6 +54,18 @@ module _ (form lemma form_rest lemma_rest : List ℕ) (c : ℕ) (f : chars form 
   behind_more_right =
       sym (ap (λ n. drop n (chars lemma)) shared_more
       ∙ ap (λ (cs : List ℕ). drop (suc (shared_len form_rest lemma_rest)) cs) l)
+
+-- a text has all of its characters in common with itself, so that none is left
+shared_itself : (cs : List ℕ) → common_prefix_len nat_eq cs cs ≡ length cs
+shared_itself [] = refl
+shared_itself (c ∷ cs) =
+    ap (λ b. cond b (1 + common_prefix_len nat_eq cs cs) 0) ((Decides-eqb c c).1 refl)
+    ∙ omega (arith, shared_itself cs)
+
+pub behind_itself : (text : List ℕ) → behind_chars (shared_len text text) text ≡ []
+behind_itself text =
+    ap (λ n. drop n (chars text)) (shared_itself (chars text))
+    ∙ drop_all (length (chars text)) (chars text) (omega arith)
 
 -- nothing in common is left
 pub behind_end : (form lemma text : List ℕ) → shared_len form lemma ≡ 0 →

@@ -76,11 +76,14 @@ fn pair_of(alloc: Global, form: &str, lemma: &str) -> Mem<Pair>
 }
 
 /// Both texts without the characters that they have in common at the front.
-fn behind_shared<'a>(form: &'a str, lemma: &'a str) -> (&'a str, &'a str)
+pub(crate) fn behind_shared<'a>(form: &'a str, lemma: &'a str) -> (&'a str, &'a str)
     ensures form { chars result.0.now ≡ behind_chars (shared_len form.now lemma.now) form.now }
     ensures lemma { result.1.now
         ≡ encode_utf8_all (behind_chars (shared_len form.now lemma.now) lemma.now) }
 {
+    if form == lemma {
+        return ("", "");
+    }
     let mut form_rest = form;
     let mut lemma_rest = lemma;
     while let Some((form_behind, lemma_behind)) = behind_same_char(form_rest, lemma_rest) {

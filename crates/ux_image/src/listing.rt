@@ -1,23 +1,22 @@
 //! The forms of a content, each with the number of its list of codes.
 //!
 //! The entries of a form stand together, so that its codes are one run, and each form goes into the
-//! automaton as it comes: there is no list of forms. Lists are numbered as they are met: a register
-//! has each of them once.
+//! automaton as it comes: there is no list of forms. Lists are numbered as they are met: the
+//! register has each of them once.
 
-ghost use Rattle.std.specs.Prelude.{◌≡◌, ◌<◌, ◌^◌, ℕ, [], ◌∷◌, ◌++◌, IfOk, OnOk, IsTrue, ◌↔◌, length, map, take_while, vec_len};
+ghost use Rattle.std.specs.Prelude.{◌≡◌, ◌<◌, ◌^◌, [], ◌∷◌, ◌++◌, IfOk, OnOk, length, take_while};
 ghost use Rattle.std.specs.Str.{bytes_eq, chars};
 ghost use Rattle.ux_dawg.specs.Forms.{form_of};
 ghost use Rattle.ux_dela.specs.declared.entry.Entry.{Entry as EntryRecord};
-ghost use Rattle.ux_image.specs.Codes.{entry_code};
-ghost use Rattle.ux_image.specs.Contents.{IsContent, AreForms, code_list};
-ghost use Rattle.ux_image.specs.Grouping.{ComesNext, IsKept, IsPut};
+ghost use Rattle.ux_image.specs.Contents.{IsContent, AreForms};
+ghost use Rattle.ux_image.specs.Grouping.{ComesNext};
 
 use crate::code::CodeList;
-use crate::coding::{code_of, is_short};
+use crate::register::Register;
 use indexmap::IndexSet;
 use std::alloc::Global;
 use ux_base::{Mem, NoMemory};
-use ux_dawg::{Builder, Items};
+use ux_dawg::Builder;
 use ux_dict::Stored;
 
 /// The forms of a content, and their lists of codes.
@@ -31,24 +30,25 @@ pub struct Listing {
 
 /// The forms of a content and their lists of codes. `is_content` tells what it asks.
 ///
-/// Takes a step a byte, and beside the result the memory of one form. Where 32 bits don't hold a
-/// number, it answers that memory ran out.
+/// Takes a step a byte, and beside the result the memory of one form, and of a number for each
+/// sketch. Where 32 bits don't hold a number, it answers that memory ran out.
 pub fn list_codes(alloc: Global, content: &[Stored]) -> Mem<Listing>
     requires { IsContent content.now }
     ensures { IfOk result (λ l. AreForms content.now l.lists.keys l.builder) }
 {
-    let mut lists = IndexSet::new(alloc);
+    let mut register = Register::new(alloc);
     let mut builder = Builder::new(alloc);
     let mut letters = Vec::new(alloc);
     let mut rest = content;
-    while let Some(first) = rest.first() {
+    while let Some((first, later)) = rest.split_first() {
         let form = first.form();
-        let (run, behind) = rest.split_at(run_len(form, rest));
-        let number = keep_list(&mut lists, codes_of(alloc, run)?)?;
+        let (run, behind) = rest.split_at(1 + run_len(form, later));
+        let number = register.keep(alloc, run)?;
         spell(&mut letters, form)?;
         builder = with_form(builder, &letters, number)?;
         rest = behind;
     }
+    let Register { lists, .. } = register;
     Ok(Listing { builder, lists })
 }
 
@@ -77,20 +77,6 @@ fn with_form(builder: Builder, letters: &[char], number: usize) -> Mem<Builder>
     builder.add(letters, code)
 }
 
-/// The codes of the entries.
-fn codes_of(alloc: Global, entries: &[Stored]) -> Mem<CodeList>
-    ensures { IfOk result (λ list. list ≡ code_list entries.now) }
-{
-    let mut codes = Items::empty(alloc);
-    for entry in entries {
-        if !is_short(entry) {
-            return Err(NoMemory);
-        }
-        codes.push(code_of(alloc, entry)?)?;
-    }
-    Ok(CodeList { codes })
-}
-
 /// Makes the letters those of the form.
 fn spell(letters: &mut Vec<char>, form: &str) -> Mem<()>
     ensures { OnOk result (letters.new.items ≡ chars form.now) }
@@ -100,14 +86,6 @@ fn spell(letters: &mut Vec<char>, form: &str) -> Mem<()>
         letters.push(letter)?;
     }
     Ok(())
-}
-
-/// The number of the list, which is a new one where the list is new.
-fn keep_list(lists: &mut IndexSet<CodeList>, list: CodeList) -> Mem<usize>
-    ensures { IfOk result (λ number. IsKept lists.old.keys lists.new.keys list number) }
-{
-    let (number, _is_new) = lists.insert_full(list)?;
-    Ok(number)
 }
 
 /// The number in 32 bits. Where they don't hold it, memory ran out: there would be 2^32 items or

@@ -22,7 +22,7 @@ use Rattle.ux_image_lexicon.specs.declared.walk.Branch.{Branch}
 use Rattle.ux_image_lexicon.specs.declared.walk.Walk.{Walk}
 use Rattle.ux_image_lexicon.proofs.CountLemmas.{content_length, different_made, text_of}
 use Rattle.ux_image_lexicon.proofs.CountedLemmas.{one_more}
-use Rattle.ux_image_lexicon.proofs.WalkLemmas.{behind_is, branches_left, goes_left, goes_to, goes_within, left-branched, walk_less}
+use Rattle.ux_image_lexicon.proofs.WalkLemmas.{behind_is, branches_left, goes_left, goes_to, goes_within, left-branched, over_less, walk_less}
 
 module _ (coded : CodedForms) (is : IsCoded coded) where
   abbrev states : List State
@@ -189,3 +189,11 @@ module _ (coded : CodedForms) (is : IsCoded coded) where
         < letters_left states l) (sym last)
         (walk_less states is.automaton.fit is.forms (length gone.letters.items) some b
         gone_within))
+
+    pub passed_less : (next : Walk) → next.branches.items ≡ gone.branches.items →
+        letters_left states next.branches.items < letters_left states walk.branches.items
+    passed_less next branches =
+        subst (λ (l : List Branch). letters_left states l
+        < letters_left states walk.branches.items) (sym (branches ∙ rest))
+        (subst (λ (l : List Branch). letters_left states some < letters_left states l) (sym last)
+        (over_less states is.automaton.fit is.forms some b gone_within))

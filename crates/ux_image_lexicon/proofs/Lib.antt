@@ -12,3 +12,5 @@ pub mod FewLemmas
 pub mod ExactLemmas
 pub mod ApartLemmas
 pub mod TextLemmas
+pub mod SummingLemmas
+pub mod VisitLemmas

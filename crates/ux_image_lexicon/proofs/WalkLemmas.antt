@@ -242,3 +242,11 @@ module _ (states : List State) where
       let other = sum_by_push f some b in
       let less = letters_less fit have b.state n within in
       omega (arith, one, other, less)
+
+  -- also where the walk passes over the state
+  pub over_less : AreStates states → HaveForms states → (some : List Branch) (b : Branch) →
+      b.state + 1 < most → letters_left states some < letters_left states (some ++ b ∷ [])
+  over_less fit have some b within =
+      let sums = sum_by_push (λ (c : Branch). letters_from states c.state) some b in
+      let less = letters_less fit have b.state 0 within in
+      omega (arith, sums, less)

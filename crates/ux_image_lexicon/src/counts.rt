@@ -1,16 +1,20 @@
 //! How many entries a dictionary has, of all forms and of each.
 //!
 //! Two codes of a list may make one entry of some form, as `cats,cat.N` is made by taking the `s`
-//! off and by writing the lemma anew. So they are counted form by form when a dictionary is read.
+//! off and by writing the lemma anew. The forms of lists where that may be are counted one by one when
+//! a dictionary is read, and all others by their codes, by the `sums` of states.
 
-ghost use Rattle.std.specs.Prelude.{◌≡◌, ◌<◌, [], IfOk, IsTrue, OnOk, length};
+ghost use Rattle.std.specs.Prelude.{◌≡◌, ◌+◌, ◌<◌, [], IfOk, IsTrue, OnOk, length, min};
 ghost use Rattle.std.specs.Str.{encode_utf8_all};
+ghost use Rattle.ux_image_lists.specs.Sizes.{MOST};
 ghost use Rattle.ux_image_lexicon.specs.Counting.{different_by, told_of, AreApart, AreCounts, AreNone, Enters, IsApart, Notes, Puts};
+ghost use Rattle.ux_image_lexicon.specs.Summing.{AreSums, Visits};
 
-use crate::apart::{flag_at, lists_apart};
+use crate::apart::flag_at;
 use crate::coded::Coded;
 use crate::codes::{ReadCode, ReadList};
 use crate::entries::{codes_at, push_codes};
+use crate::sums::Sums;
 use crate::walk::Walk;
 use indexmap::IndexMap;
 use std::alloc::Global;
@@ -27,8 +31,11 @@ pub(crate) struct Counts {
     pub(crate) fewer: IndexMap<String, usize>,
 }
 
-/// How many entries the automaton and its lists tell. Goes to each form once, and makes the entries
-/// of one form at a time, of those with two codes that differ in the lemma alone.
+/// How many entries the automaton and its lists tell. Takes a step for each code of a list, each state
+/// and each edge, and goes along those beginnings of forms alone that lead to a list with two codes
+/// that differ in the lemma alone: along each once, with a step for each letter that comes next. Of the
+/// forms of such a list it makes the entries, one form at a time. Where there is no such list, no form
+/// is gone to.
 pub(crate) fn count(alloc: Global, coded: &Coded) -> Mem<Counts>
     ensures { IfOk result (AreCounts coded.now) }
 {
@@ -37,32 +44,54 @@ pub(crate) fn count(alloc: Global, coded: &Coded) -> Mem<Counts>
         fewer: IndexMap::new(alloc),
     };
     let mut walk = Walk::new(alloc);
-    let apart = lists_apart(alloc, coded.lists())?;
-    go_through(alloc, coded, &apart, &mut walk, &mut counts)?;
+    let sums = Sums::of(alloc, coded)?;
+    go_through(alloc, coded, &sums, &mut walk, &mut counts)?;
     Ok(counts)
 }
 
-/// Goes through all states, and counts the entries of each form.
+/// Goes through the states, and counts the entries of all forms.
 fn go_through(
     alloc: Global,
     coded: &Coded,
-    apart: &[bool],
+    sums: &Sums,
     walk: &mut Walk,
     counts: &mut Counts,
 ) -> Mem<()>
-    requires apart { AreApart coded.now.lists apart.now }
+    requires sums { AreSums coded.now sums.now }
     requires letters { walk.old.letters.items ≡ [] }
     requires branches { walk.old.branches.items ≡ [] }
     requires counts { AreNone counts.old }
     ensures { OnOk result (AreCounts coded.now counts.new) }
 {
     let root = coded.states().len() - 1;
-    enter(alloc, coded, apart, root, walk, counts)?;
+    visit(alloc, coded, sums, root, walk, counts)?;
     while let Some(branch) = walk.pop() {
         walk.go_to(branch)?;
-        enter(alloc, coded, apart, branch.state, walk, counts)?;
+        visit(alloc, coded, sums, branch.state, walk, counts)?;
     }
     Ok(())
+}
+
+/// Counts the entries of the forms behind the state at once, where each of their codes makes one.
+/// Else enters the state.
+fn visit(
+    alloc: Global,
+    coded: &Coded,
+    sums: &Sums,
+    state: usize,
+    walk: &mut Walk,
+    counts: &mut Counts,
+) -> Mem<()>
+    requires sums { AreSums coded.now sums.now }
+    requires within { state < length coded.now.states }
+    ensures { OnOk result (Visits coded.now state walk.old walk.new counts.old counts.new) }
+{
+    let sum = sums.states[state];
+    if sum.apart {
+        counts.add(sum.codes);
+        return Ok(());
+    }
+    enter(alloc, coded, &sums.lists, state, walk, counts)
 }
 
 /// Counts the entries of the form that ends in the state, if one does, and leaves the states behind
@@ -100,6 +129,15 @@ impl Counts {
             Some(count) => *count,
             None => codes,
         }
+    }
+
+    /// Counts so many entries more, and keeps nothing of their forms.
+    fn add(&mut self, made: usize)
+        ensures total { self.new.total ≡ min (self.old.total + made) MOST }
+        ensures fewer { self.new.fewer ≡ self.old.fewer }
+    {
+        // The entries of an image are far fewer than a machine word counts.
+        self.total = self.total.saturating_add(made);
     }
 
     /// Counts the entries of the form of these letters, if it has a list.
@@ -144,8 +182,7 @@ impl Counts {
         ensures { OnOk result
             (Puts (encode_utf8_all letters.now) made codes self.old self.new) }
     {
-        // The entries of an image are far fewer than a machine word counts.
-        self.total = self.total.saturating_add(made);
+        self.add(made);
         if made != codes {
             self.fewer.insert(text_of(alloc, letters)?, made)?;
         }

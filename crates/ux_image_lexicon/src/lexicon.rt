@@ -1,4 +1,6 @@
-//! A dictionary that stays the automaton of its image.
+//! A dictionary that stays an automaton: that of its image, or one that was made of a file of forms.
+//!
+//! `read_image` reads one, and `of_text` makes one; each look-up makes the entries that it finds.
 
 ghost use Rattle.std.specs.Prelude.{◌≡◌, ◌⊎◌, ◌↔◌, ◌<◌, ◌^◌, ℕ, List, [], All, IfErr, IfOk, IsTrue, MatchOption, length};
 ghost use Rattle.ux_alphabet.specs.Letters.{Letters};
@@ -29,8 +31,8 @@ use ux_image_lists::Image;
 use ux_image_look_ups::{begin, longest};
 use ux_image_reader::ImageError;
 
-/// A dictionary that stays the automaton of its image, seen as its content: the entries that the image
-/// tells, each once, in ascending order of their forms and in the order of each form's codes.
+/// A dictionary that stays an automaton, seen as its content: the entries that the automaton tells with
+/// its lists of codes, each once, in ascending order of their forms and in the order of each form's codes.
 #[derive(Drop)]
 pub struct ImageLexicon {
     pub(crate) coded: Coded,
@@ -57,10 +59,12 @@ impl Model for ImageLexicon {
         × AreCounts lexicon.coded lexicon.counts };
 }
 
-/// The dictionary of an image, or the first fault of the file. The time is linear in the file and
-/// in the letters of the forms, each counted for each of its codes. The memory is linear in the
-/// file, and in the letters of those forms of which two codes make one entry. An image that
-/// `ux_image` makes has no such form.
+/// The dictionary of an image, or the first fault of the file. The time is linear in the file where
+/// the codes of each list differ in more than the lemma. Else it is linear also in the beginnings of
+/// forms that lead to other lists, with the letters that come next, and in the letters of the forms of
+/// these lists, each counted for each of its codes. The memory is linear in the file, and in the
+/// letters of those forms of which two codes make one entry. An image that `ux_image` makes has no such
+/// form.
 pub fn read_image(alloc: Global, bytes: &[u8]) -> Result<ImageLexicon, ImageError>
     requires { length bytes.now < 2 ^ 32 }
     ensures ok { IfOk result (IsImageContent bytes.now) }

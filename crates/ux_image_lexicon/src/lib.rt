@@ -5,9 +5,10 @@
 //! makes an `ImageLexicon` of an image, or with `of_text`, where `read_text` makes one of a file of forms.
 //! `reached` is a place in one, to which a text leads. Inside,
 //! `coded` is the automaton with its lists of codes, `lists` reads these once, and `entries` makes
-//! entries. `counts` counts them once, by a `walk` that has one form at a time, and `apart` finds the
-//! lists of which that is seen at once. `finding` goes to the list of a form by its letters. Which
-//! entries an automaton and its lists tell stands in `specs/Told.antt`.
+//! entries. `counts` counts them once: `apart` finds the lists whose codes make an entry each, `sums`
+//! adds up the codes of all forms by states, and a `walk` goes to the forms of other lists, one at a
+//! time. `finding` goes to the list of a form by its letters. Which entries an automaton and its lists
+//! tell stands in `specs/Told.antt`.
 //!
 //! ```text
 //! let lexicon = read_image(alloc, &bytes)?;
@@ -25,6 +26,7 @@ pub mod lexicon;
 mod lists;
 pub mod of_text;
 pub mod reached;
+mod sums;
 mod walk;
 
 pub use coded::Coded;

@@ -53,7 +53,7 @@ pub fn go_on(
     for c in text.chars() {
         next = next_ways(alloc, states, next, c, alphabet)?;
     }
-    closed(alloc, next)
+    Ok(next)
 }
 
 /// Whether no other letter fits any character of the text.
@@ -161,22 +161,6 @@ fn copy_of(alloc: Global, way: &Way) -> Mem<Way>
     })
 }
 
-/// The ways, once a token of theirs ends.
-fn closed(alloc: Global, ways: Ways) -> Mem<Ways>
-    ensures { IfOk result (λ closed. (closed.len ≡ ways.len)
-        × (closed.ways.items ≡ ways.ways.items)) }
-{
-    let Ways { len, ways } = ways;
-    let mut closed = Vec::new(alloc);
-    for Way { changes, state } in ways {
-        closed.push(Way {
-            changes: changes.close(alloc)?,
-            state,
-        })?;
-    }
-    Ok(Ways { len, ways: closed })
-}
-
 /// The ways that go on with an edge that fits the character.
 fn next_ways(alloc: Global, states: &States, ways: Ways, c: char, alphabet: &Alphabet) -> Mem<Ways>
     requires automaton { MakeAutomaton states.now }
@@ -282,5 +266,7 @@ fn noted(alloc: Global, changes: &Trail, letter: char, taken: &Taken<'_>) -> Mem
         return Ok(copy);
     }
     let place = taken.place;
-    Ok(copy.with(Change { place, letter })?)
+    // A piece at once, so that the next copy shares it.
+    let more = copy.with(Change { place, letter })?;
+    Ok(more.close(alloc)?)
 }

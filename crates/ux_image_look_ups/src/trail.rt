@@ -4,8 +4,8 @@
 //! upper-case one of the text. A way goes on token by token, and may be as long as the text, which
 //! may be written in upper case. So a trail shares its changes with those that it goes on from: it
 //! keeps them in pieces, each at least twice as long as the next one, of which there are at most as
-//! many as the binary number of the changes' count has digits. The changes of a token stand behind the
-//! pieces until the token ends, and become one piece then. With no change a trail takes no memory.
+//! many as the binary number of the changes' count has digits. A change is put behind the pieces, and
+//! becomes one before another way shares it. With no change a trail takes no memory.
 
 ghost use Rattle.std.specs.Prelude.{◌≡◌, ◌<◌, ◌∷◌, ◌++◌, [], IfOk, OnOk, MatchOption, length, slice_set};
 ghost use Rattle.ux_image_look_ups.specs.Changes.{changed};
@@ -28,9 +28,9 @@ pub struct Change {
 /// What a way changes, seen as the list of changes.
 #[derive(Drop)]
 pub struct Trail {
-    /// The changes of the tokens that ended.
+    /// The changes that other ways may share.
     pieces: Vec<Rc<Lst<Change>>>,
-    /// Those of a token that didn't.
+    /// Those that none shares.
     begun: Vec<Change>,
 }
 
@@ -55,7 +55,7 @@ impl Trail {
         }
     }
 
-    /// These changes and one more, of a token.
+    /// These changes and one more, which no way shares.
     pub(crate) fn with(self, change: Change) -> Result<Trail, AllocError>
         ensures { IfOk result (λ trail. trail ≡ self ++ change ∷ []) }
     {
@@ -64,8 +64,8 @@ impl Trail {
         Ok(Trail { pieces, begun })
     }
 
-    /// The same changes, once the token ends. Takes one piece, if the token has a change, and now and
-    /// then a step a change: a change moves into a piece half as long again as its own, or a longer
+    /// The same changes, so that copies share them all. Takes one piece, if there is one to share, and now
+    /// and then a step a change: a change moves into a piece half as long again as its own, or a longer
     /// one.
     pub(crate) fn close(self, alloc: Global) -> Result<Trail, AllocError>
         ensures { IfOk result (λ trail. trail ≡ self) }
@@ -81,7 +81,7 @@ impl Trail {
         })
     }
 
-    /// The same changes. Takes a step a piece, and one a change of a token that didn't end.
+    /// The same changes. Takes a step a piece, and one a change that none shares.
     pub(crate) fn copy(&self, alloc: Global) -> Result<Trail, AllocError>
         ensures { IfOk result (λ trail. trail ≡ self.now) }
     {

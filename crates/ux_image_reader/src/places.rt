@@ -10,17 +10,9 @@ ghost use Rattle.ux_image_reader.specs.Reading.{AreTogether, IsFirst, RefusesTog
 use crate::error::ImageError;
 use crate::states::{count_used, place_behind};
 use crate::visit::first_numbered_else;
-use indexmap::IndexSet;
 use std::alloc::Global;
 use ux_base::Mem;
-use ux_dawg::{Edge, States};
-
-/// A state, lent.
-#[derive(Clone, Copy, PartialEq, Eq, Hash)]
-struct Look<'a> {
-    code: Option<u32>,
-    edges: &'a [Edge],
-}
+use ux_dawg::{States, first_repeated};
 
 /// Tests the states of a file that tells so many lists among one another.
 pub(crate) fn accept_states(alloc: Global, lists: u32, states: &States) -> Result<(), ImageError>
@@ -68,17 +60,7 @@ fn final_root(states: &States) -> Option<usize>
 fn first_equal(alloc: Global, states: &States) -> Mem<Option<usize>>
     ensures { IfOk result (IsFirst (EqualsEarlier states.now)) }
 {
-    let mut seen = IndexSet::new(alloc);
-    for number in 0..states.len() {
-        let look = Look {
-            code: states.code(number),
-            edges: states.edges(number),
-        };
-        if !seen.insert(look)? {
-            return Ok(Some(number));
-        }
-    }
-    Ok(None)
+    first_repeated(alloc, states)
 }
 
 /// The lower of two numbers, as far as they are there.

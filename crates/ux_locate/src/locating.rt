@@ -33,8 +33,8 @@ use ux_tokens::Text;
 ///
 /// Of a grammar without cuts, a start inside a kept hit costs nothing but with `Policy::All`, which keeps
 /// all hits. From a start at which no derivation ends after it, it takes no more than a walk that lists no
-/// events; or a look into a chart of the text, which is filled first where the grammar has contexts or its
-/// calls multiply. Where outputs are ignored `locate_spans` gives the same hits without their texts, and
+/// events; or a look into a chart of the text, which is filled first where the grammar has contexts or
+/// calls. Where outputs are ignored `locate_spans` gives the same hits without their texts, and
 /// goes by these alone. A grammar with cuts costs a chart of the text, and all hits are listed before some
 /// are kept. Each different mask of the grammar is tried at most once at a place of the text, which is a
 /// step.

@@ -3,6 +3,7 @@ use Rattle.std.proofs.Common.{arith, ◌≡◌, ℕ, ◌+◌, ◌<◌, ◌≤◌
 use Rattle.std.specs.Prelude.{◌==◌, Contains}
 use Rattle.std.proofs.lemmas.Bool.{both_ways}
 use borrow.Author.Count.{below_more}
+use Rattle.ux_masks.specs.Meets.{HasCharacters}
 
 same_default : (xs : List (List ℕ)) (i : ℕ) (d e : List ℕ) → i < length xs →
     get_or xs i d ≡ get_or xs i e
@@ -43,3 +44,9 @@ pub some_texts : (items xs : List (List ℕ)) (t : Bool) → items ≡ xs → t 
 some_texts items xs t e is not none =
     let empty : (length items == 0) ≡ true = ap (λ l. length l == 0) (e ∙ none) in
     both_ways t not (is ∙ empty)
+
+-- what a test of a code says of the code itself
+pub same_characters : (code item alt alternative : List ℕ) → code ≡ item → alt ≡ alternative →
+    HasCharacters code alt → HasCharacters item alternative
+same_characters code item alt alternative e f h =
+    subst (λ (t : List ℕ). HasCharacters t alternative) e (subst (HasCharacters code) f h)

@@ -50,7 +50,7 @@ fn has_no_code(entry: &Entry, codes: &Lst<Txt>) -> bool
 fn has_code(entry: &Entry, code: &Txt) -> bool
     ensures { IsTrue result ↔ HasCode entry.now code.now }
 {
-    entry.gram == *code || entry.sem.as_slice().contains(code)
+    entry.gram == *code || entry.sem.contains(code.as_str())
 }
 
 /// Whether one inflection code of the entry has all characters of one alternative, if there are any.
@@ -72,8 +72,8 @@ fn meets_some(alternatives: &Lst<Txt>, entry: &Entry) -> bool
 fn meets_alternative(alternative: &Txt, entry: &Entry) -> bool
     ensures { IsTrue result ↔ MeetsAlternative entry.now alternative.now }
 {
-    for code in entry.infl.as_slice() {
-        if has_characters(code.as_str(), alternative.as_str()) {
+    for number in 0..entry.infl.len() {
+        if has_characters(entry.infl.text(number), alternative.as_str()) {
             return true;
         }
     }

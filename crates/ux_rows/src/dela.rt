@@ -4,10 +4,10 @@ use crate::comparing::compare;
 use std::alloc::{AllocError, Global};
 use std::process::Abort;
 use std::test::Fail;
-use ux_base::{Mem, Txt};
+use ux_base::Mem;
 use ux_dela::{
-    Codes, DelaError, Entry, Stem, count_delaf, count_delas, print_codes, print_delaf, read_codes,
-    read_delaf, read_delaf_line, read_delas, read_tag,
+    Codes, DelaError, Entry, Stem, Texts, count_delaf, count_delas, print_codes, print_delaf,
+    read_codes, read_delaf, read_delaf_line, read_delas, read_tag,
 };
 
 /// A name, a file, and what it says: its entries or stems, each between brackets.
@@ -17,10 +17,10 @@ type Row = (&'static str, &'static str, &'static str);
 type Refusal = (&'static str, &'static str, DelaError);
 
 /// Each text behind the sign.
-fn put_all(out: &mut String, sign: &str, texts: &[Txt]) -> Result<(), AllocError> {
-    for text in texts {
+fn put_all(out: &mut String, sign: &str, texts: &Texts) -> Result<(), AllocError> {
+    for number in 0..texts.len() {
         out.push_str(sign)?;
-        out.push_str(text.as_str())?;
+        out.push_str(texts.text(number))?;
     }
     Ok(())
 }
@@ -33,8 +33,8 @@ fn put_entry(out: &mut String, entry: &Entry) -> Result<(), AllocError> {
     out.push_str(entry.lemma.as_str())?;
     out.push_str("|")?;
     out.push_str(entry.gram.as_str())?;
-    put_all(out, "|+", entry.sem.as_slice())?;
-    put_all(out, "|:", entry.infl.as_slice())?;
+    put_all(out, "|+", &entry.sem)?;
+    put_all(out, "|:", &entry.infl)?;
     out.push_str("]")
 }
 
@@ -46,7 +46,7 @@ fn put_stem(out: &mut String, stem: &Stem) -> Result<(), AllocError> {
     out.push_str(stem.class.as_str())?;
     out.push_str("|")?;
     out.push_str(stem.gram.as_str())?;
-    put_all(out, "|+", stem.sem.as_slice())?;
+    put_all(out, "|+", &stem.sem)?;
     out.push_str("]")
 }
 
@@ -119,8 +119,8 @@ fn check_printed(rt: &impl Abort, alloc: Global, row: &Row) -> Result<(), Fail> 
 /// The parts of codes as they are.
 fn put_codes(out: &mut String, codes: &Codes) -> Result<(), AllocError> {
     out.push_str(codes.gram.as_str())?;
-    put_all(out, "|+", codes.sem.as_slice())?;
-    put_all(out, "|:", codes.infl.as_slice())
+    put_all(out, "|+", &codes.sem)?;
+    put_all(out, "|:", &codes.infl)
 }
 
 /// The parts of the codes of a text, or nothing where the text isn't printed codes.

@@ -32,6 +32,14 @@ const ALIKE: &[u8] = b"UXUDI\x02\r\n\x02\0\0\0\x01\0\0\0\
 \x02\0\0\0\x01\0\0\0\0\0\0\0\0\0\0\0\x01\0\0\0N\
 \x01\0\0\0\x05\0\0\0\x01\0\0\0a\x01\0\0\0N";
 
+/// The same beside a form `b` with one code, so that the forms of one list alone are gone to.
+const ALIKE_AND_OTHER: &[u8] = b"UXUDI\x02\r\n\x03\0\0\0\x02\0\0\0\
+\x01\0\0\0\0\0\0\0\x02\0\0\0\0\0\0\0\
+\0\0\0\0\x02\0\0\0a\0\0\0\0\0\0\0b\0\0\0\x01\0\0\0\
+\x02\0\0\0\x01\0\0\0\0\0\0\0\0\0\0\0\x01\0\0\0N\
+\x01\0\0\0\x05\0\0\0\x01\0\0\0a\x01\0\0\0N\
+\x01\0\0\0\x01\0\0\0\0\0\0\0\0\0\0\0\x01\0\0\0V";
+
 /// The image of the entries, or nothing where they aren't a content.
 fn image(alloc: Global, entries: Vec<Stored>) -> Result<Vec<u8>, Fail> {
     if !is_content(&entries) {
@@ -251,5 +259,48 @@ fn an_entry_of_two_codes_is_found_once(rt: HostRuntime) -> Result<(), Fail> {
     compare(&rt, "in capitals", lines.as_str(), "[a,.N]");
     compare(&rt, "its form", exact(&lexicon, "a"), 1);
     compare(&rt, "all entries", lexicon.count(), 1);
+    Ok(())
+}
+
+#[test]
+fn a_form_of_two_codes_counts_once_beside_others(rt: HostRuntime) -> Result<(), Fail> {
+    let lexicon = lexicon(rt.alloc(), ALIKE_AND_OTHER)?;
+    compare(&rt, "two codes", exact(&lexicon, "a"), 1);
+    compare(&rt, "one code", exact(&lexicon, "b"), 1);
+    compare(&rt, "all entries", lexicon.count(), 2);
+    Ok(())
+}
+
+/// Puts the numbers last, the lowest byte of each first.
+fn put_numbers(bytes: &mut Vec<u8>, numbers: &[u32]) -> Result<(), Fail> {
+    for number in numbers {
+        bytes.extend_from_slice(&number.to_le_bytes())?;
+    }
+    Ok(())
+}
+
+/// An image of so many states, each of which leads by `a` and by `b` to the one before it. In the first
+/// one forms end, with the code `N`.
+fn doubling(alloc: Global, states: u32) -> Result<Vec<u8>, Fail> {
+    let mut bytes = Vec::from_slice(alloc, b"UXUDI\x02\r\n")?;
+    put_numbers(&mut bytes, &[states, 1, 1, 0])?;
+    for target in 0..states.saturating_sub(1) {
+        put_numbers(
+            &mut bytes,
+            &[0, 2, u32::from('a'), target, u32::from('b'), target],
+        )?;
+    }
+    put_numbers(&mut bytes, &[1, 1, 0, 0, 1])?;
+    bytes.push(b'N')?;
+    Ok(bytes)
+}
+
+#[test]
+fn very_many_forms_are_counted(rt: HostRuntime) -> Result<(), Fail> {
+    let image = doubling(rt.alloc(), 21)?;
+    let lexicon = lexicon(rt.alloc(), &image)?;
+    compare(&rt, "all entries", lexicon.count(), 1_048_576);
+    compare(&rt, "a form", exact(&lexicon, "abababababababababab"), 1);
+    compare(&rt, "its front", exact(&lexicon, "ababababababababab"), 0);
     Ok(())
 }

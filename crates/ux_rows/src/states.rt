@@ -4,7 +4,7 @@ use crate::comparing::compare;
 use std::alloc::Global;
 use std::test::Fail;
 use ux_base::Mem;
-use ux_dawg::{Edge, States};
+use ux_dawg::{Edge, States, first_repeated};
 
 /// A state: its number of a list, if it has one, and its edges.
 type Row = (Option<u32>, &'static [(char, u32)]);
@@ -31,9 +31,9 @@ fn edges_of(alloc: Global, row: &[(char, u32)]) -> Mem<Vec<Edge>> {
 }
 
 /// The states.
-fn states_of(alloc: Global) -> Mem<States> {
+fn states_of(alloc: Global, rows: &[Row]) -> Mem<States> {
     let mut states = States::new(alloc);
-    for (code, row) in ROWS {
+    for (code, row) in rows {
         let edges = edges_of(alloc, row)?;
         states.push(*code, &edges)?;
     }
@@ -64,12 +64,56 @@ fn gives_each_state_its_own_edges(rt: HostRuntime) -> Result<(), Fail> {
         ("the last", 4, "-c3"),
         ("past the last", 5, "-"),
     ];
-    let states = states_of(rt.alloc())?;
+    let states = states_of(rt.alloc(), ROWS)?;
     compare(&rt, "how many", states.len(), 5);
     for (name, number, want) in WANT {
         let got = shown(rt.alloc(), &states, *number)?;
         compare(&rt, name, got.as_str(), *want);
     }
     compare(&rt, "none", States::new(rt.alloc()).len(), 0);
+    Ok(())
+}
+
+#[test]
+fn tells_the_first_state_that_is_repeated(rt: HostRuntime) -> Result<(), Fail> {
+    const WANT: &[(&str, &[Row], Option<usize>)] = &[
+        ("none", &[], None),
+        ("all different", ROWS, None),
+        (
+            "two ends",
+            &[(Some(0), &[]), (None, &[('a', 0)]), (Some(0), &[])],
+            Some(2),
+        ),
+        ("two lists", &[(Some(0), &[]), (Some(1), &[])], None),
+        (
+            "the first of two",
+            &[
+                (Some(0), &[]),
+                (None, &[('a', 0)]),
+                (None, &[('a', 0)]),
+                (Some(0), &[]),
+            ],
+            Some(2),
+        ),
+        (
+            "another letter",
+            &[(Some(0), &[]), (None, &[('a', 0)]), (None, &[('b', 0)])],
+            None,
+        ),
+        (
+            "another target",
+            &[
+                (Some(0), &[]),
+                (Some(1), &[]),
+                (None, &[('a', 0)]),
+                (None, &[('a', 1)]),
+            ],
+            None,
+        ),
+    ];
+    for (name, rows, want) in WANT {
+        let states = states_of(rt.alloc(), rows)?;
+        compare(&rt, name, first_repeated(rt.alloc(), &states)?, *want);
+    }
     Ok(())
 }

@@ -1,3 +1,4 @@
+use Rattle.std.proofs.Common.{refl}
 use Rattle.std.proofs.lemmas.Result.{err_from_is_err_and}
 use Rattle.ux_dela.specs.Signs.{is_code_sign}
 use Rattle.ux_dela.specs.declared.part.Stop.TheVariants.{Code}
@@ -40,7 +41,7 @@ returns-in_err-infl-clause-err c =
     let gram = c.split_part.result.0.now in
     let some = is_some_text c.is_empty.result gram c.is_empty.ensures c.if-is_empty.false in
     rw (p.1, p.2) (infl_stops c.args.text.now gram c.split_part.result.1.now
-    c.in_ok-sem.sem.rest.now c.in_ok-sem.sem.codes.items _
+    c.in_ok-sem.sem.rest.now c.in_ok-sem.sem.codes _
     c.split_part.ensures.split some c.in_ok-sem.ensures.ok c.in_err-infl.ensures.err)
 
 pub returns-clause-ok : goal.returns-clause-ok
@@ -48,6 +49,6 @@ returns-clause-ok c =
     let gram = c.split_part.result.0.now in
     let some = is_some_text c.is_empty.result gram c.is_empty.ensures c.if-is_empty.false in
     list_read c.args.text.now gram c.split_part.result.1.now c.in_ok-sem.sem.rest.now
-    c.in_ok-infl.infl.rest.now c.in_ok-sem.sem.codes.items c.in_ok-infl.infl.codes.items _
+    c.in_ok-infl.infl.rest.now c.in_ok-sem.sem.codes c.in_ok-infl.infl.codes _
     c.split_part.ensures.split some c.in_ok-sem.ensures.ok c.in_ok-infl.ensures.ok
-    c.in_ok-plain.ensures c.new.ensures c.new-2.ensures
+    c.in_ok-plain.ensures refl refl

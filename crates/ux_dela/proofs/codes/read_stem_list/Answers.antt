@@ -1,3 +1,4 @@
+use Rattle.std.proofs.Common.{refl}
 use Rattle.std.proofs.lemmas.Result.{err_from_is_err_and}
 use Rattle.ux_dela.specs.Signs.{is_plus}
 use Rattle.ux_dela.specs.declared.part.Stop.TheVariants.{Plus}
@@ -39,5 +40,5 @@ returns-clause-ok c =
     let class = c.split_part.result.0.now in
     let some = is_some_text c.is_empty.result class c.is_empty.ensures c.if-is_empty.false in
     stem_list_read c.args.text.now class c.split_part.result.1.now c.in_ok-sem.sem.rest.now
-    c.in_ok-sem.sem.codes.items _
-    c.split_part.ensures.split some c.in_ok-sem.ensures.ok c.in_ok-plain.ensures c.new.ensures
+    c.in_ok-sem.sem.codes _
+    c.split_part.ensures.split some c.in_ok-sem.ensures.ok c.in_ok-plain.ensures refl

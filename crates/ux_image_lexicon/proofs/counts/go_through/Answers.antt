@@ -3,7 +3,8 @@ use Rattle.ux_dawg.specs.declared.state.State.{State}
 use Rattle.ux_image_lexicon.specs.Counting.{AreCountedBut}
 use Rattle.ux_image_lexicon.specs.Walking.{forms_left}
 use Rattle.ux_image_lexicon.specs.declared.walk.Branch.{Branch}
-use Rattle.ux_image_lexicon.proofs.EnterLemmas.{all_counted, enters_counted, enters_walk, first_left, first_walk, gone_counted, gone_less, gone_walk, gone_within}
+use Rattle.ux_image_lexicon.proofs.EnterLemmas.{all_counted, first_left, first_walk, gone_counted, gone_walk, gone_within}
+use Rattle.ux_image_lexicon.proofs.VisitLemmas.{visits_counted, visits_less, visits_walk}
 use Rattle.ux_image_lexicon.proofs.counts.go_through.Goals as goal
 
 pub loop-branch-init : goal.loop-branch-init
@@ -11,9 +12,9 @@ loop-branch-init c =
     let coded = c.args.coded.now in
     let is = c.states.ensures.is in
     let walk = c.args.walk.now in
-    let next = c.enter.new.walk in
+    let next = c.visit.new.walk in
     let old = c.args.counts.now in
-    let new = c.enter.new.counts in
+    let new = c.visit.new.counts in
     let root = c.len-root.result - 1 in
     let last = ap (λ n. n - 1) c.len-root.ensures
     ∙ ap (λ (l : List State). length l - 1) c.states.ensures.value in
@@ -21,14 +22,14 @@ loop-branch-init c =
     let going = first_walk coded is walk c.requires.branches in
     let left = first_left coded is old c.requires.counts walk c.requires.letters c.requires.branches
     root last in (
-      enters_walk coded is root walk next old new (omega (arith, last, some)) c.in_ok-enter.ensures
+      visits_walk coded is root walk next old new (omega (arith, last, some)) c.in_ok-visit.ensures
           going left,
-      enters_counted coded is root walk next old new (omega (arith, last, some))
-          c.in_ok-enter.ensures going left,
+      visits_counted coded is root walk next old new (omega (arith, last, some))
+          c.in_ok-visit.ensures going left,
     )
 
-pub enter-requires-in-Some-clause-within : goal.enter-requires-in-Some-clause-within
-enter-requires-in-Some-clause-within c =
+pub visit-requires-in-Some-clause-within : goal.visit-requires-in-Some-clause-within
+visit-requires-in-Some-clause-within c =
     let going = c.loop-branch.invariant in
     let within = gone_within c.args.coded.now c.states.ensures.is c.loop-branch.walk
     c.go_to.new.self c.pop.new.self.branches.items c.in-Some.branch c.loop-branch.counts going.0
@@ -41,12 +42,13 @@ enter-requires-in-Some-clause-within c =
 pub loop-branch-smaller : goal.loop-branch-smaller
 loop-branch-smaller c =
     let going = c.loop-branch.invariant in
-    gone_less c.args.coded.now c.states.ensures.is c.loop-branch.walk
+    visits_less c.args.coded.now c.states.ensures.is c.loop-branch.walk
     c.go_to.new.self c.pop.new.self.branches.items c.in-Some.branch c.loop-branch.counts going.0
     going.1 c.in-Some.ensures.branches
     (c.in_ok-go_to.ensures.letters ∙ ap (λ (l : List ℕ).
     take c.in-Some.branch.depth l ++ c.in-Some.branch.letter ∷ []) c.in-Some.ensures.letters)
-    c.in_ok-go_to.ensures.branches c.enter-in-Some.new.walk c.in_ok-enter-2.ensures.branches
+    c.in_ok-go_to.ensures.branches c.visit-in-Some.new.walk
+    c.visit-in-Some.new.counts c.in_ok-visit-2.ensures
 
 pub loop-branch-preserved : goal.loop-branch-preserved
 loop-branch-preserved c =
@@ -65,12 +67,12 @@ loop-branch-preserved c =
     let within = gone_within coded is walk gone some b counts going.0 going.1 last to rest in
     let on = gone_walk coded is walk gone some b counts going.0 going.1 last to rest in
     let left = gone_counted coded is walk gone some b counts going.0 going.1 last to rest in
-    let next = c.enter-in-Some.new.walk in
-    let new = c.enter-in-Some.new.counts in (
-      enters_walk coded is b.state gone next counts new (omega (arith, within))
-          c.in_ok-enter-2.ensures on left,
-      enters_counted coded is b.state gone next counts new (omega (arith, within))
-          c.in_ok-enter-2.ensures on left,
+    let next = c.visit-in-Some.new.walk in
+    let new = c.visit-in-Some.new.counts in (
+      visits_walk coded is b.state gone next counts new (omega (arith, within))
+          c.in_ok-visit-2.ensures on left,
+      visits_counted coded is b.state gone next counts new (omega (arith, within))
+          c.in_ok-visit-2.ensures on left,
     )
 
 pub returns : goal.returns

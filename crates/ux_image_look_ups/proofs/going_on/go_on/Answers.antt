@@ -39,7 +39,6 @@ returns c =
     c.loop-c.yielded_by _ _ c.in-None.is c.next.ensures.steps in
     let whole : c.loop-c.yielded ≡ chars c.args.text.now =
     sym (map-id c.loop-c.yielded) ∙ t.0 in
-    IfOk-weaker c.closed.result _ _ (λ ways same front forms leads.
-    same_ways states alphabet (front ++ chars c.args.text.now) forms c.loop-c.next ways same.0 same.1
-    (subst (λ (l : List ℕ). LeadsBy states alphabet (front ++ l) forms c.loop-c.next) whole
-    (c.loop-c.invariant front forms leads))) c.closed.ensures
+    λ front forms leads.
+    subst (λ (l : List ℕ). LeadsBy states alphabet (front ++ l) forms c.loop-c.next) whole
+    (c.loop-c.invariant front forms leads)

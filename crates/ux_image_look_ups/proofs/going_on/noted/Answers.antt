@@ -14,5 +14,6 @@ returns c =
     let taken = c.args.taken.now in
     let last : Change = record { place = taken.place; letter = c.args.letter } in
     subst (Notes taken c.args.letter c.args.changes.now)
-    (sym (c.in_ok-with.ensures ∙ ap (λ (l : List Change). l ++ last ∷ []) c.in_ok-copy.ensures))
+    (sym (c.in_ok-close.ensures ∙ (c.in_ok-more.ensures
+    ∙ ap (λ (l : List Change). l ++ last ∷ []) c.in_ok-copy.ensures)))
     (notes_other taken c.args.letter c.args.changes.now)

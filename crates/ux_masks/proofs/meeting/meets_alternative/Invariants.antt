@@ -3,6 +3,6 @@ use Rattle.ux_masks.specs.Meets.{HasCharacters}
 use Rattle.ux_masks.proofs.meeting.meets_alternative.Given as goal
 
 -- no code so far has the characters
-abbrev pub invariant-loop-code : goal.invariant-loop-code
-invariant-loop-code l =
-    (k : ℕ) → k < l.code-index → HasCharacters (get_or l.code-items k []) l.alternative → ⊥
+abbrev pub invariant-loop-number : goal.invariant-loop-number
+invariant-loop-number l =
+    (k : ℕ) → k < l.number → HasCharacters (get_or l.entry.infl k []) l.alternative → ⊥

@@ -1,36 +1,56 @@
-use Rattle.std.proofs.Common.{arith, ◌≡◌, ◌-◌, ◌≤◌, suc, sym, ◌∙◌, true≢false}
-use Rattle.std.proofs.lemmas.List.{get_or_default}
+use Rattle.std.proofs.Common.{arith, ◌≡◌, ◌≢◌, ◌-◌, ◌<◌, ◌≤◌, suc, get_or, sym, ◌∙◌, true≢false}
+use Rattle.ux_dawg.specs.Building.{bare}
 use Rattle.ux_dawg.specs.Flat.{state_of}
-use Rattle.ux_dawg.specs.Indexed.{buckets}
-use Rattle.ux_dawg.proofs.IndexLemmas.{link-le, searched_first, searched_next}
+use Rattle.ux_dawg.specs.Indexed.{held}
+use Rattle.ux_dawg.proofs.MarksLemmas.{hash_at, older_at}
+use Rattle.ux_dawg.proofs.SearchLemmas.{link-le, other_hash, searched_first, searched_next}
 use Rattle.ux_dawg.proofs.index.Index.place.Goals as goal
+use Rattle.ux_dawg.proofs.index.Index.place.Goals.{else-link-hash-via-then-link-hash+else-is_state, else-link-hash-via-else-link-hash}
 
 pub loop-mark-init : goal.loop-mark-init
 loop-mark-init c =
-    searched_first (buckets c.args.self.now) c.args.states.now c.args.self.now.newest.items
-    c.args.self.now.older.items c.requires.indexed (state_of c.args.code c.args.edges.now)
-    c.args.bucket c.requires.bucket c.index-mark.result.now c.requires.within
-    (c.index-mark.ensures ∙ get_or_default c.args.self.now.newest.items c.args.bucket
-    c.index-mark.result.now 0 c.requires.within)
+    let index = c.args.self.now in
+    searched_first index.newest.items index.links.items c.args.hash c.args.states.now (held index)
+    c.requires.indexed.linked c.requires.indexed.hashes (state_of c.args.code c.args.edges.now)
+    c.requires.hash c.bucket_of-bucket.result c.index-mark.result.now
+    c.bucket_of-bucket.ensures.bucket c.bucket_of-bucket.ensures.within c.index-mark.ensures
 
 pub loop-mark-smaller : goal.loop-mark-smaller
 loop-mark-smaller c =
+    let index = c.args.self.now in
     let most = c.loop-mark.invariant.most in
     let some = c.loop-mark-test.true in
-    let low : c.index-mark-in-loop-mark.result.now ≤ c.loop-mark.mark - 1 =
-    link-le (buckets c.args.self.now) c.args.states.now c.args.self.now.newest.items
-    c.args.self.now.older.items c.requires.indexed (state_of c.args.code c.args.edges.now)
-    c.args.bucket c.requires.bucket (c.loop-mark.mark - 1) c.index-mark-in-loop-mark.result.now
-    (omega (arith, most, some)) c.index-mark-in-loop-mark.ensures in
+    let number = c.loop-mark.mark - 1 in
+    let within : number < held index = omega (arith, most, some) in
+    let older = c.index-link.result.now.older in
+    let low : older ≤ number =
+    link-le index.newest.items index.links.items c.args.hash c.args.states.now (held index)
+    c.requires.indexed.linked c.requires.indexed.hashes (state_of c.args.code c.args.edges.now)
+    c.requires.hash number older within
+    (older_at index.links.items number c.index-link.result.now within c.index-link.ensures) in
     omega (arith, low, some)
 
 pub loop-mark-preserved : goal.loop-mark-preserved
 loop-mark-preserved c =
+    let index = c.args.self.now in
+    let state = state_of c.args.code c.args.edges.now in
+    let most = c.loop-mark.invariant.most in
     let some = c.loop-mark-test.true in
-    let is : c.loop-mark.mark ≡ suc (c.loop-mark.mark - 1) = omega (arith, some) in
-    searched_next (buckets c.args.self.now) c.args.states.now c.args.self.now.newest.items
-    c.args.self.now.older.items c.requires.indexed (state_of c.args.code c.args.edges.now)
-    c.args.bucket c.requires.bucket c.loop-mark.mark (c.loop-mark.mark - 1)
-    c.index-mark-in-loop-mark.result.now c.loop-mark.invariant is
-    (λ same. true≢false (sym (c.is_state.ensures.1 same) ∙ c.if-is_state.false))
-    c.index-mark-in-loop-mark.ensures
+    let number = c.loop-mark.mark - 1 in
+    let within : number < held index = omega (arith, most, some) in
+    let is : c.loop-mark.mark ≡ suc number = omega (arith, some) in
+    let other : get_or c.args.states.now number bare ≢ state =
+    elim c.else-link-hash.branch [
+      | else-link-hash-via-then-link-hash+else-is_state w ↦
+          λ same. true≢false (sym (w.is_state.ensures.1 same) ∙ w.if-is_state.false)
+      | else-link-hash-via-else-link-hash w ↦
+          other_hash index.newest.items index.links.items c.args.hash c.args.states.now (held index)
+          c.requires.indexed.linked c.requires.indexed.hashes state c.requires.hash number within
+          (λ same. w.if-link-hash.false
+          (hash_at index.links.items number c.index-link.result.now within c.index-link.ensures
+          ∙ same))
+    ] in
+    searched_next index.newest.items index.links.items c.args.hash c.args.states.now (held index)
+    c.requires.indexed.linked c.requires.indexed.hashes state c.requires.hash
+    c.loop-mark.mark number c.index-link.result.now.older c.loop-mark.invariant is other
+    (older_at index.links.items number c.index-link.result.now within c.index-link.ensures)
