@@ -92,7 +92,6 @@ fn count_forms<F: Folder>(alloc: Global, name: &str, folder: &mut F) -> Result<u
     let text = read_decoded(alloc, name, folder)?;
     match count_delaf(text.as_str()) {
         Ok(count) => Ok(count),
-        Err(DelaError::NoMemory) => Err(Stop::NoMemory),
         Err(error) => Err(refused(alloc, name, Reason::Dela(error))),
     }
 }

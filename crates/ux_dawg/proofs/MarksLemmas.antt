@@ -5,10 +5,10 @@ use Rattle.std.proofs.lemmas.Bool.{cases_lt}
 use Rattle.std.proofs.lemmas.Bool.Decides.{Decides-eqb}
 use Rattle.std.proofs.lemmas.List.{get_or-map, get_or-set_other, get_or-set_same, get_or_append_left, length-map, length-set, map-set, map_push, set-get_or}
 use Rattle.ux_dawg.specs.declared.index.Link.{Link}
-use Rattle.ux_dawg.specs.Indexed.{bucket_at, bucket_in, hashes_of, newest_of, olders_of, AreMarks}
+use Rattle.ux_dawg.specs.Indexed.{bucket_at, bucket_in, hashes_of, newest_of, number_at, numbers_of, olders_of, AreMarks}
 use Rattle.ux_dawg.proofs.NewestLemmas.{newest-append, newest-here, newest-other}
 
--- what stands in a link is what the lists of marks and of hashes have at its number
+-- what stands in a link is what the lists of marks, of hashes and of numbers have at its item
 pub older_at : (links : List Link) (i : ℕ) (link : Link) → i < length links →
     link ≡ get_or links i link → link.older ≡ get_or (olders_of links) i 0
 older_at links i link within read =
@@ -21,9 +21,19 @@ hash_at links i link within read =
     ap (λ (l : Link). l.hash) read
     ∙ sym (get_or-map (λ (l : Link). l.hash) links i link 0 within)
 
+pub number_read : (links : List Link) (i : ℕ) (link : Link) → i < length links →
+    link ≡ get_or links i link → link.number ≡ number_at links i
+number_read links i link within read =
+    ap (λ (l : Link). l.number) read
+    ∙ sym (get_or-map (λ (l : Link). l.number) links i link 0 within)
+
 -- there are as many hashes as links
 pub length-hashes : (links : List Link) → length (hashes_of links) ≡ length links
 length-hashes links = length-map links (λ (l : Link). l.hash)
+
+-- and as many numbers
+pub length-numbers : (links : List Link) → length (numbers_of links) ≡ length links
+length-numbers links = length-map links (λ (l : Link). l.number)
 
 -- a link is written over by one with the same hash, which changes no hash
 pub hashes-link : (n : ℕ) (links : List Link) (link : Link) →
@@ -31,6 +41,13 @@ pub hashes-link : (n : ℕ) (links : List Link) (link : Link) →
 hashes-link n links link kept =
     map-set (λ (l : Link). l.hash) links n link ∙ ap (set (hashes_of links) n) kept
     ∙ set-get_or (hashes_of links) n 0
+
+-- and by one with the same number, which changes no number
+pub numbers-link : (n : ℕ) (links : List Link) (link : Link) →
+    link.number ≡ number_at links n → numbers_of (set links n link) ≡ numbers_of links
+numbers-link n links link kept =
+    map-set (λ (l : Link). l.number) links n link ∙ ap (set (numbers_of links) n) kept
+    ∙ set-get_or (numbers_of links) n 0
 
 module _ (newest : List ℕ) (links : List Link) where
   abbrev many : ℕ

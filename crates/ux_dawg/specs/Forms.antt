@@ -24,8 +24,11 @@ abbrev pub last_letters : List ℕ → List Form → List ℕ
 last_letters none [] = none
 last_letters none (f ∷ fs) = last_letters f.letters fs
 
--- a form of these letters may come next: it comes after the last one, and with it there still are
--- fewer than 2^32 letters
+-- with a form of these letters there still are fewer than 2^32 letters
+abbrev pub HasRoomFor : List Form → (word : List ℕ) → Type 0
+HasRoomFor forms word = letters_in forms + length word < 2 ^ 32
+
+-- a form of these letters may come next: it comes after the last one, and there is room for it
 pub record MayFollow (forms : List Form) (word : List ℕ) : Type 0 where
   pub after : slice_cmp nat_cmp (last_letters [] forms) word ≡ Less
-  pub few : letters_in forms + length word < 2 ^ 32
+  pub few : HasRoomFor forms word

@@ -2,7 +2,7 @@
 //! last one are given up to the register, and states are begun for its other characters.
 
 ghost use Rattle.std.specs.Prelude.{◌≡◌, ◌<◌, ◌^◌, ◌↔◌, ◌+◌, [], ◌∷◌, ◌++◌, IfOk, IsTrue, length};
-ghost use Rattle.ux_dawg.specs.Forms.{AreSorted, MayFollow, form_of, letters_in};
+ghost use Rattle.ux_dawg.specs.Forms.{AreSorted, HasRoomFor, MayFollow, form_of, letters_in};
 ghost use Rattle.ux_dawg.specs.Automaton.{IsMinimalOf};
 
 use crate::dawg::Dawg;
@@ -60,8 +60,15 @@ impl Builder {
     pub fn may_add(&self, letters: &[char]) -> bool
         ensures { IsTrue result ↔ MayFollow self.now letters.now }
     {
+        self.has_room_for(letters) && comes_next(self.pending.above.as_slice(), letters)
+    }
+
+    /// Whether the forms still have fewer than 2^32 characters together with a form of these. Takes
+    /// one step. It is for who knows that the form comes after the last one.
+    pub fn has_room_for(&self, letters: &[char]) -> bool
+        ensures { IsTrue result ↔ HasRoomFor self.now letters.now }
+    {
         letters.len() <= (u32::MAX - self.many) as usize
-            && comes_next(self.pending.above.as_slice(), letters)
     }
 
     /// The builder with one more form. `may_add` tells what it asks.

@@ -14,7 +14,8 @@
 //! the automaton as the list of its states. `specs/Automaton.antt` says what the automaton of some
 //! forms is: exact, minimal, and numbered by the least words that lead to its states. `laws` shows
 //! that there is only one. Inside, `pending` begins states and gives them up, `register` keeps each
-//! once, in the list that `states` has, and `index` finds it by its `hash`.
+//! once, in the list that `states` has, and `index` finds by their `hash` those that don't stand
+//! beside the target of their last edge.
 //!
 //! ```text
 //! let mut builder = Builder::new(alloc);

@@ -7,6 +7,7 @@ ghost use Rattle.std.specs.Ordering.{nat_cmp};
 ghost use Rattle.std.specs.declared.cmp.Ordering.TheVariants.{Less};
 ghost use Rattle.ux_dawg.specs.declared.state.Edge.{Edge};
 ghost use Rattle.ux_dawg.specs.Building.{letters, IsSound, IsClosed, IsCut, IsGrown, IsShared, IsReady, bare};
+ghost use Rattle.ux_dawg.specs.Paths.{AreStates};
 
 use crate::items::Items;
 use crate::register::Register;
@@ -89,6 +90,7 @@ pub(crate) fn cut(
 fn close(register: &mut Register, pending: &mut Pending, top: State) -> Mem<State>
     requires some { 0 < vec_len pending.old.above }
     requires few { length register.old < 2 ^ 32 }
+    requires fit { AreStates register.old }
     ensures { IfOk result (λ state. IsClosed register.old pending.old.above.items top
         register.new pending.new.above.items state) }
 {

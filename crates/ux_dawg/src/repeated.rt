@@ -11,7 +11,7 @@ use ux_base::Mem;
 
 /// The first state that equals an earlier one: the same number of a list and the same edges.
 ///
-/// Takes 12 to 16 bytes a state, and a step for each edge.
+/// Takes 16 to 20 bytes a state, and a step for each edge.
 pub fn first_repeated(alloc: Global, states: &States) -> Mem<Option<usize>>
     ensures { IfOk result (IsFirstRepeated states.now) }
 {
@@ -23,7 +23,7 @@ pub fn first_repeated(alloc: Global, states: &States) -> Mem<Option<usize>>
         if index.place(states, hash, code, edges).is_some() {
             return Ok(Some(number));
         }
-        index.add(hash)?;
+        index.add(hash, number)?;
     }
     Ok(None)
 }

@@ -58,6 +58,18 @@ printed_list_read text codes is =
     (sym (printed_read text codes is))
     (printed_are_list codes.gram codes.sem codes.infl is.sound)
 
+-- a text of printed codes lists them
+pub printed_listed : (text : List ℕ) (codes : Codes) → IsCodesText text codes → IsListed text codes
+printed_listed text codes is = record {
+  gram = shielded is_printed_code_sign codes.gram;
+  sem = all_shielded is_printed_code_sign codes.sem;
+  infl = all_shielded is_printed_code_sign codes.infl;
+  list = printed_list_read text codes is;
+  is_gram = sym (shielded_meant is_printed_code_sign codes.gram);
+  is_sem = sym (all_shielded_meant is_printed_code_sign codes.sem);
+  is_infl = sym (all_shielded_meant is_printed_code_sign codes.infl);
+}
+
 -- a text of printed codes may be one
 pub codes_may_be : (text : List ℕ) (codes : Codes) → IsCodesText text codes → MayBeCodes text
 codes_may_be text codes is = (

@@ -1,3 +1,4 @@
+pub mod BareLemmas
 pub mod CharactersLemmas
 pub mod ClassLemmas
 pub mod CodesLemmas

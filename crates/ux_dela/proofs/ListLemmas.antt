@@ -11,8 +11,6 @@ use Rattle.ux_dela.specs.Delas as delas
 use Rattle.ux_dela.specs.Reading.{characters, IsPartEnd, IsSplit, IsRunOf, IsBehindRun, StopsRun, HasList, IsListed, StopsList, HasStemList, IsStemListed, StopsStemList}
 use Rattle.ux_dela.specs.declared.part.Stop.TheVariants.{Code, Plus}
 use Rattle.ux_dela.specs.declared.codes.Kind.TheVariants.{Sem, Infl, StemSem}
-use Rattle.ux_dela.specs.declared.codes.CodeFault.{CodeFault}
-use Rattle.ux_dela.specs.declared.codes.CodeFault.TheVariants.{Empty, NoRoom}
 use Rattle.ux_dela.specs.declared.entry.Codes.{Codes}
 use Rattle.ux_dela.specs.declared.codes.StemCodes.{StemCodes}
 use Rattle.ux_dela.proofs.CharactersLemmas.{written-append, written-characters, IsPart-append, IsPart-rest, characters_bare, characters-written, characters-append}
@@ -168,26 +166,26 @@ gram_stops text front behind closed split none =
     ([], refl, no_gram (characters text) (ends_code Code text closed ends))
 
 -- the semantic codes stop
-pub sem_stops : (text front behind : List ℕ) (fault : CodeFault) →
-    IsSplit is_code_sign text front behind → 0 < length front → StopsRun Sem behind fault →
-    StopsList text fault
-sem_stops text front behind (Empty rest) split some stops =
+pub sem_stops : (text front behind rest : List ℕ) →
+    IsSplit is_code_sign text front behind → 0 < length front → StopsRun Sem behind rest →
+    StopsList text rest
+sem_stops text front behind rest split some stops =
     let sem = stops.0 in
     let f = characters front ++ (all_behind PLUS sem ++ []) in
     let closed : IsClosed f =
     gram_closed text front behind is_code_sign (all_behind PLUS sem ++ []) split
     (IsPart-append is_none_stop (all_behind PLUS sem) []
     (all_behind-closed is_code_sign PLUS sem refl stops.1) tt) in
-    let cut : behind ≡ written (all_behind PLUS sem ++ []) ++ PLUS ∷ rest.now =
-    stops.2 ∙ ap (λ t. written t ++ PLUS ∷ rest.now) (sym (append-nil (all_behind PLUS sem))) in
-    let whole = gram_and text front behind (PLUS ∷ rest.now) is_code_sign
+    let cut : behind ≡ written (all_behind PLUS sem ++ []) ++ PLUS ∷ rest =
+    stops.2 ∙ ap (λ t. written t ++ PLUS ∷ rest) (sym (append-nil (all_behind PLUS sem))) in
+    let whole = gram_and text front behind (PLUS ∷ rest) is_code_sign
     (all_behind PLUS sem ++ []) split cut in
-    let both = front_and_sign text rest.now f PLUS refl closed whole in (
+    let both = front_and_sign text rest f PLUS refl closed whole in (
       written (f ++ bare PLUS ∷ []),
       both.0,
       subst (λ (w : List Written). IsEmptyAt w (length (written (f ++ bare PLUS ∷ []))))
           (sym both.1)
-          (no_sem f (characters front) (characters rest.now) sem
+          (no_sem f (characters front) (characters rest) sem
           (record {
             whole = refl;
             is_gram = is_gram is_code_sign text front behind split some;
@@ -195,13 +193,12 @@ sem_stops text front behind (Empty rest) split some stops =
             are_infl = tt;
           }) stops.3),
     )
-sem_stops text front behind NoRoom split some stops = tt
 
 -- the inflection codes stop
-pub infl_stops : (text front behind left : List ℕ) (sem : List (List ℕ)) (fault : CodeFault) →
+pub infl_stops : (text front behind left rest : List ℕ) (sem : List (List ℕ)) →
     IsSplit is_code_sign text front behind → 0 < length front → IsRunOf Sem behind sem left →
-    StopsRun Infl left fault → StopsList text fault
-infl_stops text front behind left sem (Empty rest) split some s stops =
+    StopsRun Infl left rest → StopsList text rest
+infl_stops text front behind left rest sem split some s stops =
     let infl = stops.0 in
     let v = all_behind PLUS s.codes in
     let w = all_behind COLON infl in
@@ -210,14 +207,14 @@ infl_stops text front behind left sem (Empty rest) split some s stops =
     gram_closed text front behind is_code_sign (v ++ w) split
     (IsPart-append is_none_stop v w (all_behind-closed is_code_sign PLUS s.codes refl s.are_codes)
     (all_behind-closed is_colon COLON infl refl stops.1)) in
-    let whole = gram_and text front behind (COLON ∷ rest.now) is_code_sign (v ++ w) split
-    (both_runs behind left (COLON ∷ rest.now) v w s.whole stops.2) in
-    let both = front_and_sign text rest.now f COLON refl closed whole in (
+    let whole = gram_and text front behind (COLON ∷ rest) is_code_sign (v ++ w) split
+    (both_runs behind left (COLON ∷ rest) v w s.whole stops.2) in
+    let both = front_and_sign text rest f COLON refl closed whole in (
       written (f ++ bare COLON ∷ []),
       both.0,
       subst (λ (w : List Written). IsEmptyAt w (length (written (f ++ bare COLON ∷ []))))
           (sym both.1)
-          (no_infl f (characters front) (characters rest.now) s.codes infl
+          (no_infl f (characters front) (characters rest) s.codes infl
           (record {
             whole = refl;
             is_gram = is_gram is_code_sign text front behind split some;
@@ -225,7 +222,6 @@ infl_stops text front behind left sem (Empty rest) split some s stops =
             are_infl = stops.1;
           }) stops.3),
     )
-infl_stops text front behind left sem NoRoom split some s stops = tt
 
 -- the list of a stem was read
 pub stem_list_read : (text front behind left : List ℕ) (sem : List (List ℕ)) (codes : StemCodes) →
@@ -268,27 +264,26 @@ class_stops text front behind closed split none =
     subst (λ (t : List ℕ). IsPartEnd is_plus t) here split.ends in
     ([], refl, no_class (characters text) (ends_code Plus text closed ends))
 
-pub stem_sem_stops : (text front behind : List ℕ) (fault : CodeFault) →
-    IsSplit is_plus text front behind → 0 < length front → StopsRun StemSem behind fault →
-    StopsStemList text fault
-stem_sem_stops text front behind (Empty rest) split some stops =
+pub stem_sem_stops : (text front behind rest : List ℕ) →
+    IsSplit is_plus text front behind → 0 < length front → StopsRun StemSem behind rest →
+    StopsStemList text rest
+stem_sem_stops text front behind rest split some stops =
     let sem = stops.0 in
     let f = characters front ++ all_behind PLUS sem in
     let closed : IsClosed f =
     gram_closed text front behind is_plus (all_behind PLUS sem) split
     (all_behind-closed is_plus PLUS sem refl stops.1) in
-    let whole = gram_and text front behind (PLUS ∷ rest.now) is_plus (all_behind PLUS sem) split
+    let whole = gram_and text front behind (PLUS ∷ rest) is_plus (all_behind PLUS sem) split
     stops.2 in
-    let both = front_and_sign text rest.now f PLUS refl closed whole in (
+    let both = front_and_sign text rest f PLUS refl closed whole in (
       written (f ++ bare PLUS ∷ []),
       both.0,
       subst (λ (w : List Written). IsStemEmptyAt w (length (written (f ++ bare PLUS ∷ []))))
           (sym both.1)
-          (delas.no_sem f (characters front) (characters rest.now) sem
+          (delas.no_sem f (characters front) (characters rest) sem
           (record {
             whole = refl;
             is_class = is_gram is_plus text front behind split some;
             are_sem = stops.1;
           }) stops.3),
     )
-stem_sem_stops text front behind NoRoom split some stops = tt

@@ -6,7 +6,7 @@ use Rattle.std.proofs.lemmas.List.{append-nil}
 use Rattle.ux_dela.specs.Signs.{BACKSLASH, is_slash}
 use Rattle.ux_dela.specs.Written.{Written, bare, written, IsPart, meant, all_meant, all_behind}
 use Rattle.ux_dela.specs.Codes.{IsCode, AreCodes, EndsCode}
-use Rattle.ux_dela.specs.Reading.{characters, is_stop, IsPartEnd, IsSplit, ends_kind, sign_before, IsRunOf, IsNextCode, StopsAtSign, StopsRun}
+use Rattle.ux_dela.specs.Reading.{characters, is_stop, IsPartEnd, IsSplit, ends_kind, sign_before, IsRunOf, IsNextCode, OrNoRoom, StopsAtSign, StopsRun}
 use Rattle.ux_dela.specs.declared.part.Stop.{Stop}
 use Rattle.ux_dela.specs.declared.part.Stop.TheVariants.{Code, Colon, Plus}
 use Rattle.ux_dela.specs.declared.codes.Kind.{Kind}
@@ -218,14 +218,18 @@ run_on kind text items rest code left new run next is =
     run_next kind (stop_for kind) text items rest code left new (stop_same kind) run next is
 
 -- an empty code behind the codes so far stops the run
-pub run_stops_at : (kind : Kind) (text : List ℕ) (items : List (List ℕ)) (rest : List ℕ)
-    (fault : CodeFault) → IsRunTo kind text items rest → StopsAtSign kind rest fault →
-    StopsRun kind text fault
-run_stops_at kind text items rest (Empty behind) run stops =
-    run_stops kind (stop_for kind) text items rest behind.now [] stops.1.0 (stop_same kind) run
-    stops.0 (subst (λ (s : ℕ → Bool). IsSplit s behind.now [] stops.1.0) (sym (stop_same kind))
+pub run_stops_at : (kind : Kind) (text : List ℕ) (items : List (List ℕ)) (rest behind : List ℕ) →
+    IsRunTo kind text items rest → StopsAtSign kind rest behind → StopsRun kind text behind
+run_stops_at kind text items rest behind run stops =
+    run_stops kind (stop_for kind) text items rest behind [] stops.1.0 (stop_same kind) run
+    stops.0 (subst (λ (s : ℕ → Bool). IsSplit s behind [] stops.1.0) (sym (stop_same kind))
     stops.1.1) refl
-run_stops_at kind text items rest NoRoom run stops = tt
+
+-- where one kind of stop is another, a fault of the one is one of the other
+pub fault_of : (stops other : List ℕ → Type 0) → ((rest : List ℕ) → stops rest → other rest) →
+    (fault : CodeFault) → OrNoRoom stops fault → OrNoRoom other fault
+fault_of stops other is (Empty rest) h = is rest.now h
+fault_of stops other is NoRoom h = tt
 
 -- a code leaves less than the text has
 pub next_shorter : (kind : Kind) (text code rest : List ℕ) → IsNextCode kind text code rest →

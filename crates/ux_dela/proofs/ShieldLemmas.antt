@@ -16,7 +16,7 @@ use Rattle.ux_dela.specs.declared.printing.Signs.TheVariants.{Form, Code}
 abbrev pub shown : (ℕ → Bool) → List ℕ → List ℕ
 shown signs text = written (shielded signs text)
 
-shown_other : (signs : ℕ → Bool) (b : ℕ) (rest : List ℕ) → signs b ≡ false →
+pub shown_other : (signs : ℕ → Bool) (b : ℕ) (rest : List ℕ) → signs b ≡ false →
     shown signs (b ∷ rest) ≡ b ∷ shown signs rest
 shown_other signs b rest e = ap (λ t. written (shield t b ∷ shielded signs rest)) e
 

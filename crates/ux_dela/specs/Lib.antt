@@ -1,3 +1,4 @@
+pub mod Bare
 pub mod Codes
 pub mod Delaf
 pub mod Delas

@@ -1,10 +1,11 @@
 -- What the parts of the reader promise one another: a text as its characters, and a text that is
 -- cut where a part ends. Inner: the crate's own functions alone speak of it.
 use Rattle.std.specs.Prelude.{◌≡◌, ◌≢◌, ℕ, ◌==◌, ◌+◌, ◌<◌, IsUtf8, Bool, ◌||◌, true, false, List, [], ◌∷◌, ◌++◌, length, take, drop, slice_index, if◌then◌else◌, Option, None, Some}
+use Rattle.std.specs.List.{list_any}
 use Rattle.ux_dela.specs.Signs.{BACKSLASH, COMMA, DOT, PLUS, COLON, SPACE, HYPHEN, EQUALS, is_comma, is_dot, is_slash, is_code_sign, is_colon, is_plus, is_equals, is_brace, is_form_sign, is_printed_code_sign}
 use Rattle.ux_dela.specs.Written.{Written, bare, protected, written, meant, meant_as, all_meant, IsPart, is_end, all_behind, has_bare}
 use Rattle.ux_dela.specs.Codes.{AreCodes, EndsCode, IsCodeList, IsEmptyAt}
-use Rattle.ux_dela.specs.Delaf.{IsSkipped, IsCut, lemma_of, DelafSays}
+use Rattle.ux_dela.specs.Delaf.{IsSkipped, IsComment, IsCut, lemma_of, DelafSays}
 use Rattle.ux_dela.specs.Delas.{IsStemCut, IsStemList, IsStemEmptyAt, IsDelasLine, DelasSays}
 use Rattle.ux_dela.specs.Printed.{shielded}
 use Rattle.ux_dela.specs.Sound.{HasNoFeed}
@@ -123,19 +124,22 @@ pub record IsNextCode (kind : Kind) (text code rest : List ℕ) : Type 0 where
   pub some : 0 < length code
   pub utf8 : IsUtf8 rest
 
--- behind a sign of the kind a code is empty that should begin there
-abbrev pub StopsAtSign : Kind → (text : List ℕ) → CodeFault → Type 0
-StopsAtSign kind text (Empty rest) = (text ≡ sign_before kind ∷ rest.now)
-    × ((left : List ℕ) × IsSplit (ends_kind kind) rest.now [] left)
-StopsAtSign kind text NoRoom = ⊥
+-- codes stop so in front of the rest, or memory ran out
+abbrev pub OrNoRoom : (List ℕ → Type 0) → CodeFault → Type 0
+OrNoRoom stops (Empty rest) = stops rest.now
+OrNoRoom stops NoRoom = Unit {0}
 
--- behind some codes of the kind one is empty that should begin there
-abbrev pub StopsRun : Kind → List ℕ → CodeFault → Type 0
-StopsRun kind text (Empty rest) =
+-- behind a sign of the kind a code is empty that should begin in front of the rest
+abbrev pub StopsAtSign : Kind → (text rest : List ℕ) → Type 0
+StopsAtSign kind text rest =
+    (text ≡ sign_before kind ∷ rest) × ((left : List ℕ) × IsSplit (ends_kind kind) rest [] left)
+
+-- behind some codes of the kind one is empty that should begin in front of the rest
+abbrev pub StopsRun : Kind → (text rest : List ℕ) → Type 0
+StopsRun kind text rest =
     (codes : List (List Written)) × AreCodes (ends_kind kind) codes
-    × (text ≡ written (all_behind (sign_before kind) codes) ++ sign_before kind ∷ rest.now)
-    × EndsCode (ends_kind kind) (characters rest.now)
-StopsRun kind text NoRoom = Unit {0}
+    × (text ≡ written (all_behind (sign_before kind) codes) ++ sign_before kind ∷ rest)
+    × EndsCode (ends_kind kind) (characters rest)
 
 -- the codes that the text lists
 pub record IsListed (text : List ℕ) (codes : Codes) : Type 0 where
@@ -151,11 +155,10 @@ pub record IsListed (text : List ℕ) (codes : Codes) : Type 0 where
 abbrev pub HasList : List ℕ → Type 0
 HasList text = (codes : Codes) × IsListed text codes
 
--- a code of the text is empty that should begin there
-abbrev pub StopsList : List ℕ → CodeFault → Type 0
-StopsList text (Empty rest) =
-    (front : List ℕ) × (text ≡ front ++ rest.now) × IsEmptyAt (characters text) (length front)
-StopsList text NoRoom = Unit {0}
+-- a code of the text is empty that should begin in front of the rest
+abbrev pub StopsList : (text rest : List ℕ) → Type 0
+StopsList text rest =
+    (front : List ℕ) × (text ≡ front ++ rest) × IsEmptyAt (characters text) (length front)
 
 -- what a sign means where it is a mark
 abbrev pub mark_in : (sign b : ℕ) → List ℕ
@@ -188,11 +191,10 @@ pub record IsStemListed (text : List ℕ) (codes : StemCodes) : Type 0 where
 abbrev pub HasStemList : (text class : List ℕ) → Type 0
 HasStemList text class = (codes : StemCodes) × IsStemListed text codes × (codes.class ≡ class)
 
--- a code of the text is empty that should begin there
-abbrev pub StopsStemList : List ℕ → CodeFault → Type 0
-StopsStemList text (Empty rest) =
-    (front : List ℕ) × (text ≡ front ++ rest.now) × IsStemEmptyAt (characters text) (length front)
-StopsStemList text NoRoom = Unit {0}
+-- a code of the text is empty that should begin in front of the rest
+abbrev pub StopsStemList : (text rest : List ℕ) → Type 0
+StopsStemList text rest =
+    (front : List ℕ) × (text ≡ front ++ rest) × IsStemEmptyAt (characters text) (length front)
 
 -- the line has this form, which isn't empty, this lemma, these codes and this comment
 pub record IsCutOf (line : List ℕ) (cut : Cut) : Type 0 where
@@ -283,3 +285,34 @@ TagSays cut (Some entry) =
 -- the text has no line feed, and neither a comment nor a lone backslash ends it
 abbrev pub MayBeCodes : List ℕ → Type 0
 MayBeCodes text = HasNoFeed text × IsPart is_slash (characters text)
+
+-- a byte with which a part that means what is written doesn't go on: the sign at which it ends, a
+-- mark or a backslash
+abbrev pub is_bare_end : (sign b : ℕ) → Bool
+is_bare_end sign b = b == sign || (is_equals b || b == BACKSLASH)
+
+-- the part means what is written
+abbrev pub IsBare : (sign : ℕ) (part : List ℕ) → Type 0
+IsBare sign part = list_any (is_bare_end sign) part ≡ false
+
+-- such a part ends there, at its sign
+pub record IsBareEnd (sign : ℕ) (text : List ℕ) (place : ℕ) : Type 0 where
+  pub inside : place < length text
+  pub is_sign : slice_index text place ≡ sign
+  pub is_bare : IsBare sign (take place text)
+
+-- the text is such a part, its sign and what stands behind it
+pub record IsBarePart (sign : ℕ) (text part behind : List ℕ) : Type 0 where
+  pub whole : text ≡ part ++ sign ∷ behind
+  pub is_bare : IsBare sign part
+
+-- the line has this form, which isn't empty, this lemma, these codes and this comment, and form and
+-- lemma mean what is written
+pub record IsBareCut (line : List ℕ) (cut : Cut) : Type 0 where
+  pub counts : IsSkipped line → ⊥
+  pub some_form : 0 < length cut.form.now
+  pub bytes :
+      line ≡ cut.form.now ++ COMMA ∷ (cut.lemma.now ++ DOT ∷ (cut.codes.now ++ cut.comment.now))
+  pub form : IsBare COMMA cut.form.now
+  pub lemma : IsBare DOT cut.lemma.now
+  pub comment : IsComment cut.comment.now

@@ -4,10 +4,10 @@
 
 ghost use Rattle.std.specs.Prelude.{◌≡◌, ℕ, List, ◌∷◌, IfOk, IfErr, MatchOption};
 ghost use Rattle.ux_dela.specs.Codes.{EndsCode};
-ghost use Rattle.ux_dela.specs.Reading.{characters, is_stop, ends_kind, sign_before, IsRun, IsBehindRun, IsNextCode, StopsAtSign, StopsRun, HasList, IsListed, StopsList, HasStemList, IsStemListed, StopsStemList};
+ghost use Rattle.ux_dela.specs.Reading.{characters, is_stop, ends_kind, sign_before, IsRun, IsBehindRun, IsNextCode, OrNoRoom, StopsAtSign, StopsRun, HasList, IsListed, StopsList, HasStemList, IsStemListed, StopsStemList};
 ghost use Rattle.ux_dela.specs.Signs.{is_slash};
 ghost use Rattle.ux_dela.specs.Written.{IsPart};
-ghost use Rattle.ux_dela.specs.declared.codes.CodeFault.TheVariants.{NoRoom};
+ghost use Rattle.ux_dela.specs.declared.codes.CodeFault.TheVariants.{Empty, NoRoom};
 
 use crate::entry::Codes;
 use crate::joined::Joined;
@@ -17,6 +17,13 @@ use crate::texts::Texts;
 use std::alloc::{AllocError, AllocFailed, Global};
 use ux_base::Txt;
 
+/// No code stands where one should begin.
+#[derive(Clone, Copy)]
+pub struct EmptyCode<'a> {
+    /// What stands from there on.
+    pub rest: &'a str,
+}
+
 /// Why codes aren't read.
 #[derive(Clone, Copy)]
 pub enum CodeFault<'a> {
@@ -24,6 +31,14 @@ pub enum CodeFault<'a> {
     Empty(&'a str),
     /// Memory ran out.
     NoRoom,
+}
+
+impl<'a> From<EmptyCode<'a>> for CodeFault<'a> {
+    ghost from_gives = { λ empty e. e ≡ Empty empty.rest };
+
+    fn from(empty: EmptyCode<'a>) -> CodeFault<'a> {
+        CodeFault::Empty(empty.rest)
+    }
 }
 
 impl<'a> From<AllocError> for CodeFault<'a> {
@@ -84,7 +99,7 @@ pub struct StemCodes {
 pub fn read_list<'a>(alloc: Global, text: &'a str) -> Result<Codes, CodeFault<'a>>
     requires { IsPart is_slash (characters text.now) }
     ensures ok { IfOk result (IsListed text.now) }
-    ensures err { IfErr result (StopsList text.now) }
+    ensures err { IfErr result (OrNoRoom (StopsList text.now)) }
 {
     let (gram, behind) = split_part(Stop::Code, text);
     if gram.is_empty() {
@@ -103,7 +118,7 @@ pub fn read_list<'a>(alloc: Global, text: &'a str) -> Result<Codes, CodeFault<'a
 pub fn read_stem_list<'a>(alloc: Global, text: &'a str) -> Result<StemCodes, CodeFault<'a>>
     requires { IsPart is_slash (characters text.now) }
     ensures ok { IfOk result (IsStemListed text.now) }
-    ensures err { IfErr result (StopsStemList text.now) }
+    ensures err { IfErr result (OrNoRoom (StopsStemList text.now)) }
 {
     let (class, behind) = split_part(Stop::Plus, text);
     if class.is_empty() {
@@ -117,14 +132,14 @@ pub fn read_stem_list<'a>(alloc: Global, text: &'a str) -> Result<StemCodes, Cod
 }
 
 /// Looks through the codes of an entry, and keeps none of them. Takes no memory.
-pub fn check_list(text: &str) -> Result<(), CodeFault<'_>>
+pub fn check_list(text: &str) -> Result<(), EmptyCode<'_>>
     requires { IsPart is_slash (characters text.now) }
     ensures ok { IfOk result (λ _. HasList text.now) }
-    ensures err { IfErr result (StopsList text.now) }
+    ensures err { IfErr result (λ empty. StopsList text.now empty.rest.now) }
 {
     let (gram, behind) = split_part(Stop::Code, text);
     if gram.is_empty() {
-        return Err(CodeFault::Empty(text));
+        return Err(EmptyCode { rest: text });
     }
     let rest = behind_run(Kind::Sem, behind)?;
     behind_run(Kind::Infl, rest)?;
@@ -135,7 +150,7 @@ pub fn check_list(text: &str) -> Result<(), CodeFault<'_>>
 pub fn check_stem_list<'a>(alloc: Global, text: &'a str) -> Result<Txt, CodeFault<'a>>
     requires { IsPart is_slash (characters text.now) }
     ensures ok { IfOk result (λ class. HasStemList text.now class) }
-    ensures err { IfErr result (StopsStemList text.now) }
+    ensures err { IfErr result (OrNoRoom (StopsStemList text.now)) }
 {
     let (class, behind) = split_part(Stop::Plus, text);
     if class.is_empty() {
@@ -150,7 +165,7 @@ fn read_run<'a>(alloc: Global, kind: Kind, text: &'a str) -> Result<Run<'a>, Cod
     requires closed { IsPart is_slash (characters text.now) }
     requires ends { EndsCode (ends_kind kind) (characters text.now) }
     ensures ok { IfOk result (IsRun kind text.now) }
-    ensures err { IfErr result (StopsRun kind text.now) }
+    ensures err { IfErr result (OrNoRoom (StopsRun kind text.now)) }
 {
     let mut codes = Joined::new(alloc);
     let mut rest = text;
@@ -165,11 +180,11 @@ fn read_run<'a>(alloc: Global, kind: Kind, text: &'a str) -> Result<Run<'a>, Cod
 }
 
 /// What stands behind the codes of the kind at the front of the text. Takes no memory.
-fn behind_run<'a>(kind: Kind, text: &'a str) -> Result<&'a str, CodeFault<'a>>
+fn behind_run<'a>(kind: Kind, text: &'a str) -> Result<&'a str, EmptyCode<'a>>
     requires closed { IsPart is_slash (characters text.now) }
     requires ends { EndsCode (ends_kind kind) (characters text.now) }
     ensures ok { IfOk result (λ rest. IsBehindRun kind text.now rest.now) }
-    ensures err { IfErr result (StopsRun kind text.now) }
+    ensures err { IfErr result (λ empty. StopsRun kind text.now empty.rest.now) }
 {
     let mut rest = text;
     while let Some(next) = next_code(kind, rest)? {
@@ -179,18 +194,18 @@ fn behind_run<'a>(kind: Kind, text: &'a str) -> Result<&'a str, CodeFault<'a>>
 }
 
 /// The next code of the kind, where its sign begins the text.
-fn next_code<'a>(kind: Kind, text: &'a str) -> Result<Option<NextCode<'a>>, CodeFault<'a>>
+fn next_code<'a>(kind: Kind, text: &'a str) -> Result<Option<NextCode<'a>>, EmptyCode<'a>>
     ensures ok { IfOk result (λ next. MatchOption next
         ((rest : List ℕ) → text.now ≡ sign_before kind ∷ rest → ⊥)
         (λ next. IsNextCode kind text.now next.code.now next.rest.now)) }
-    ensures err { IfErr result (StopsAtSign kind text.now) }
+    ensures err { IfErr result (λ empty. StopsAtSign kind text.now empty.rest.now) }
 {
     let Some(behind) = behind_sign(kind, text) else {
         return Ok(None);
     };
     let (code, rest) = split_part(stop_of(kind), behind);
     if code.is_empty() {
-        return Err(CodeFault::Empty(behind));
+        return Err(EmptyCode { rest: behind });
     }
     Ok(Some(NextCode { code, rest }))
 }

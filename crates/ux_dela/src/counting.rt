@@ -3,7 +3,7 @@
 //! Each line is cut as `delaf` and `delas` cut it, and its codes are looked through: none of them is
 //! kept. A file is refused as by its reader.
 
-ghost use Rattle.std.specs.Prelude.{◌≡◌, ◌⊎◌, ◌+◌, IfOk, IfErr};
+ghost use Rattle.std.specs.Prelude.{◌≡◌, ◌⊎◌, IfOk, IfErr};
 ghost use Rattle.ux_dela.specs.Files.{IsEntryCount, IsStemCount, Refuses, RefusesStems};
 ghost use Rattle.ux_dela.specs.declared.error.DelaError.{DelaError};
 ghost use Rattle.ux_dela.specs.declared.error.DelaError.TheVariants.{NoMemory};
@@ -17,16 +17,17 @@ use ux_base::lines;
 /// linear in the text. Takes no memory.
 pub fn count_delaf(text: &str) -> Result<usize, DelaError>
     ensures ok { IfOk result (IsEntryCount text.now) }
-    ensures refused { IfErr result (λ error. (error ≡ NoMemory) ⊎ Refuses text.now error) }
+    ensures refused { IfErr result (λ error. Refuses text.now error) }
     ensures exact { IfOk result (λ _. (error : DelaError) → Refuses text.now error → ⊥) }
 {
-    // A text has at most as many lines as bytes, so that a line's number fits.
+    // A text has at most as many lines as bytes, and fewer bytes than half of what `usize` counts;
+    // so a line's number fits, and two entries for each line.
     let _bytes = text.len();
     let mut number = 0;
     let mut count = 0;
     for line in lines(text) {
         number += 1;
-        count = add(count, delaf::count_line(line, number)?)?;
+        count += delaf::count_line(line, number)?;
     }
     Ok(count)
 }
@@ -38,22 +39,13 @@ pub fn count_delas(alloc: Global, text: &str) -> Result<usize, DelaError>
     ensures refused { IfErr result (λ error. (error ≡ NoMemory) ⊎ RefusesStems text.now error) }
     ensures exact { IfOk result (λ _. (error : DelaError) → RefusesStems text.now error → ⊥) }
 {
-    // A text has at most as many lines as bytes, so that a line's number fits.
+    // A text has at most as many lines as bytes, so that a line's number fits, and the count.
     let _bytes = text.len();
     let mut number = 0;
     let mut count = 0;
     for line in lines(text) {
         number += 1;
-        count = add(count, delas::count_line(alloc, line, number)?)?;
+        count += delas::count_line(alloc, line, number)?;
     }
     Ok(count)
-}
-
-/// The sum, where `usize` has it. It always has here: no line says more entries than it has bytes,
-/// and a text has fewer bytes than `usize` counts.
-fn add(count: usize, more: usize) -> Result<usize, DelaError>
-    ensures ok { IfOk result (λ sum. sum ≡ count + more) }
-    ensures err { IfErr result (λ error. error ≡ NoMemory) }
-{
-    count.checked_add(more).ok_or(DelaError::NoMemory)
 }

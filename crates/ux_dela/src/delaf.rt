@@ -3,7 +3,7 @@
 //! Each line is cut at its comma, its dot and the slash before its comment, and then its codes are
 //! read. Where a backslash ends a line, no other fault is named; `specs/Delaf.antt` has the faults.
 
-ghost use Rattle.std.specs.Prelude.{◌≡◌, ◌≢◌, ◌↔◌, ◌⊎◌, ◌++◌, ◌∷◌, [], All, IsTrue, IfOk, IfErr, OnOk, length};
+ghost use Rattle.std.specs.Prelude.{◌≡◌, ◌≢◌, ◌↔◌, ◌⊎◌, ◌++◌, ◌∷◌, [], ◌≤◌, All, IsTrue, IfOk, IfErr, OnOk, length};
 ghost use Rattle.ux_dela.specs.Delaf.{IsSkipped, IsCut, HasFault, DelafSays, RefusesDelaf, lemma_of};
 ghost use Rattle.ux_dela.specs.Files.{AreEntries, Refuses};
 ghost use Rattle.ux_dela.specs.Reading.{characters, mark_sign, IsCutOf, IsListed, has_mark_in, entry_in, entries_in, AddsSaid, HasList, SaysSoMany, StopsList};
@@ -96,7 +96,8 @@ pub(crate) fn read_line(
 /// How many entries the line says, or why it is refused. Takes no memory.
 pub(crate) fn count_line(line: &str, number: usize) -> Result<usize, DelaError>
     ensures ok { IfOk result (SaysSoMany line.now) }
-    ensures err { IfErr result (λ error. (error ≡ NoMemory) ⊎ RefusesDelaf line.now number error) }
+    ensures few { IfOk result (λ count. count ≤ 2) }
+    ensures err { IfErr result (λ error. RefusesDelaf line.now number error) }
 {
     if is_skipped(line) {
         return Ok(0);
@@ -108,7 +109,8 @@ pub(crate) fn count_line(line: &str, number: usize) -> Result<usize, DelaError>
 
 /// How many entries these parts say: two where a mark stands in form or lemma.
 fn said_by(cut: &Cut<'_>) -> usize
-    ensures { (codes : CodesRecord) → result ≡ length (entries_in cut.now codes) }
+    ensures many { (codes : CodesRecord) → result ≡ length (entries_in cut.now codes) }
+    ensures few { result ≤ 2 }
 {
     if has_mark(cut) { 2 } else { 1 }
 }
@@ -213,7 +215,8 @@ fn list_of(alloc: Global, line: &str, number: usize, cut: &Cut<'_>) -> Result<Co
 {
     match read_list(alloc, cut.codes) {
         Ok(codes) => Ok(codes),
-        Err(fault) => Err(code_error(line, number, cut, fault)),
+        Err(CodeFault::Empty(rest)) => Err(code_error(line, number, cut, rest)),
+        Err(CodeFault::NoRoom) => Err(DelaError::NoMemory),
     }
 }
 
@@ -221,26 +224,23 @@ fn list_of(alloc: Global, line: &str, number: usize, cut: &Cut<'_>) -> Result<Co
 fn check_codes(line: &str, number: usize, cut: &Cut<'_>) -> Result<(), DelaError>
     requires { IsCutOf line.now cut.now }
     ensures ok { IfOk result (λ _. HasList cut.now.codes.now) }
-    ensures err { IfErr result (λ error. (error ≡ NoMemory) ⊎ HasFault line.now number error) }
+    ensures err { IfErr result (HasFault line.now number) }
 {
     match check_list(cut.codes) {
         Ok(()) => Ok(()),
-        Err(fault) => Err(code_error(line, number, cut, fault)),
+        Err(empty) => Err(code_error(line, number, cut, empty.rest)),
     }
 }
 
-/// Why the codes of a line that is cut so aren't read.
-fn code_error(line: &str, number: usize, cut: &Cut<'_>, fault: CodeFault<'_>) -> DelaError
+/// The fault of a line that is cut so, where no code stands in front of this rest of its codes.
+fn code_error(line: &str, number: usize, cut: &Cut<'_>, rest: &str) -> DelaError
     requires cut { IsCutOf line.now cut.now }
-    requires stops { StopsList cut.now.codes.now fault }
-    ensures { (result ≡ NoMemory) ⊎ HasFault line.now number result }
+    requires stops { StopsList cut.now.codes.now rest.now }
+    ensures { HasFault line.now number result }
 {
-    match fault {
-        CodeFault::Empty(rest) => DelaError::EmptyCode {
-            line: number,
-            place: line.len() - cut.comment.len() - rest.len(),
-        },
-        CodeFault::NoRoom => DelaError::NoMemory,
+    DelaError::EmptyCode {
+        line: number,
+        place: line.len() - cut.comment.len() - rest.len(),
     }
 }
 
@@ -304,7 +304,7 @@ pub(crate) fn entry_of(
 }
 
 /// The lemma as it is written, which is the form where it is empty.
-fn written_lemma<'a>(cut: &Cut<'a>) -> &'a str
+pub(crate) fn written_lemma<'a>(cut: &Cut<'a>) -> &'a str
     ensures { characters result.now
         ≡ lemma_of (characters cut.now.form.now) (characters cut.now.lemma.now) }
 {

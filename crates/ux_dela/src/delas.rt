@@ -7,7 +7,7 @@ ghost use Rattle.std.specs.Prelude.{◌≡◌, ◌⊎◌, ◌++◌, ◌∷◌, A
 ghost use Rattle.std.specs.List.{list_all, prefix_len};
 ghost use Rattle.ux_dela.specs.Delas.{HasStemFault, RefusesDelas, IsClass};
 ghost use Rattle.ux_dela.specs.Files.{AreStems, RefusesStems};
-ghost use Rattle.ux_dela.specs.Reading.{characters, IsStemCutOf, IsStemListed, HasStemList, StopsStemList, SaysStem, SaysSoManyStems, AddsStem};
+ghost use Rattle.ux_dela.specs.Reading.{characters, IsStemCutOf, IsStemListed, HasStemList, OrNoRoom, StopsStemList, SaysStem, SaysSoManyStems, AddsStem};
 ghost use Rattle.ux_dela.specs.Signs.{COMMA, is_comma, is_upper, is_digit};
 ghost use Rattle.ux_dela.specs.Sound.{IsSoundStem};
 ghost use Rattle.ux_dela.specs.Written.{IsPart};
@@ -82,6 +82,7 @@ pub(crate) fn read_line(
 /// How many stems the line says, or why it is refused. Keeps none of its semantic codes.
 pub(crate) fn count_line(alloc: Global, line: &str, number: usize) -> Result<usize, DelaError>
     ensures ok { IfOk result (SaysSoManyStems line.now) }
+    ensures few { IfOk result (λ count. count ≤ 1) }
     ensures err { IfErr result (λ error. (error ≡ NoMemory) ⊎ RefusesDelas line.now number error) }
 {
     if is_skipped(line) {
@@ -199,7 +200,7 @@ fn class_of(alloc: Global, line: &str, number: usize, cut: &StemCut<'_>) -> Resu
 /// Why the codes of a line that is cut so aren't read.
 fn code_error(line: &str, number: usize, cut: &StemCut<'_>, fault: CodeFault<'_>) -> DelaError
     requires cut { IsStemCutOf line.now cut.now }
-    requires stops { StopsStemList cut.now.codes.now fault }
+    requires stops { OrNoRoom (StopsStemList cut.now.codes.now) fault }
     ensures { (result ≡ NoMemory) ⊎ HasStemFault line.now number result }
 {
     match fault {

@@ -14,6 +14,7 @@
 //! ```
 #![tactic(auto)]
 
+pub mod bare;
 mod codes;
 pub mod counting;
 pub mod delaf;
@@ -27,6 +28,7 @@ pub mod printing;
 pub mod tag;
 pub mod texts;
 
+pub use bare::{BareLine, bare_line};
 pub use counting::{count_delaf, count_delas};
 pub use delaf::{read_delaf, read_delaf_line};
 pub use delas::read_delas;

@@ -14,5 +14,6 @@ pub mod KeyLemmas
 pub mod NearLemmas
 pub mod RunLemmas
 pub mod RunOnceLemmas
+pub mod RisingLemmas
 pub mod CodesLemmas
 pub mod ReadLemmas

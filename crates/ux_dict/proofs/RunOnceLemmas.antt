@@ -258,9 +258,3 @@ once_whole done once run more so_far put =
     put ∙ ap (λ (l : List Entry). l ++ insert_all entry_eq [] run) so_far.put
     ∙ sym (run_alone so_far.before run so_far.apart)
     ∙ ap (insert_all entry_eq []) (sym so_far.whole)
-
--- a run of one entry at most has each of them once
-pub few_once : (run : List Entry) → length run < 2 → run ≡ insert_all entry_eq [] run
-few_once [] few = refl
-few_once (x ∷ []) few = refl
-few_once (x ∷ (y ∷ run)) few = absurd (omega (arith, few))

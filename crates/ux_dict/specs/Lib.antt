@@ -4,6 +4,7 @@ pub mod Equal
 pub mod Forms
 pub mod Keys
 pub mod Kept
+pub mod Lines
 pub mod Parts
 pub mod Places
 pub mod Runs

@@ -1,7 +1,10 @@
 //! One list of codes for all entries of equal codes, with the text that is printed for it.
+//!
+//! Most lines have their codes as they are printed, and few such texts differ. So a line's codes are
+//! found by their text, and read only where the text is new.
 
 ghost use Rattle.std.specs.Prelude.{◌≡◌, ◌↔◌, IsTrue, IfOk, IfSome};
-ghost use Rattle.ux_dela.specs.Printed.{printed_list};
+ghost use Rattle.ux_dela.specs.Printed.{IsCodesText, printed_list};
 
 use indexmap::IndexMap;
 use std::alloc::{AllocError, Global};
@@ -9,7 +12,11 @@ use std::hash::{Hash, Hasher};
 use std::marker::Model;
 use std::rc::Rc;
 use ux_base::{NoMemory, Txt};
-use ux_dela::{Codes, print_codes};
+use ux_dela::{Codes, print_codes, read_codes};
+
+/// The bytes of the longest text by which codes are found. A longer one, as a constant with its
+/// content, would cost its length once more and hardly come again.
+const LONGEST_TEXT: usize = 64;
 
 /// Codes, compared by all of their parts.
 #[derive(Drop)]
@@ -122,18 +129,22 @@ impl SharedCodes {
 #[derive(Drop)]
 pub struct CodesTable {
     known: IndexMap<WholeCodes, Rc<SharedCodes>>,
+    /// The codes of the texts that were asked for.
+    by_text: IndexMap<String, Rc<SharedCodes>>,
 }
 
 impl Model for CodesTable {
-    ghost use Rattle.std.specs.Prelude.{◌≡◌, All, List};
+    ghost use Rattle.std.specs.Prelude.{◌≡◌, All, List, string_bytes};
     ghost use Rattle.indexmap.specs.IndexMap.{keys};
+    ghost use Rattle.ux_dela.specs.Printed.{IsCodesText};
     ghost use Rattle.ux_dela.specs.declared.entry.Codes.{Codes};
 
     ghost Value = { List Codes };
 
     ghost view = { λ table. keys table.known };
 
-    ghost invariant = { λ table. All (λ entry. entry.1.value ≡ entry.0) table.known.entries };
+    ghost invariant = { λ table. All (λ entry. entry.1.value ≡ entry.0) table.known.entries
+        × All (λ entry. IsCodesText (string_bytes entry.0) entry.1.value) table.by_text.entries };
 }
 
 impl CodesTable {
@@ -141,6 +152,7 @@ impl CodesTable {
     pub(crate) fn new(alloc: Global) -> CodesTable {
         CodesTable {
             known: IndexMap::new(alloc),
+            by_text: IndexMap::new(alloc),
         }
     }
 
@@ -161,6 +173,44 @@ impl CodesTable {
         self.known.insert(codes, new.clone()?)?;
         Ok(new)
     }
+
+    /// The codes for which the text is what is printed, shared as `shared` does. None where it is
+    /// printed for no codes, or is longer than those that are kept. A text that was asked for before
+    /// takes a look-up and no memory.
+    pub(crate) fn printed_as(
+        &mut self,
+        alloc: Global,
+        text: &str,
+    ) -> Result<Option<Rc<SharedCodes>>, AllocError>
+        ensures { IfOk result (λ found. IfSome found (λ shared. IsCodesText text.now shared.value)) }
+    {
+        if text.len() > LONGEST_TEXT {
+            return Ok(None);
+        }
+        if let Some(old) = self.by_text.get(text) {
+            return Ok(Some(old.clone()?));
+        }
+        match codes_of(alloc, text)? {
+            Some(codes) => Ok(Some(self.noted(alloc, text, codes)?)),
+            None => Ok(None),
+        }
+    }
+
+    /// The codes, shared, and from now on found by their text.
+    fn noted(
+        &mut self,
+        alloc: Global,
+        text: &str,
+        codes: Codes,
+    ) -> Result<Rc<SharedCodes>, AllocError>
+        requires { IsCodesText text.now codes }
+        ensures { IfOk result (λ shared. shared.value ≡ codes) }
+    {
+        let shared = self.shared(alloc, codes)?;
+        let key = String::from_str(alloc, text)?;
+        self.by_text.insert(key, shared.clone()?)?;
+        Ok(shared)
+    }
 }
 
 /// The codes as they are printed.
@@ -170,6 +220,16 @@ fn printed_text(alloc: Global, codes: &Codes) -> Result<Txt, AllocError>
 {
     match print_codes(alloc, codes) {
         Ok(text) => Ok(Txt::new(text)),
+        Err(NoMemory) => Err(AllocError),
+    }
+}
+
+/// The codes for which the text is what is printed, if there are any.
+fn codes_of(alloc: Global, text: &str) -> Result<Option<Codes>, AllocError>
+    ensures { IfOk result (λ found. IfSome found (IsCodesText text.now)) }
+{
+    match read_codes(alloc, text) {
+        Ok(found) => Ok(found),
         Err(NoMemory) => Err(AllocError),
     }
 }

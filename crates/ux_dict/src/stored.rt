@@ -3,8 +3,9 @@
 //! A dictionary has many entries and few different lists of codes, and most lemmas are the form
 //! itself. So entries of the same codes share them, and a lemma that is the form takes no text.
 
-ghost use Rattle.std.specs.Prelude.{◌≡◌, ◌↔◌, IsTrue, IfOk, unwrap_or};
+ghost use Rattle.std.specs.Prelude.{◌≡◌, ◌↔◌, IsTrue, IfOk, MatchOption, Some, unwrap_or};
 ghost use Rattle.ux_dela.specs.Printed.{printed_codes};
+ghost use Rattle.ux_dict.specs.Stored.{entry_of};
 
 use crate::codes_table::{CodesTable, SharedCodes};
 use std::alloc::{AllocError, Global};
@@ -51,7 +52,23 @@ impl Stored {
             infl,
         } = entry;
         let codes = table.shared(alloc, Codes { gram, sem, infl })?;
-        let lemma = other_lemma(&form, lemma);
+        let lemma = unless_form(&form, lemma);
+        Ok(Stored { form, lemma, codes })
+    }
+
+    /// The entry to keep, of parts of a line and codes of the table. Copies the form, and the lemma
+    /// where it isn't the form.
+    pub(crate) fn of_parts(
+        alloc: Global,
+        form: &str,
+        lemma: &str,
+        codes: Rc<SharedCodes>,
+    ) -> Result<Stored, AllocError>
+        ensures { IfOk result (λ stored.
+            stored ≡ entry_of form.now (Some lemma.now) codes.value) }
+    {
+        let lemma = copy_of_other(alloc, form, lemma)?;
+        let form = Txt::from_str(alloc, form)?;
         Ok(Stored { form, lemma, codes })
     }
 
@@ -67,6 +84,17 @@ impl Stored {
         ensures { result.now ≡ self.now.lemma }
     {
         text_of(&self.form, &self.lemma)
+    }
+
+    /// The lemma, lent, where the line gave another one than the form. Takes one step.
+    pub fn other_lemma(&self) -> Option<&str>
+        ensures { MatchOption result (self.now.lemma ≡ self.now.form)
+            (λ lemma. lemma.now ≡ self.now.lemma) }
+    {
+        match &self.lemma {
+            Some(text) => Some(text.as_str()),
+            None => None,
+        }
     }
 
     /// The text that is printed for the codes, lent.
@@ -137,10 +165,20 @@ impl Hash for Stored {
 }
 
 /// The lemma, unless it is the form.
-fn other_lemma(form: &Txt, lemma: Txt) -> Option<Txt>
+fn unless_form(form: &Txt, lemma: Txt) -> Option<Txt>
     ensures { unwrap_or result form.now ≡ lemma }
 {
     if *form == lemma { None } else { Some(lemma) }
+}
+
+/// A copy of the lemma, unless it is the form.
+fn copy_of_other(alloc: Global, form: &str, lemma: &str) -> Result<Option<Txt>, AllocError>
+    ensures { IfOk result (λ other. unwrap_or other form.now ≡ lemma.now) }
+{
+    if form == lemma {
+        return Ok(None);
+    }
+    Ok(Some(Txt::from_str(alloc, lemma)?))
 }
 
 /// The lemma, which is the form where none is given.

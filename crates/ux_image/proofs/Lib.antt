@@ -5,6 +5,7 @@ pub mod MadeLemmas
 pub mod Utf8Lemmas
 pub mod RebuiltLaws
 pub mod OneEntryLaws
+pub mod UnchangedLemmas
 pub mod ComparingLemmas
 pub mod KeepLemmas
 pub mod OrderLemmas

@@ -25,6 +25,10 @@ pub record IsCutOf (text : List ℕ) (cut : Cut) : Type 0 where
   pub none : HasNoSeparator cut.piece.now
   pub utf8 : IsUtf8 cut.behind.now
 
+-- the pair that leaves a piece as it is
+abbrev pub UNCHANGED : Pair
+UNCHANGED = record { taken = 0; added = [] }
+
 -- what a pair makes of a piece, which stays where there is none
 abbrev pub changed_by : Option Pair → List ℕ → List ℕ
 changed_by None piece = piece

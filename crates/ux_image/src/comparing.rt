@@ -1,8 +1,9 @@
 //! Whether a list of codes is that of a form's entries, without making their codes.
 
-ghost use Rattle.std.specs.Prelude.{◌≡◌, ◌≢◌, List, [], ◌∷◌, ◌↔◌, IsTrue, MatchOption, map};
+ghost use Rattle.std.specs.Prelude.{◌≡◌, ◌≢◌, List, [], ◌∷◌, ◌↔◌, All, IsTrue, MatchOption, map};
 ghost use Rattle.ux_image.specs.Codes.{entry_code, pair_between, pairs_between, pairs_of_pieces};
 ghost use Rattle.ux_image.specs.Contents.{code_list};
+ghost use Rattle.ux_image.specs.Cutting.{UNCHANGED};
 ghost use Rattle.ux_image.specs.Pieces.{separators};
 ghost use Rattle.ux_image.specs.declared.code.Code.{Code as CodeRecord};
 ghost use Rattle.ux_image.specs.declared.code.Pair.{Pair as PairRecord};
@@ -10,7 +11,7 @@ ghost use Rattle.ux_image.specs.declared.code.Pair.{Pair as PairRecord};
 use crate::characters::count_chars;
 use crate::code::{Code, CodeList, Pair};
 use crate::coding::behind_shared;
-use crate::pieces::{have_same_separators, split_both, split_piece};
+use crate::pieces::{count_separators, have_same_separators, split_both, split_piece};
 use ux_dict::Stored;
 
 /// Whether the list is that of the entries. Takes a step a byte, and no memory.
@@ -51,8 +52,44 @@ fn behind_code<'a>(codes: &'a [Code], entry: &Stored) -> Option<&'a [Code]>
 fn is_code_of(code: &Code, entry: &Stored) -> bool
     ensures { IsTrue result ↔ (code.now ≡ entry_code entry.now) }
 {
-    code.codes.as_str() == entry.printed_codes()
-        && are_pairs_of(code.pairs.as_slice(), entry.form(), entry.lemma())
+    code.codes.as_str() == entry.printed_codes() && make_lemma_of(code.pairs.as_slice(), entry)
+}
+
+/// Whether the pairs make the lemma of the entry's form as its code does.
+fn make_lemma_of(pairs: &[Pair], entry: &Stored) -> bool
+    ensures { IsTrue result ↔ (pairs.now ≡ pairs_between entry.now.form entry.now.lemma) }
+{
+    match entry.other_lemma() {
+        Some(lemma) => are_pairs_of(pairs, entry.form(), lemma),
+        None => are_unchanged(pairs, entry.form()),
+    }
+}
+
+/// Whether the pairs leave each piece of the form as it is. Compares no letters.
+fn are_unchanged(pairs: &[Pair], form: &str) -> bool
+    ensures { IsTrue result ↔ (pairs.now ≡ pairs_between form.now form.now) }
+{
+    let Some((_, later)) = pairs.split_first() else {
+        return false;
+    };
+    if later.len() != count_separators(form) {
+        return false;
+    }
+    change_nothing(pairs)
+}
+
+/// Whether each pair takes nothing off, and adds nothing.
+fn change_nothing(pairs: &[Pair]) -> bool
+    ensures { IsTrue result ↔ All (λ (pair : PairRecord). pair ≡ UNCHANGED) pairs.now }
+{
+    pairs.iter().all(|pair| is_unchanged(pair))
+}
+
+/// Whether the pair takes nothing off, and adds nothing.
+fn is_unchanged(pair: &Pair) -> bool
+    ensures { IsTrue result ↔ (pair.now ≡ UNCHANGED) }
+{
+    pair.taken == 0 && pair.added.as_str().is_empty()
 }
 
 /// Whether the pairs make the lemma of the form as its code does.

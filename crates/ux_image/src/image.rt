@@ -22,6 +22,11 @@ use ux_dict::Stored;
 /// The bytes with which each image begins.
 const MAGIC: [u8; 8] = [0x55, 0x58, 0x55, 0x44, 0x49, 0x02, 0x0d, 0x0a];
 
+/// For how many bytes of a state there is room from the beginning: 8, and 8 for each of two edges.
+/// Each state but the root has an edge that leads to it, so that at most half as much again is taken
+/// as the states need.
+const STATE_ROOM: usize = 24;
+
 /// The image of a content, which is given up before its automaton is finished, so that both are not
 /// there at once. `is_content` tells what it asks.
 ///
@@ -49,7 +54,8 @@ fn bytes_of(
         (lists_of lists.now.keys order.now.keys) bytes.items) }
 {
     let used = lists_in(alloc, order, lists)?;
-    let mut bytes = Vec::from_slice(alloc, &MAGIC)?;
+    let mut bytes = Vec::with_capacity(alloc, automaton.len().saturating_mul(STATE_ROOM))?;
+    bytes.extend_from_slice(&MAGIC)?;
     put_state_count(&mut bytes, automaton)?;
     put_count(&mut bytes, used.len())?;
     put_states(&mut bytes, automaton, order)?;

@@ -57,6 +57,16 @@ pub(crate) fn split_both<'a>(form: &'a str, lemma: &'a str) -> Option<(Cut<'a>, 
     Some((in_form, in_lemma))
 }
 
+/// How many separators the text has.
+pub(crate) fn count_separators(text: &str) -> usize
+    ensures { result ≡ length (separators text.now) }
+{
+    text.as_bytes()
+        .iter()
+        .filter(|byte| is_separator(**byte))
+        .count()
+}
+
 /// The place of the first separator.
 fn first_separator(text: &[u8]) -> Option<usize>
     ensures { MatchOption result (HasNoSeparator text.now) (IsSeparatorAt text.now) }

@@ -3,7 +3,7 @@
 //! Entries with one list of codes have mostly one sketch, and those with different lists different
 //! ones. No contract depends on it: a list that a sketch finds is compared with the entries.
 
-use crate::pieces::split_piece;
+use crate::pieces::{count_separators, split_piece};
 use std::hash::{FoldHasher, Hasher};
 use ux_dict::Stored;
 
@@ -12,7 +12,11 @@ pub(crate) fn sketch_of(entries: &[Stored]) -> u64 {
     let mut hasher = FoldHasher::default();
     for entry in entries {
         hasher.write(entry.printed_codes().as_bytes());
-        put_changes(&mut hasher, entry.form(), entry.lemma());
+        match entry.other_lemma() {
+            Some(lemma) => put_changes(&mut hasher, entry.form(), lemma),
+            // No piece changes, so that how many there are is all that the code has of them.
+            None => hasher.write_usize(count_separators(entry.form())),
+        }
     }
     hasher.finish()
 }

@@ -3,6 +3,9 @@ use Rattle.ux_dawg.specs.Building.{IsCut}
 use Rattle.ux_dawg.proofs.StepLemmas.{cut_step, closed_less}
 use Rattle.ux_dawg.proofs.pending.cut.Goals as goal
 
+pub close-requires-clause-fit : goal.close-requires-clause-fit
+close-requires-clause-fit c = c.loop-register.invariant.0.sound.fit
+
 pub loop-register-preserved : goal.loop-register-preserved
 loop-register-preserved c =
     let long = closed_less _ _ _ _ _ _ c.in_ok-top.ensures in (

@@ -41,7 +41,7 @@ returns-in_err-behind_run-clause-err c =
     let some = is_some_text c.is_empty.result gram c.is_empty.ensures c.if-is_empty.false in
     let sem = c.in_ok-rest.ensures.ok in
     rw (p.1, p.2) (infl_stops c.args.text.now gram c.split_part.result.1.now c.in_ok-rest.rest.now
-    sem.0 _ c.split_part.ensures.split some sem.1 c.in_err-behind_run.ensures.err)
+    _ sem.0 c.split_part.ensures.split some sem.1 c.in_err-behind_run.ensures.err)
 
 pub returns-clause-ok : goal.returns-clause-ok
 returns-clause-ok c =

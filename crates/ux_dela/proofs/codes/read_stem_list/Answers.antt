@@ -1,9 +1,10 @@
 use Rattle.std.proofs.Common.{refl}
 use Rattle.std.proofs.lemmas.Result.{err_from_is_err_and}
 use Rattle.ux_dela.specs.Signs.{is_plus}
+use Rattle.ux_dela.specs.Reading.{StopsStemList}
 use Rattle.ux_dela.specs.declared.part.Stop.TheVariants.{Plus}
 use Rattle.ux_dela.proofs.CutLemmas.{is_none, is_some_text}
-use Rattle.ux_dela.proofs.RunLemmas.{ends_code}
+use Rattle.ux_dela.proofs.RunLemmas.{ends_code, fault_of}
 use Rattle.ux_dela.proofs.ListLemmas.{behind_gram, stem_list_read, class_stops, stem_sem_stops}
 use Rattle.ux_dela.proofs.codes.read_stem_list.Goals as goal
 
@@ -32,8 +33,9 @@ returns-in_err-sem-clause-err c =
     let p = err_from_is_err_and c.from_residual.result c.from_residual.ensures.1 in
     let class = c.split_part.result.0.now in
     let some = is_some_text c.is_empty.result class c.is_empty.ensures c.if-is_empty.false in
-    rw (p.1, p.2) (stem_sem_stops c.args.text.now class c.split_part.result.1.now _
-    c.split_part.ensures.split some c.in_err-sem.ensures.err)
+    rw (p.1, p.2) (fault_of _ (StopsStemList c.args.text.now)
+    (λ rest. stem_sem_stops c.args.text.now class c.split_part.result.1.now rest
+    c.split_part.ensures.split some) _ c.in_err-sem.ensures.err)
 
 pub returns-clause-ok : goal.returns-clause-ok
 returns-clause-ok c =

@@ -1,3 +1,4 @@
+use Rattle.std.proofs.Common.{◌≤◌, ◌*◌}
 use Rattle.ux_base.specs.Lines.{lines_of}
 use Rattle.ux_dela.specs.Delaf.{DelafSays, RefusesDelaf}
 use Rattle.ux_dela.proofs.CountLemmas.{IsCountedTo}
@@ -9,4 +10,5 @@ invariant-loop-line l = record {
   next : (goal.iterator-loop-line).can_next l.line-iterator;
   finite : (goal.iterator-loop-line).is_finite l.line-iterator;
   counted : IsCountedTo DelafSays RefusesDelaf (lines_of l.text) l.line-iterator l.number l.count;
+  few : l.count ≤ 2 * l.number;
 }

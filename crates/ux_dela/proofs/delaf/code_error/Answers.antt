@@ -1,12 +1,11 @@
-use Rattle.std.proofs.Common.{inr, refl}
+use Rattle.std.proofs.Common.{refl}
 use Rattle.ux_dela.proofs.LineLemmas.{empty_code}
 use Rattle.ux_dela.proofs.delaf.code_error.Goals as goal
 
-pub returns-in-Empty : goal.returns-in-Empty
-returns-in-Empty c =
-    let stops = rw c.in-Empty.is at c.requires.stops in
-    inr (
+pub returns : goal.returns
+returns c =
+    let stops = c.requires.stops in (
       refl,
-      empty_code c.args.line.now c.args.cut.now stops.0 c.in-Empty.rest.now c.requires.cut
-          stops.1 stops.2,
+      empty_code c.args.line.now c.args.cut.now stops.0 c.args.rest.now c.requires.cut stops.1
+          stops.2,
     )

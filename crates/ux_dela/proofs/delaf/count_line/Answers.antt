@@ -10,4 +10,4 @@ pub returns-clause-ok : goal.returns-clause-ok
 returns-clause-ok c =
     let counts : IsSkipped c.args.line.now → ⊥ = λ is. (let t = c.is_skipped.ensures.1 is in cc) in
     says_many c.args.line.now c.in_ok-cut.cut c.said_by.result c.in_ok-cut.ensures.ok
-    c.in_ok-check_codes.ensures.ok counts c.said_by.ensures
+    c.in_ok-check_codes.ensures.ok counts c.said_by.ensures.many

@@ -18,18 +18,18 @@ loop-line-preserved c = record {
   finite = tt;
   read = read_more DelafSays RefusesDelaf (lines_of c.args.text.now) c.loop-line.line-iterator
       c.next.new.self c.loop-line.number c.in-Some.line.now c.loop-line.kept.items
-      c.put_all.new.kept.items c.in_ok-entries.entries.items c.loop-line.invariant.read
-      c.in-Some.ensures.steps c.in_ok-entries.ensures.ok c.in_ok-put_all.ensures;
+      c.put_line.new.kept.items c.in_ok-put_line.ensures.put.said c.loop-line.invariant.read
+      c.in-Some.ensures.steps c.in_ok-put_line.ensures.put.says c.in_ok-put_line.ensures.put.put;
 }
 
-pub returns-in_err-entries-clause-refused : goal.returns-in_err-entries-clause-refused
-returns-in_err-entries-clause-refused c =
+pub returns-in_err-put_line-clause-refused : goal.returns-in_err-put_line-clause-refused
+returns-in_err-put_line-clause-refused c =
     let p = err_from_is_err_and c.from_residual.result c.from_residual.ensures.1 in
     let stops = read_stops DelafSays RefusesDelaf (lines_of c.args.text.now)
     c.loop-line.line-iterator c.next.new.self c.loop-line.number c.in-Some.line.now
-    c.loop-line.kept.items c.in_err-entries.field-0.0 c.loop-line.invariant.read
+    c.loop-line.kept.items c.in_err-put_line.field-0.0 c.loop-line.invariant.read
     c.in-Some.ensures.steps in
-    rw (p.1, p.2) (elim c.in_err-entries.ensures.refused [
+    rw (p.1, p.2) (elim c.in_err-put_line.ensures.refused [
       | inl memory ↦ inl memory
       | inr refuses ↦ inr (stops refuses)
     ])

@@ -1,9 +1,13 @@
-use Rattle.std.proofs.Common.{subst, sym, List}
+use Rattle.std.proofs.Common.{rules, subst, sym, List}
 use Rattle.std.proofs.lemmas.Result.{IfOk-weaker}
 use Rattle.ux_dela.specs.declared.entry.Entry.{Entry}
 use Rattle.ux_dict.specs.Content.{IsContent}
 use Rattle.ux_dict.proofs.ContentLemmas.{IsContent-once}
+use Rattle.ux_dict.proofs.RisingLemmas.{IsContent-rising}
 use Rattle.ux_dict.proofs.sorting.in_order.Goals as goal
+
+pub returns-then-ascend : goal.returns-then-ascend
+returns-then-ascend c = IsContent-rising c.args.entries.items (search rules)
 
 pub returns : goal.returns
 returns c =

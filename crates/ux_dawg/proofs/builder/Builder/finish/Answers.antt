@@ -6,6 +6,9 @@ use Rattle.ux_dawg.proofs.FinishLemmas.{finished_states}
 use Rattle.ux_dawg.proofs.BuilderLemmas.{automaton_of}
 use Rattle.ux_dawg.proofs.builder.Builder.finish.Goals as goal
 
+pub keep-requires : goal.keep-requires
+keep-requires c = c.in_ok-open.ensures.sound.fit
+
 pub of-requires-clause-states : goal.of-requires-clause-states
 of-requires-clause-states c = subst AreStates (sym c.into_states.ensures.states)
     (finished_states _ _ _ _ _ _ _ _ _ _ c.self.invariant.holds.ready c.in_ok-open.ensures

@@ -1,8 +1,8 @@
-use Rattle.std.proofs.Common.{arith, ◌≡◌, ◌≢◌, ◌-◌, ◌<◌, ◌≤◌, suc, get_or, sym, ◌∙◌, true≢false}
+use Rattle.std.proofs.Common.{arith, ◌≡◌, ◌≢◌, ◌-◌, ◌<◌, ◌≤◌, suc, get_or, ap, sym, ◌∙◌, true≢false}
 use Rattle.ux_dawg.specs.Building.{bare}
 use Rattle.ux_dawg.specs.Flat.{state_of}
-use Rattle.ux_dawg.specs.Indexed.{held}
-use Rattle.ux_dawg.proofs.MarksLemmas.{hash_at, older_at}
+use Rattle.ux_dawg.specs.Indexed.{held, state_at}
+use Rattle.ux_dawg.proofs.MarksLemmas.{hash_at, number_read, older_at}
 use Rattle.ux_dawg.proofs.SearchLemmas.{link-le, other_hash, searched_first, searched_next}
 use Rattle.ux_dawg.proofs.index.Index.place.Goals as goal
 use Rattle.ux_dawg.proofs.index.Index.place.Goals.{else-link-hash-via-then-link-hash+else-is_state, else-link-hash-via-else-link-hash}
@@ -20,14 +20,14 @@ loop-mark-smaller c =
     let index = c.args.self.now in
     let most = c.loop-mark.invariant.most in
     let some = c.loop-mark-test.true in
-    let number = c.loop-mark.mark - 1 in
-    let within : number < held index = omega (arith, most, some) in
+    let item = c.loop-mark.mark - 1 in
+    let within : item < held index = omega (arith, most, some) in
     let older = c.index-link.result.now.older in
-    let low : older ≤ number =
+    let low : older ≤ item =
     link-le index.newest.items index.links.items c.args.hash c.args.states.now (held index)
     c.requires.indexed.linked c.requires.indexed.hashes (state_of c.args.code c.args.edges.now)
-    c.requires.hash number older within
-    (older_at index.links.items number c.index-link.result.now within c.index-link.ensures) in
+    c.requires.hash item older within
+    (older_at index.links.items item c.index-link.result.now within c.index-link.ensures) in
     omega (arith, low, some)
 
 pub loop-mark-preserved : goal.loop-mark-preserved
@@ -36,21 +36,37 @@ loop-mark-preserved c =
     let state = state_of c.args.code c.args.edges.now in
     let most = c.loop-mark.invariant.most in
     let some = c.loop-mark-test.true in
-    let number = c.loop-mark.mark - 1 in
-    let within : number < held index = omega (arith, most, some) in
-    let is : c.loop-mark.mark ≡ suc number = omega (arith, some) in
-    let other : get_or c.args.states.now number bare ≢ state =
+    let item = c.loop-mark.mark - 1 in
+    let within : item < held index = omega (arith, most, some) in
+    let is : c.loop-mark.mark ≡ suc item = omega (arith, some) in
+    let read = number_read index.links.items item c.index-link.result.now within
+    c.index-link.ensures in
+    let other : state_at c.args.states.now index.links.items item ≢ state =
     elim c.else-link-hash.branch [
       | else-link-hash-via-then-link-hash+else-is_state w ↦
-          λ same. true≢false (sym (w.is_state.ensures.1 same) ∙ w.if-is_state.false)
+          λ same. true≢false
+          (sym (w.is_state.ensures.1
+          (ap (λ k. get_or c.args.states.now k bare) read ∙ same))
+          ∙ w.if-is_state.false)
       | else-link-hash-via-else-link-hash w ↦
           other_hash index.newest.items index.links.items c.args.hash c.args.states.now (held index)
-          c.requires.indexed.linked c.requires.indexed.hashes state c.requires.hash number within
+          c.requires.indexed.linked c.requires.indexed.hashes state c.requires.hash item within
           (λ same. w.if-link-hash.false
-          (hash_at index.links.items number c.index-link.result.now within c.index-link.ensures
+          (hash_at index.links.items item c.index-link.result.now within c.index-link.ensures
           ∙ same))
     ] in
     searched_next index.newest.items index.links.items c.args.hash c.args.states.now (held index)
     c.requires.indexed.linked c.requires.indexed.hashes state c.requires.hash
-    c.loop-mark.mark number c.index-link.result.now.older c.loop-mark.invariant is other
-    (older_at index.links.items number c.index-link.result.now within c.index-link.ensures)
+    c.loop-mark.mark item c.index-link.result.now.older c.loop-mark.invariant is other
+    (older_at index.links.items item c.index-link.result.now within c.index-link.ensures)
+
+pub returns-then-is_state : goal.returns-then-is_state
+returns-then-is_state c =
+    let index = c.args.self.now in
+    let most = c.loop-mark.invariant.most in
+    let some = c.loop-mark-test.true in
+    let item = c.loop-mark.mark - 1 in
+    let within : item < held index = omega (arith, most, some) in
+    let read = number_read index.links.items item c.index-link.result.now within
+    c.index-link.ensures in
+    ((item, within, sym read), c.is_state.ensures.0 c.if-is_state.true)

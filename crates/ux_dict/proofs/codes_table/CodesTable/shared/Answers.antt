@@ -13,7 +13,7 @@ pub returns-in-Some : goal.returns-in-Some
 returns-in-Some c =
     let found : c.in-Some.old.now.value ≡ c.args.codes =
     own_found codes_eq codes_eq-Decides (λ (rc : Rc SharedCodes Global). rc.value)
-    c.new-codes.result c.in-Some.old.now c.self.inside.known.entries c.self.invariant
+    c.new-codes.result c.in-Some.old.now c.self.inside.known.entries c.self.invariant.0
     (sym c.in-Some.ensures.value) ∙ c.new-codes.ensures in
     grind (arith, common_steps)
 
@@ -21,7 +21,8 @@ pub invariant_of-self-2 : goal.invariant_of-self-2
 invariant_of-self-2 c =
     let is = c.in_ok-clone.ensures.cases ∙ c.in_ok-new.ensures.ok ∙ c.in_ok-of.ensures
     ∙ c.in_ok-copy.ensures ∙ sym c.codes.view_is in
-    subst (All (λ (entry : Codes × Rc SharedCodes Global). entry.1.value ≡ entry.0))
+    let known = subst (All (λ (entry : Codes × Rc SharedCodes Global). entry.1.value ≡ entry.0))
     (sym c.in_ok-insert.ensures.entries)
     (own_more codes_eq codes_eq-Decides (λ (rc : Rc SharedCodes Global). rc.value)
-    c.codes.inside.codes c.in_ok-clone.field-0 is c.self.inside.known.entries c.self.invariant)
+    c.codes.inside.codes c.in_ok-clone.field-0 is c.self.inside.known.entries c.self.invariant.0) in
+    (known, c.self.invariant.1)
