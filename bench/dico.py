@@ -28,27 +28,42 @@ def paths_of(size):
     return [os.path.join(DATA, f"dico{size}{end}") for end in (".dic", ".forms", ".txt")]
 
 
-def write(size):
-    """Writes these files."""
-    draw = random.Random(20261127)
+def forms_of(draw, size):
+    """The forms of a dictionary of so many lines: of one word, and of two."""
     simple = words(draw, size - size // 3)
     compounds = {}
     while len(compounds) < size // 3:
         compounds[f"{draw.choice(simple)} {draw.choice(simple)}"] = None
-    compounds = list(compounds)
+    return simple, list(compounds)
+
+
+def write(size):
+    """Writes these files."""
+    draw = random.Random(20261127)
+    simple, compounds = forms_of(draw, size)
     forms = simple + compounds
     paths = paths_of(size)
     with open(paths[0], "w", encoding="utf-8") as file:
         file.writelines(f"{form},{draw.choice(CODES)}\n" for form in sorted(forms))
     with open(paths[1], "w", encoding="utf-8") as file:
         file.writelines(f"{form}\n" for form in forms)
-    length, lines = 0, []
-    while length < size * 40 // 3:
-        line = " ".join(one(draw, simple, compounds) for _ in range(12)) + draw.choice(["", ",", "."])
-        lines.append(line)
-        length += len(line) + 1
-    with open(paths[2], "w", encoding="utf-8") as file:
-        file.writelines(f"{line}\n" for line in lines)
+    write_text(draw, simple, compounds, size * 40 // 3, paths[2])
+
+
+def write_text(draw, simple, compounds, bytes_at_least, path):
+    """Writes a text of these words."""
+    with open(path, "w", encoding="utf-8") as file:
+        length = 0
+        while length < bytes_at_least:
+            line = " ".join(one(draw, simple, compounds) for _ in range(12)) + draw.choice(["", ",", "."])
+            length += file.write(f"{line}\n")
+
+
+def write_longer(size, bytes_at_least, path):
+    """Writes another text of the words of the dictionary of so many lines."""
+    draw = random.Random(20261127)
+    simple, compounds = forms_of(draw, size)
+    write_text(draw, simple, compounds, bytes_at_least, path)
 
 
 def one(draw, simple, compounds):

@@ -1,8 +1,9 @@
 #!/usr/bin/env python3
 """Times `unitex compress`, and `unitex dico` with the image that it writes and with the dictionary itself, on the data of
-dico.py: 150,000 and 300,000 lines. Beside them a program over the map of the crate fst (fst_map.rs), which makes a map of
-the same forms, sorted, looks the words of the same text up in it, and writes the same report by it. Prints the best of
-three runs in turn, and peak memory, that of `compress` by line. Ends where the two reports differ.
+dico.py: 150,000 and 300,000 lines; then the larger image over a text of 40 MB. Beside them a program over the map of the
+crate fst (fst_map.rs), which makes a map of the same forms, sorted, looks the words of the same text up in it, and writes
+the same report by it. Prints the best of three runs in turn, and peak memory, that of `compress` by line. Ends where the
+two reports differ.
 
 Needs the built program (make build), rustc, the sources of fst 0.3 and byteorder as Debian's package librust-fst-dev has
 them, and a folder to write to (bench/data). REGISTRY tells where the sources are.
@@ -14,7 +15,7 @@ import subprocess
 import sys
 
 import dico
-from measuring import DATA, HERE, PROGRAM, RUNS, apart, least, prepare, run
+from measuring import DATA, HERE, PROGRAM, RUNS, apart, best, least, prepare, run
 
 REGISTRY = os.environ.get("REGISTRY", "/usr/share/cargo/registry")
 PEER = os.path.join(DATA, "fst_map")
@@ -78,6 +79,20 @@ def main():
         if not filecmp.cmp(report, peer_report, shallow=False):
             sys.exit("the reports differ")
         print(f"  the image {os.path.getsize(image) / 1e6:.1f} MB, the map {os.path.getsize(table) / 1e6:.1f} MB")
+    over_longer_text(300_000, letters)
+
+
+def over_longer_text(size, letters):
+    """Times both over a text of 40 MB, by the image and the map of the dictionary of so many lines."""
+    dictionary, text = dico.paths_of(size)[0], os.path.join(DATA, "longer.txt")
+    image, table = [os.path.join(DATA, f"dico{size}{end}") for end in (".udi", ".map")]
+    apart(dico.write_longer, size, 40_000_000, text)
+    print(f"{size} lines, a text of {os.path.getsize(text) / 1e6:.1f} MB")
+    for name, arguments in [("unitex dico, the image", [PROGRAM, "dico", text, letters, image]),
+                            ("fst, the words looked up", [PEER, "look", table, text]),
+                            ("fst, the same report", [PEER, "report", table, dictionary, text])]:
+        seconds, memory = best(arguments)
+        print(f"  {name:28}  {seconds:.3f} s  {memory / 1e6:.1f} MB")
 
 
 main()

@@ -289,3 +289,71 @@ fn a_content_is_in_order_of_form_and_each_entry_stands_once(rt: HostRuntime) -> 
     }
     Ok(())
 }
+
+/// A name, a line of forms, and its entries as they are kept.
+type Line = (&'static str, &'static str, &'static str);
+
+#[test]
+fn a_line_says_the_same_with_needless_backslashes(rt: HostRuntime) -> Result<(), Fail> {
+    const ROWS: &[Line] = &[
+        ("as it is printed", "cats,cat.N+x:p", "[cats cat N+x:p]"),
+        ("no lemma", "cats,.N", "[cats cats N]"),
+        ("a comment", "cats,cat.N+x/old", "[cats cat N+x]"),
+        ("in the comment", "cats,cat.N/o\\ld", "[cats cat N]"),
+        ("in the form", "c\\ats,cat.N+x:p", "[cats cat N+x:p]"),
+        ("in the lemma", "cats,c\\at.N+x:p", "[cats cat N+x:p]"),
+        ("in the codes", "cats,cat.N+\\x:p", "[cats cat N+x:p]"),
+        ("one that is needed", "cats,cat.N\\+x", "[cats cat N\\+x]"),
+        ("a mark", "a=b,.N", "[a b a b N][a-b a-b N]"),
+    ];
+    for (name, line, want) in ROWS {
+        let entries = content_in(rt.alloc(), line)?;
+        compare(&rt, name, kept(rt.alloc(), &entries)?.as_str(), want);
+    }
+    Ok(())
+}
+
+/// Three lines of two forms, all of the same codes, whose text has so many bytes; and the entries.
+fn lines_of_codes(alloc: Global, bytes: usize) -> Result<(String, String), AllocError> {
+    let codes = "N".repeat(alloc, bytes)?;
+    let lines = format!(in alloc; "b,.{codes}\na,.{codes}\nb,.{codes}")?;
+    let want = format!(in alloc; "[a a {codes}][b b {codes}]")?;
+    Ok((lines, want))
+}
+
+#[test]
+fn codes_of_any_length_are_kept(rt: HostRuntime) -> Result<(), Fail> {
+    for bytes in [1, 64, 65, 1000] {
+        let (lines, want) = lines_of_codes(rt.alloc(), bytes)?;
+        let entries = content_in(rt.alloc(), lines.as_str())?;
+        let shown = kept(rt.alloc(), &entries)?;
+        compare(&rt, "codes", shown.as_str(), want.as_str());
+    }
+    Ok(())
+}
+
+/// So many lines of one form, and their entries.
+fn lines_of_one_form(alloc: Global, many: usize) -> Result<(String, String), AllocError> {
+    let mut lines = String::new(alloc);
+    let mut want = String::new(alloc);
+    for number in 0..many {
+        lines.push_str(format!(in alloc; "a,.N+{number}\n")?.as_str())?;
+        want.push_str(format!(in alloc; "[a a N+{number}]")?.as_str())?;
+    }
+    Ok((lines, want))
+}
+
+#[test]
+fn entries_of_one_form_stand_once_however_many_differ(rt: HostRuntime) -> Result<(), Fail> {
+    for many in [1, 7, 8, 9, 50] {
+        let (mut lines, want) = lines_of_one_form(rt.alloc(), many)?;
+        let once = content_in(rt.alloc(), lines.as_str())?;
+        let shown = kept(rt.alloc(), &once)?;
+        compare(&rt, "each once", shown.as_str(), want.as_str());
+        lines.push_str("a,.N+0\n")?;
+        let again = content_in(rt.alloc(), lines.as_str())?;
+        let shown = kept(rt.alloc(), &again)?;
+        compare(&rt, "the first once more", shown.as_str(), want.as_str());
+    }
+    Ok(())
+}
