@@ -3,6 +3,7 @@
 //     fst_map build FORMS MAP     one form a line, in the order of its bytes; its value is the number of its line
 //     fst_map look MAP TEXT       each word of the text as it is written, and else in lower case; prints how many were
 //                                 found, and how many different words there are
+//     fst_map split MAP TEXT      the same without a look-up: reads both files, and counts the different words
 //     fst_map report MAP DICTIONARY TEXT
 //                                 the report of `dico`: the dictionary's lines of each word, those of each longer span,
 //                                 and the words without a line; the dictionary's lines are those of the map's forms
@@ -34,6 +35,17 @@ fn look(map: &str, text: &str) {
         found += is_there as usize;
     }
     println!("{} {}", found, known.len());
+}
+
+fn split(map: &str, text: &str) {
+    let map = Map::from_bytes(read(map).unwrap()).unwrap();
+    let text = String::from_utf8(read(text).unwrap()).unwrap();
+    let mut known: HashMap<&str, bool> = HashMap::new();
+    let mut found = 0;
+    for word in text.split(|c: char| !c.is_alphabetic()).filter(|word| !word.is_empty()) {
+        found += *known.entry(word).or_insert(true) as usize;
+    }
+    println!("{} {} {}", map.len(), found, known.len());
 }
 
 /// Puts the numbers of the forms that the text begins with, up to the end of a word behind the first one.
@@ -110,7 +122,8 @@ fn main() {
     match words[1].as_str() {
         "build" => build(&words[2], &words[3]),
         "look" => look(&words[2], &words[3]),
+        "split" => split(&words[2], &words[3]),
         "report" => report(&words[2], &words[3], &words[4]),
-        other => panic!("build, look or report, and not {}", other),
+        other => panic!("build, look, split or report, and not {}", other),
     }
 }

@@ -1,9 +1,9 @@
 #!/usr/bin/env python3
 """Times `unitex compress`, and `unitex dico` with the image that it writes and with the dictionary itself, on the data of
 dico.py: 150,000 and 300,000 lines; then the larger image over a text of 40 MB. Beside them a program over the map of the
-crate fst (fst_map.rs), which makes a map of the same forms, sorted, looks the words of the same text up in it, and writes
-the same report by it. Prints the best of three runs in turn, and peak memory, that of `compress` by line. Ends where the
-two reports differ.
+crate fst (fst_map.rs), which makes a map of the same forms, sorted, looks the words of the same text up in it, finds these
+words without a look-up, and writes the same report by it. Prints the best of three runs in turn, and peak memory, that of
+`compress` by line. Ends where the two reports differ.
 
 Needs the built program (make build), rustc, the sources of fst 0.3 and byteorder as Debian's package librust-fst-dev has
 them, and a folder to write to (bench/data). REGISTRY tells where the sources are.
@@ -67,6 +67,7 @@ def main():
             ("fst, a map of the forms", [PEER, "build", ordered, table], None),
             ("unitex dico, the image", [PROGRAM, "dico", text, letters, image], report),
             ("fst, the words looked up", [PEER, "look", table, text], None),
+            ("fst, no word looked up", [PEER, "split", table, text], None),
             ("fst, the same report", [PEER, "report", table, dictionary, text], peer_report),
             ("unitex dico, the dictionary", [PROGRAM, "dico", text, letters, dictionary], None),
         ]
@@ -90,6 +91,7 @@ def over_longer_text(size, letters):
     print(f"{size} lines, a text of {os.path.getsize(text) / 1e6:.1f} MB")
     for name, arguments in [("unitex dico, the image", [PROGRAM, "dico", text, letters, image]),
                             ("fst, the words looked up", [PEER, "look", table, text]),
+                            ("fst, no word looked up", [PEER, "split", table, text]),
                             ("fst, the same report", [PEER, "report", table, dictionary, text])]:
         seconds, memory = best(arguments)
         print(f"  {name:28}  {seconds:.3f} s  {memory / 1e6:.1f} MB")

@@ -53,15 +53,6 @@ ends_like P Q same ends are = record {
   ascending = are.ascending;
 }
 
--- no position
-pub no_ends : (P : ℕ → Type 0) → ((k : ℕ) → P k → ⊥) → (ends : List ℕ) → ends ≡ [] →
-    AreEnds P ends
-no_ends P none ends is =
-    subst (AreEnds P) (sym is) (record {
-      exactly = λ k. (λ has. absurd (Contains-none k has), λ p. absurd (none k p));
-      ascending = λ k within. absurd (omega (arith, within));
-    })
-
 -- one position more
 pub more_ends : (P : ℕ → Type 0) (ends : List ℕ) (end : ℕ) → AreEnds P ends →
     All (λ k. k < end) ends → AreEnds (λ k. P k ⊎ (k ≡ end)) (ends ++ end ∷ [])
@@ -94,36 +85,6 @@ one_end P end same ends is =
       exactly = λ k. (λ has. Contains-none k has, λ p. absurd p);
       ascending = λ k within. absurd (omega (arith, within));
     }) (λ k d within. absurd (omega (arith, within)))))
-
--- the places below another of which something holds, with one place more
-module _ (P : ℕ → Type 0) (place : ℕ) (places : List ℕ)
-    (are : AreEnds (λ k. (k < place) × P k) places) where
-  pub place_taken : All (λ k. k < place) places → P place →
-      AreEnds (λ k. (k < place + 1) × P k) (places ++ place ∷ [])
-  place_taken below here =
-      ends_like (λ k. ((k < place) × P k) ⊎ (k ≡ place)) (λ k. (k < place + 1) × P k)
-      (λ k. (
-        λ either. elim either [
-          | inl old ↦ (omega (arith, old.0), old.1)
-          | inr same ↦ (omega (arith, same), subst P (sym same) here)
-        ],
-        λ is. elim (cases_lt k place) [
-          | inl lt ↦ inl (lt, is.1)
-          | inr past ↦ inr (omega (arith, past, is.0))
-        ],
-      )) (places ++ place ∷ []) (more_ends (λ k. (k < place) × P k) places place are below)
-
-  pub place_left : (P place → ⊥) → AreEnds (λ k. (k < place + 1) × P k) places
-  place_left isnt =
-      ends_like (λ k. (k < place) × P k) (λ k. (k < place + 1) × P k)
-      (λ k. (
-        λ old. (omega (arith, old.0), old.1),
-        λ is. elim (cases_lt k place) [
-          | inl lt ↦ (lt, is.1)
-          | inr past ↦ let same : k ≡ place = omega (arith, past, is.0) in
-              absurd (isnt (subst P same is.1))
-        ],
-      )) places are
 
 -- all digits from a place on end at one place
 pub digits_are : (tokens : List Token) (i end : ℕ) → i < end →

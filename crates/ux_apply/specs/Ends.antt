@@ -11,18 +11,12 @@ use Rattle.ux_tokens.specs.Tokens.{Token}
 use Rattle.ux_apply.specs.declared.spelling.Case.{Case}
 use Rattle.ux_apply.specs.declared.spelling.Case.TheVariants.{Lower, Upper, First}
 use Rattle.ux_apply.specs.Accepting.{BeginsSo}
-use Rattle.ux_apply.specs.Tables.{Tables}
 
 -- the characters are of the case: lower-case or upper-case ones alone, or an upper-case one first
 abbrev pub IsOfCase : Letters → Case → List ℕ → Type 0
 IsOfCase alphabet Lower text = All (IsLower alphabet) text
 IsOfCase alphabet Upper text = All (IsUpper alphabet) text
 IsOfCase alphabet First text = BeginsSo (IsUpper alphabet) text
-
--- a compound entry begins at the place
-abbrev pub BeginsCompound : Tables → (i : ℕ) → Type 0
-BeginsCompound tables i =
-    (row : List (ℕ × Entry)) × (slice_get tables.compounds i ≡ Some row) × (row ≡ [] → ⊥)
 
 -- the token at the place is so
 abbrev pub IsThere : List Token → (place : ℕ) → (Token → Type 0) → Type 0

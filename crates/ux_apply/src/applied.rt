@@ -3,12 +3,10 @@
 //! Simple entries are kept once for each different token, and compound ones only for the tokens at
 //! which some begin.
 
-ghost use Rattle.std.specs.Prelude.{◌≡◌, ◌<◌, ◌+◌, ◌↔◌, ℕ, List, [], Some, Contains, IfOk, IsSomeAnd, IsTrue, length, slice_get};
-ghost use Rattle.ux_dela.specs.declared.entry.Entry.{Entry};
+ghost use Rattle.std.specs.Prelude.{◌≡◌, ◌<◌, ◌+◌, ◌↔◌, ℕ, Contains, IfOk, IsSomeAnd, length, slice_get};
 ghost use Rattle.ux_apply.specs.Applying.{contents};
 ghost use Rattle.ux_apply.specs.Accepting.{Accepts};
 ghost use Rattle.ux_apply.specs.Belonging.{Belongs};
-ghost use Rattle.ux_apply.specs.Ends.{BeginsCompound};
 ghost use Rattle.ux_apply.specs.Tables.{AreApplied};
 ghost use Rattle.std.specs.List.Sorted.{IsStrictlyIncreasing};
 
@@ -111,30 +109,6 @@ impl Applied {
         ensures { result.now ≡ self.now.unknown }
     {
         self.unknown.as_slice()
-    }
-
-    /// The places of the tokens at which a compound entry begins, ascending. Takes a look-up a token.
-    pub fn compound_places(&self, alloc: Global) -> Mem<Vec<usize>>
-        ensures exactly { IfOk result (λ places. (i : ℕ) → Contains places.items i
-            ↔ ((row : List (ℕ × Entry)) × (slice_get self.now.compounds i ≡ Some row)
-            × (row ≡ [] → ⊥))) }
-        ensures ascending { IfOk result (λ places. IsStrictlyIncreasing places.items) }
-    {
-        let mut places = Vec::new(alloc);
-        for place in 0..self.words.len() {
-            if self.begins_compound(place) {
-                places.push(place)?;
-            }
-        }
-        Ok(places)
-    }
-
-    /// Whether a compound entry begins at a token.
-    fn begins_compound(&self, i: usize) -> bool
-        requires { i < length self.now.compounds }
-        ensures { IsTrue result ↔ BeginsCompound self.now i }
-    {
-        !self.compounds(i).is_empty()
     }
 
     /// The positions after the spans that the mask accepts from a token on, ascending. Takes one

@@ -24,8 +24,6 @@ pub mod priority;
 mod spelling;
 mod starts;
 mod tagged;
-#[cfg(test)]
-mod tests;
 mod unknown;
 mod words;
 

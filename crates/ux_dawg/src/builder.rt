@@ -64,8 +64,8 @@ impl Builder {
     }
 
     /// Whether the forms still have fewer than 2^32 characters together with a form of these. Takes
-    /// one step. It is for who knows that the form comes after the last one.
-    pub fn has_room_for(&self, letters: &[char]) -> bool
+    /// one step.
+    fn has_room_for(&self, letters: &[char]) -> bool
         ensures { IsTrue result ↔ HasRoomFor self.now letters.now }
     {
         letters.len() <= (u32::MAX - self.many) as usize

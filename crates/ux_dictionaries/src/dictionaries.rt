@@ -10,8 +10,7 @@ use ux_apply::Priority;
 use ux_base::{Folder, Txt};
 use ux_dela::DelaError;
 use ux_image_files::{OfImage, is_image, read_lexicon};
-use ux_image_lexicon::read_text as read_forms;
-use ux_lexicon::AnyLexicon;
+use ux_lexicon::{AnyLexicon, read_dictionary as read_forms};
 use ux_plan::{OfDecode, Stop, base_of, read_decoded, refused};
 
 /// A command's reasons, where refused dictionaries have one among them.
@@ -85,7 +84,7 @@ fn read_imaged<F: Folder, R: OfImage>(
     Ok((Priority::of(base_of(name)), AnyLexicon::Image(lexicon)))
 }
 
-/// Reads a file of forms as a dictionary, and makes the automaton of its forms.
+/// Reads a file of forms as a dictionary.
 #[tactic(auto, using(ux_plan::proofs::Decoded::decoding))]
 fn read_text<F: Folder, R: OfDecode + OfDela>(
     alloc: Global,
@@ -100,7 +99,7 @@ fn read_text<F: Folder, R: OfDecode + OfDela>(
 {
     let text = read_decoded(alloc, name, folder)?;
     match read_forms(alloc, text.as_str()) {
-        Ok(lexicon) => Ok((Priority::of(base_of(name)), AnyLexicon::Image(lexicon))),
+        Ok(lexicon) => Ok((Priority::of(base_of(name)), lexicon)),
         Err(DelaError::NoMemory) => Err(Stop::NoMemory),
         Err(error) => Err(refused(alloc, name, R::of_dela(error))),
     }

@@ -1,8 +1,8 @@
 //! The dictionaries of a command, in the order of their names.
 //!
 //! File names go in, and the dictionaries of those files with their priorities come out, or the stop
-//! that names the first file that isn't accepted. A file of forms becomes an automaton, and an image stays
-//! the one that it is (`AnyLexicon`). A command has reasons of its own, of which one is
+//! that names the first file that isn't accepted. A file of forms mostly becomes an automaton, and an
+//! image stays the one that it is (`AnyLexicon`). A command has reasons of its own, of which one is
 //! that of a file without a text (`OfDecode` of `ux_plan`), one that of a refused dictionary (`OfDela`)
 //! and one that of a refused image (`OfImage` of `ux_image_files`). What such a file is stands in
 //! `specs/Dictionaries.antt`, and that it is so in one way in `proofs/DictionaryLaws.antt`. Begin with

@@ -9,7 +9,7 @@ use ux_alphabet::Alphabet;
 use ux_dela::{DelaError, Entry, print_delaf, read_delaf};
 use ux_dict::{ListLexicon, Stored, content_in, content_of, different, store_all};
 use ux_image_lexicon::read_text;
-use ux_lexicon::{AnyLexicon, Lexicon};
+use ux_lexicon::{AnyLexicon, Lexicon, read_dictionary};
 
 /// The pairs of letters in all rows: `X` has none.
 pub(crate) const PAIRS: &str = "Tt\nHh\nEe\nCc\nAa\nÉé\n";
@@ -223,6 +223,34 @@ fn a_long_form_is_found(rt: HostRuntime) -> Result<(), Fail> {
     Ok(())
 }
 
+/// What a file of forms became.
+fn kind_of(lexicon: &AnyLexicon) -> &'static str {
+    match lexicon {
+        AnyLexicon::List(_) => "a list",
+        AnyLexicon::Image(_) => "an automaton",
+    }
+}
+
+/// The dictionary of a file with a form of so many letters `a`, whose line has three bytes more, and two
+/// entries of `b`.
+fn read_with_long_form(alloc: Global, letters: usize) -> Result<AnyLexicon, Fail> {
+    let mut lines = "a".repeat(alloc, letters)?;
+    lines.push_str(",.N\nb,.N\nb,.V\n")?;
+    Ok(read_dictionary(alloc, lines.as_str())?)
+}
+
+#[test]
+fn a_file_with_a_longer_line_stays_a_list(rt: HostRuntime) -> Result<(), Fail> {
+    for (letters, kind) in [(65_533, "an automaton"), (65_534, "a list")] {
+        let lexicon = read_with_long_form(rt.alloc(), letters)?;
+        compare(&rt, "what it became", kind_of(&lexicon), kind);
+        compare(&rt, "the longest", lexicon.longest(), letters);
+        compare(&rt, "the short form", lexicon.exact("b"), Some(2));
+        compare(&rt, "all entries", lexicon.count(), 3);
+    }
+    Ok(())
+}
+
 #[test]
 fn a_list_makes_the_dictionary_of_its_file(rt: HostRuntime) -> Result<(), Fail> {
     let entries = read_delaf(rt.alloc(), "b,.N\na,.N\nb,.N")?;
@@ -240,6 +268,8 @@ fn the_first_bad_line_of_a_dictionary_is_named(rt: HostRuntime) {
     compare(&rt, "a list", list, Some(line_three));
     let automaton = read_text(rt.alloc(), LINES).err();
     compare(&rt, "an automaton", automaton, Some(line_three));
+    let either = read_dictionary(rt.alloc(), LINES).err();
+    compare(&rt, "either", either, Some(line_three));
 }
 
 #[test]

@@ -18,8 +18,6 @@ mod name;
 mod named;
 mod reader;
 mod sign;
-#[cfg(test)]
-mod tests;
 
 pub use error::MaskError;
 pub use lexical::{Lexical, Parts};

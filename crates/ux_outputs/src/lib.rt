@@ -14,8 +14,6 @@ mod rendering;
 mod span;
 mod table;
 mod taking;
-#[cfg(test)]
-mod tests;
 mod variables;
 
 pub use event::Event;

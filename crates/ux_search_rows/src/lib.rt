@@ -5,15 +5,21 @@
 #![tactic(auto)]
 
 #[cfg(test)]
+mod applied;
+#[cfg(test)]
 mod comparing;
 #[cfg(test)]
 mod graphs;
 #[cfg(test)]
 mod locate;
 #[cfg(test)]
+mod masks;
+#[cfg(test)]
 mod net;
 #[cfg(test)]
 mod net_masks;
+#[cfg(test)]
+mod outputs;
 #[cfg(test)]
 mod walk;
 #[cfg(test)]

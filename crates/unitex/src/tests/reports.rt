@@ -319,12 +319,9 @@ fn reported_long<'a>(alloc: Global, text: &'a str, dic: &'a str) -> Mem<Outcome>
     )
 }
 
-/// A word of 10,000 characters, with this behind it.
-fn long_word(alloc: Global, behind: &str) -> Result<String, AllocError> {
-    let mut word = String::new(alloc);
-    for _ in 0..10_000 {
-        word.push('a')?;
-    }
+/// A word of so many characters, with this behind it.
+fn long_word(alloc: Global, length: usize, behind: &str) -> Result<String, AllocError> {
+    let mut word = "a".repeat(alloc, length)?;
     word.push_str(behind)?;
     Ok(word)
 }
@@ -354,11 +351,15 @@ fn check_long(
 }
 
 #[test]
-fn finds_a_form_of_ten_thousand_characters(rt: HostRuntime) -> Result<(), Fail> {
+fn finds_forms_of_very_many_characters(rt: HostRuntime) -> Result<(), Fail> {
     let alloc = rt.alloc();
-    let text = long_word(alloc, "")?;
-    let dic = long_word(alloc, ",.N\n")?;
-    check_long(&rt, alloc, "a long form", text.as_str(), dic.as_str(), 1)
+    // The dictionary of the longer one isn't made into an automaton.
+    for length in [10_000, 70_000] {
+        let text = long_word(alloc, length, "")?;
+        let dic = long_word(alloc, length, ",.N\n")?;
+        check_long(&rt, alloc, "a long form", text.as_str(), dic.as_str(), 1)?;
+    }
+    Ok(())
 }
 
 /// The letters of the words of four letters.

@@ -5,13 +5,17 @@
 //! space 3, fox 4, comma 5, zyx 6, {S} 7, 1 8, 2 9, space 10, {cats,..} 11, {in fact,..} 12, {STOP} 13,
 //! hyphen 14, x 15.
 
-use crate::applied::Applied;
-use crate::ends::accepted;
-use crate::priority::Priority;
+ghost use Rattle.std.specs.Prelude.{◌≡◌, ◌<◌};
+ghost use Rattle.ux_apply.specs.Belonging.{Belongs};
+
 use std::alloc::{AllocError, Global};
+use std::marker::Brand;
 use std::process::Abort;
+use std::sync::ledger::{Blank, Ledger};
 use std::test::Fail;
 use ux_alphabet::Alphabet;
+use ux_apply::{Applied, Priority};
+use ux_base::{Mem, Steps};
 use ux_dict::ListLexicon;
 use ux_masks::Mask;
 use ux_tokens::Text;
@@ -42,10 +46,37 @@ fn found(alloc: Global, row: &Row) -> Result<String, Fail> {
     let dics = [(Priority::Normal, ListLexicon::read(alloc, LINES)?)];
     let applied = Applied::of(alloc, &text, &alphabet, &dics)?;
     let mask = Mask::read(alloc, row.0)?;
-    if row.1 >= text.len() {
+    Ok(found_by::<Brand>(
+        alloc,
+        &applied,
+        &text,
+        &alphabet,
+        &mask,
+        row.1,
+        Blank::new(1),
+    )?)
+}
+
+/// The same of one mask, with no step taken before.
+fn found_by<L: Ledger>(
+    alloc: Global,
+    applied: &Applied,
+    text: &Text,
+    alphabet: &Alphabet,
+    mask: &Mask,
+    place: usize,
+    blank: Blank,
+) -> Mem<String>
+    requires name { blank.name ≡ L.name }
+    requires parts { blank.parts ≡ L.parts }
+    requires some { 0 < blank.parts }
+    requires belongs { Belongs alphabet.now text.now applied.now }
+{
+    if place >= text.len() {
         return Ok(String::from_str(alloc, "outside")?);
     }
-    let ends = accepted(alloc, &applied, &text, &alphabet, &mask, row.1)?;
+    let mut steps = Steps::<L>::new(blank);
+    let ends = applied.ends(alloc, text, alphabet, mask, place, &mut steps)?;
     Ok(printed(alloc, &ends)?)
 }
 

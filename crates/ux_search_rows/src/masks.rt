@@ -1,11 +1,11 @@
 //! Rows of mask texts: what they read as, where they are refused, and which entries meet them.
 
-use crate::{Mask, MaskError, Parts};
 use std::alloc::{AllocError, Global};
 use std::process::Abort;
 use std::test::Fail;
 use ux_base::{Lst, Txt};
 use ux_dela::read_delaf;
+use ux_masks::{Mask, MaskError, Parts};
 
 /// Asserts that the text is read as this mask.
 fn reads_as(rt: &impl Abort, alloc: Global, text: &str, want: &Mask) -> Result<(), Fail> {

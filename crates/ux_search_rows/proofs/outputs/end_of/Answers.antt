@@ -3,7 +3,7 @@ use Rattle.std.proofs.Common.{subst, sym}
 use Rattle.ux_outputs.specs.declared.event.Event.{Event}
 use Rattle.ux_outputs.specs.Following.{Follows}
 use Rattle.ux_outputs.proofs.RenderLemmas.{drop-item}
-use Rattle.ux_outputs.proofs.tests.end_of.Goals as goal
+use Rattle.ux_search_rows.proofs.outputs.end_of.Goals as goal
 
 pub loop-event-preserved : goal.loop-event-preserved
 loop-event-preserved c = λ end later.

@@ -7,12 +7,12 @@ ghost use Rattle.std.specs.Prelude.{◌≡◌, ◌∷◌, IfSome, List, ℕ};
 ghost use Rattle.ux_outputs.specs.Following.{Follows};
 ghost use Rattle.ux_outputs.specs.declared.event.Event.{Event};
 
-use crate::{Event, Hit, render};
 use std::alloc::Global;
 use std::process::Abort;
 use std::test::Fail;
 use ux_alphabet::Alphabet;
 use ux_base::{Mem, Mode, NoVar, Txt};
+use ux_outputs::{Event, Hit, render};
 use ux_tokens::Text;
 
 /// A name, the text, the events, and the hits in ignore, merge and replace mode.

@@ -1,6 +1,6 @@
 use Rattle.std.specs.Prelude.{ℕ, drop}
 use Rattle.ux_outputs.specs.Following.{Follows}
-use Rattle.ux_outputs.proofs.tests.end_of.Given as goal
+use Rattle.ux_search_rows.proofs.outputs.end_of.Given as goal
 
 -- where the rest ends, all events end
 abbrev pub invariant-loop-event : goal.invariant-loop-event
