@@ -1,9 +1,9 @@
 #!/usr/bin/env python3
 """Measures `unitex check`, `dico` and `compress` on dictionaries of one line of 50 MB each: with a long form, a form of escaped
-commas, a long lemma, a form and a lemma, a long comment, and very many codes of both kinds. The text of `dico` has the short
+commas or of marks, a long lemma, a form and a lemma, a long comment, and very many codes of both kinds. The text of `dico` has the short
 forms. Beside them `wc -l`. Prints the seconds of one run and peak memory by the size of the file.
 
-`compress` takes up to 6 GB, for the long form. Needs the built program (make build) and a folder to write to (bench/data).
+`compress` takes up to 8 GB, for the form of marks. Needs the built program (make build) and a folder to write to (bench/data).
 """
 import os
 
@@ -13,6 +13,7 @@ LETTERS = 50_000_000
 LINES = {
     "a form": lambda: "a" * LETTERS + ",.N",
     "a form of commas": lambda: "a\\," * (LETTERS // 3) + ",.N",
+    "a form of marks": lambda: "a=" * (LETTERS // 2) + ",.N",
     "a lemma": lambda: "a," + "b" * LETTERS + ".N",
     "a form and a lemma": lambda: "a" * (LETTERS // 2) + "," + "a" * (LETTERS // 4) + "b" * (LETTERS // 4) + ".N",
     "a comment": lambda: "a,.N/" + "b" * LETTERS,
