@@ -8,7 +8,7 @@ use Rattle.ux_dela.specs.declared.entry.Entry.{Entry}
 use Rattle.ux_dict.specs.Content.{AreDifferent, IsEarlier}
 use Rattle.ux_dict.specs.Forms.{IsChosen, none, kept, left}
 use Rattle.ux_dict.proofs.ContentLemmas.{first_place}
-use Rattle.ux_dict.proofs.PairLemmas.{place_of, same_members}
+use Rattle.ux_base.proofs.OrderedLists.{place_of, same_members}
 use Rattle.ux_tokens.specs.declared.kind.Kind.{Kind}
 use Rattle.ux_tokens.specs.declared.kind.Kind.TheVariants.{Word, Space, Other, Sentence, Stop, Tag}
 use Rattle.ux_tokens.specs.Tokens.{Token}

@@ -8,7 +8,8 @@ use Rattle.std.proofs.lemmas.List.{get_or-take, get_or-drop, length-drop, length
 use Rattle.std.proofs.lemmas.List.Elements.{Contains-append_left, Contains-append_right, Contains-append_cases}
 use Rattle.std.proofs.lemmas.Option.{same_Some}
 use Rattle.ux_closure.specs.declared.stand.Stand.{Stand}
-use Rattle.ux_net.proofs.JoinedLemmas.{contains_mapped, contained_mapped, less_or}
+use Rattle.ux_base.proofs.Lists.{less_or}
+use Rattle.ux_base.proofs.JoinedLists.{contains_mapped, contained_mapped}
 use Rattle.ux_net.specs.declared.label.Label.{Label}
 use Rattle.ux_net.specs.declared.label.Label.TheVariants as label
 use Rattle.ux_outputs.specs.Rendering.{skip}

@@ -11,7 +11,7 @@ use Rattle.ux_net.specs.declared.label.Label.TheVariants as label
 use Rattle.ux_net.specs.declared.net_graph.NetGraph.{NetGraph}
 use Rattle.ux_net.specs.Words.{Letter, plain, piece, context, letters, put_by, Step, Grammar, Run, stop, along, across}
 use Rattle.ux_net.specs.Nets.{net_grammar, states_of, IsNetStep}
-use Rattle.ux_net.proofs.JoinedLemmas.{nothing_in, first_or_later, contains_first}
+use Rattle.ux_base.proofs.Lists.{nothing_in, first_or_later, contains_first}
 use Rattle.ux_outputs.specs.declared.event.Event.{Event}
 use Rattle.ux_meaning.specs.Inputs.{Input}
 use Rattle.ux_meaning.specs.Meaning.{Stays, Seq, done, takes, stays, calls, holds, refused, RefusesBy}

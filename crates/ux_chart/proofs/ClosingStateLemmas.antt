@@ -11,7 +11,7 @@ use Rattle.ux_net.specs.declared.net_graph.NetGraph.{NetGraph}
 use Rattle.ux_net.specs.declared.state.Edge.{Edge}
 use Rattle.ux_net.specs.declared.state.State.{State}
 use Rattle.ux_net.specs.Nets.{states_in, states_of}
-use Rattle.ux_net.proofs.JoinedLemmas.{less_or}
+use Rattle.ux_base.proofs.Lists.{less_or}
 use Rattle.ux_chart.specs.ClosingStates.{AreMarks, SomeCloses, marks_at}
 use Rattle.ux_chart.specs.Search.{ClosesInto}
 use Rattle.ux_chart.specs.declared.config.Config.{Config}

@@ -8,7 +8,7 @@ use Rattle.ux_net.specs.declared.label.Label.{Label}
 use Rattle.ux_net.specs.declared.label.Label.TheVariants as label
 use Rattle.ux_net.specs.declared.net_graph.NetGraph.{NetGraph}
 use Rattle.ux_net.specs.Words.{plain}
-use Rattle.ux_net.proofs.JoinedLemmas.{less_or}
+use Rattle.ux_base.proofs.Lists.{less_or}
 use Rattle.ux_meaning.specs.Inputs.{Input}
 use Rattle.ux_outputs.specs.declared.event.Event.TheVariants as event
 use Rattle.ux_parts.specs.declared.parts.Parts.{Parts}

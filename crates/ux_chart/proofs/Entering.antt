@@ -8,7 +8,7 @@ use Rattle.ux_net.specs.declared.state.State.{State}
 use Rattle.ux_net.specs.declared.net_graph.NetGraph.{NetGraph}
 use Rattle.ux_net.specs.Words.{Step}
 use Rattle.ux_net.specs.Nets.{states_of, states_in, net_grammar, IsNetStep}
-use Rattle.ux_net.proofs.JoinedLemmas.{nothing_in, less_or}
+use Rattle.ux_base.proofs.Lists.{nothing_in, less_or}
 use Rattle.ux_meaning.specs.Inputs.{Input}
 use Rattle.ux_parts.specs.declared.parts.Parts.{Parts}
 use Rattle.ux_parts.specs.Parts.{number_of, Opens, ArePartsOf}

@@ -4,7 +4,7 @@ use Rattle.std.specs.Prelude.{Contains, Some, None, slice_get}
 use Rattle.std.specs.List.Sorted.{IsStrictlyIncreasing}
 use Rattle.std.proofs.lemmas.Option.{same_Some, slice_get_within, slice_get_cases, none-some}
 use Rattle.ux_net.specs.declared.net_graph.NetGraph.{NetGraph}
-use Rattle.ux_net.proofs.JoinedLemmas.{nothing_in, less_or}
+use Rattle.ux_base.proofs.Lists.{nothing_in, less_or}
 use Rattle.ux_meaning.specs.Inputs.{Input}
 use Rattle.ux_parts.specs.declared.part.Part.{Part}
 use Rattle.ux_parts.specs.declared.parts.Parts.{Parts}

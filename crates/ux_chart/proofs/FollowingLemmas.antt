@@ -6,7 +6,7 @@ use Rattle.ux_net.specs.declared.label.Label.TheVariants as label
 use Rattle.ux_net.specs.declared.net_graph.NetGraph.{NetGraph}
 use Rattle.ux_net.specs.Words.{IsBody}
 use Rattle.ux_net.specs.Nets.{net_grammar}
-use Rattle.ux_net.proofs.JoinedLemmas.{nothing_in, first_or_later, contains_first}
+use Rattle.ux_base.proofs.Lists.{nothing_in, first_or_later, contains_first}
 use Rattle.ux_meaning.specs.Inputs.{Input}
 use Rattle.ux_meaning.proofs.Levels.{refuses_iff}
 use Rattle.ux_parts.specs.declared.parts.Parts.{Parts}

@@ -11,7 +11,7 @@ use Rattle.ux_net.specs.declared.state.State.{State}
 use Rattle.ux_net.specs.declared.net_graph.NetGraph.{NetGraph}
 use Rattle.ux_net.specs.Words.{mark_of}
 use Rattle.ux_net.specs.Nets.{net_grammar, states_of}
-use Rattle.ux_net.proofs.JoinedLemmas.{nothing_in}
+use Rattle.ux_base.proofs.Lists.{nothing_in}
 use Rattle.ux_meaning.specs.Inputs.{Input}
 use Rattle.ux_parts.specs.declared.parts.Parts.{Parts}
 use Rattle.ux_parts.specs.Runs.{From, Ends, Closes}

@@ -10,7 +10,8 @@ use Rattle.ux_net.specs.declared.state.Edge.{Edge}
 use Rattle.ux_net.specs.declared.net_graph.NetGraph.{NetGraph}
 use Rattle.ux_net.specs.Words.{Step}
 use Rattle.ux_net.specs.Nets.{net_grammar, states_of, IsNetStep}
-use Rattle.ux_net.proofs.JoinedLemmas.{nothing_in, first_or_later, contains_first, contains_later, contains_joined}
+use Rattle.ux_base.proofs.Lists.{nothing_in, first_or_later, contains_first, contains_later}
+use Rattle.ux_base.proofs.JoinedLists.{contains_joined}
 use Rattle.ux_meaning.specs.Inputs.{Input}
 use Rattle.ux_parts.specs.declared.part.Part.{Part}
 use Rattle.ux_parts.specs.declared.parts.Parts.{Parts}

@@ -5,7 +5,7 @@ use Rattle.std.specs.List.Sorted.{IsStrictlyIncreasing, IsNonDecreasingBy}
 use Rattle.std.proofs.lemmas.List.{get_or_default}
 use Rattle.std.proofs.lemmas.Option.{same_Some, slice_get_within, slice_get-get_or}
 use Rattle.std.proofs.lemmas.List.Kept.{AllPairs-from_increasing}
-use Rattle.ux_net.proofs.JoinedLemmas.{less_or}
+use Rattle.ux_base.proofs.Lists.{less_or}
 use Rattle.ux_chart.specs.declared.table.Answer.{Answer}
 use Rattle.ux_chart.specs.declared.table.Stretch.{Stretch}
 use Rattle.ux_chart.specs.declared.table.Table.{Table}

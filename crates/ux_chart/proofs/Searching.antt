@@ -13,7 +13,7 @@ use Rattle.ux_net.specs.declared.state.Edge.{Edge}
 use Rattle.ux_net.specs.declared.state.State.{State}
 use Rattle.ux_net.specs.declared.net_graph.NetGraph.{NetGraph}
 use Rattle.ux_net.specs.Nets.{net_grammar, states_of}
-use Rattle.ux_net.proofs.JoinedLemmas.{nothing_in, contains_first, first_or_later}
+use Rattle.ux_base.proofs.Lists.{nothing_in, contains_first, first_or_later}
 use Rattle.ux_meaning.specs.Inputs.{Input}
 use Rattle.ux_parts.specs.Runs.{NextBy}
 use Rattle.ux_chart.specs.declared.config.Config.{Config}

@@ -5,7 +5,7 @@ use Rattle.std.specs.List.{list_any}
 use Rattle.std.proofs.lemmas.List.{get_or-take, length-take, take_more}
 use Rattle.indexmap.specs.IndexSet.{insert_key}
 use Rattle.indexmap.proofs.CallerLemmas.{Contains-list_any}
-use Rattle.ux_net.proofs.JoinedLemmas.{nothing_in, contains_first}
+use Rattle.ux_base.proofs.Lists.{nothing_in, contains_first}
 use Rattle.ux_chart.specs.Search.{Adds, HasNoDoubles, seen_in}
 
 module _ {T : Type 0} where

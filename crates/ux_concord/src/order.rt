@@ -11,7 +11,7 @@ use crate::characters::compare_backwards;
 use crate::line::LentLine;
 use std::cmp::Ordering;
 use ux_base::Sort;
-use ux_code_points::compare as compare_forwards;
+use ux_base::code_points::compare as compare_forwards;
 
 /// Puts the lines in order. Takes no memory.
 pub(crate) fn sort_lines(sort: Sort, lines: &mut Vec<LentLine>)

@@ -6,7 +6,7 @@ use Rattle.std.proofs.lemmas.List.Elements.{All-nil, All-cons, All-head, All-tai
 use Rattle.std.proofs.lemmas.List.{take_more, take_all, append-nil}
 use Rattle.std.proofs.lemmas.List.Kept.{AllPairs-cons}
 use Rattle.ux_dict.specs.Forms.{IsChosen, none, kept, left}
-use Rattle.ux_dict.proofs.PairLemmas.{AllPairs-tail, AllPairs-head, Contains-nil, Contains-cons_cases, Contains-tail, filter-true, filter-false}
+use Rattle.ux_base.proofs.OrderedLists.{AllPairs-tail, AllPairs-head, Contains-nil, Contains-cons_cases, Contains-tail, filter-true, filter-false}
 
 module _ {X : Type 0} where
   -- each chosen one has the property

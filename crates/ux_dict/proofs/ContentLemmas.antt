@@ -23,7 +23,7 @@ use Rattle.ux_dela.specs.declared.entry.Entry.{Entry}
 use Rattle.ux_dela.specs.Sound.{IsSound}
 use Rattle.ux_dict.specs.Content.{AreDifferent, IsBelow, IsFirstPlace, IsEarlier, ComesBefore, IsContent, IsUpTo, IsDictionary}
 use Rattle.ux_dict.specs.Equal.{entry_eq, entry_eq-Decides}
-use Rattle.ux_dict.proofs.PairLemmas.{place_of, Contains-at, slice_get-append_left, pair_kept, same_members, filter-true, filter-false}
+use Rattle.ux_base.proofs.OrderedLists.{place_of, Contains-at, slice_get-append_left, pair_kept, same_members, filter-true, filter-false}
 
 -- a member of the list has a first place
 pub first_place : (listed : List Entry) (entry : Entry) (k : ℕ) → slice_get listed k ≡ Some entry →

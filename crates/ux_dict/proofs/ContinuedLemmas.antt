@@ -11,7 +11,7 @@ use Rattle.ux_dict.specs.declared.parts.Part.{Part}
 use Rattle.ux_dict.specs.Forms.{IsChosen}
 use Rattle.ux_dict.specs.Parts.{next_rank, BeginsWith, IsPart, GoesOnWith, entries_of, IsContinued}
 use Rattle.ux_dict.proofs.ChosenLemmas.{chosen-none, chosen-same, chosen-either}
-use Rattle.ux_dict.proofs.PairLemmas.{Contains-nil, Contains-cons_cases}
+use Rattle.ux_base.proofs.OrderedLists.{Contains-nil, Contains-cons_cases}
 use Rattle.ux_dict.proofs.PartLemmas.{next_rises, rank_here, rank_lower}
 
 -- the entries of two lists of parts

@@ -8,7 +8,7 @@ use Rattle.std.proofs.lemmas.Bool.{both_ways, cases_Bool, cases_lt, le-ltb, eqb-
 use Rattle.std.proofs.lemmas.List.{drop-map, take-map, take_all, get_or-drop, get_or-map, get_or-take, get_or_default, length-drop, length-map, length-take-le}
 use Rattle.std.proofs.lemmas.Option.{get_or_from_slice_get}
 use Rattle.std.proofs.lemmas.List.Elements.{All-head, All-tail}
-use Rattle.ux_dict.proofs.PairLemmas.{filter-true, filter-false}
+use Rattle.ux_base.proofs.OrderedLists.{filter-true, filter-false}
 
 module _ {X : Type 0} (p : X → Bool) where
   shifted : (b : Bool) (x : X) (xs : List X) (high : ℕ) →

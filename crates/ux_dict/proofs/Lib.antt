@@ -1,5 +1,4 @@
 pub mod LetterLemmas
-pub mod PairLemmas
 pub mod ContentLemmas
 pub mod ItselfLemmas
 pub mod ChosenLemmas

@@ -22,7 +22,7 @@ use Rattle.ux_dict.specs.Keys.{key_of}
 use Rattle.ux_dict.specs.Parts.{rank_of, next_rank, goes_on, ends_by, BeginsWith, IsPart, IsSifted, IsFollowed, GoesOnWith, IsContinued}
 use Rattle.ux_dict.proofs.ChosenLemmas.{chosen-filter, chosen-all, chosen-within, chosen-pairs, chosen-same}
 use Rattle.ux_dict.proofs.EncodeOrder.{below_encode}
-use Rattle.ux_dict.proofs.PairLemmas.{Contains-nil, Contains-cons_cases}
+use Rattle.ux_base.proofs.OrderedLists.{Contains-nil, Contains-cons_cases}
 use Rattle.ux_dict.proofs.TextOrder.{not_below, cmp-front, cmp-take, nil_only, index_equal}
 
 -- a form is the bytes of the characters it begins with, and of those behind

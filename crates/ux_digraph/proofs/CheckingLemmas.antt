@@ -2,7 +2,7 @@
 use Rattle.std.proofs.Common.{arith, ◌≡◌, ℕ, ◌+◌, ◌<◌, ◌≤◌, List, refl, sym, subst, inl, inr, length, get_or, take, true, false, ◌↔◌}
 use Rattle.std.specs.Prelude.{Contains, IsTrue}
 use Rattle.std.proofs.lemmas.List.Elements.{Contains-get_or, Contains-push_cases}
-use Rattle.ux_digraph.proofs.Lists.{take_more, take_whole, less_or}
+use Rattle.ux_base.proofs.Lists.{take_more, take_whole, less_or}
 use Rattle.ux_digraph.proofs.PathsLemmas.{edge_from}
 use Rattle.ux_digraph.specs.Paths.{row_of, IsInside}
 use Rattle.ux_digraph.specs.Checking.{AreBelow}

@@ -2,7 +2,7 @@
 use Rattle.std.proofs.Common.{arith, ◌≡◌, ℕ, zero, suc, ◌+◌, ◌<◌, ◌≤◌, List, [], ◌∷◌, ◌++◌, refl, sym, ◌∙◌, ap, subst, ◌⊎◌, inl, inr, length, get_or, take}
 use Rattle.std.specs.Prelude.{Contains}
 use Rattle.std.proofs.lemmas.List.Elements.{Contains-append_left, Contains-push, Contains-push_cases}
-use Rattle.ux_digraph.proofs.Lists.{less_or}
+use Rattle.ux_base.proofs.Lists.{less_or}
 use Rattle.ux_digraph.proofs.GroupsLemmas.{rises_split, last_is_latest}
 use Rattle.ux_digraph.proofs.MarksLemmas.{same_place, same_number, new_is_not_open, new_is_not_done, open_is_not_done}
 use Rattle.ux_digraph.specs.declared.grouping.Mark.{Mark}

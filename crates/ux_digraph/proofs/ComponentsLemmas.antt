@@ -2,7 +2,7 @@
 -- and a node lies on a cycle where one of its edges stays in its component.
 use Rattle.std.proofs.Common.{arith, ◌≡◌, ℕ, ◌<◌, List, refl, sym, ap, subst, ◌⊎◌, inl, inr, get_or, ◌↔◌}
 use Rattle.std.specs.Prelude.{Contains}
-use Rattle.ux_digraph.proofs.Lists.{same_or, less_or}
+use Rattle.ux_base.proofs.Lists.{same_or, less_or}
 use Rattle.ux_digraph.proofs.PathsLemmas.{edge_from}
 use Rattle.ux_digraph.specs.Paths.{row_of, Path, one, more, IsInside}
 use Rattle.ux_digraph.specs.Components.{AreComponents}

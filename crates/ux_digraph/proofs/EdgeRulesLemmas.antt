@@ -2,7 +2,7 @@
 use Rattle.std.proofs.Common.{arith, ◌≡◌, ℕ, ◌+◌, ◌<◌, List, [], ◌∷◌, ◌++◌, refl, sym, ◌∙◌, ap, subst, inl, inr, length, ◌↔◌}
 use Rattle.std.specs.Prelude.{Contains}
 use Rattle.std.proofs.lemmas.List.Elements.{Contains-append_left, Contains-push, Contains-push_cases}
-use Rattle.ux_digraph.proofs.Lists.{nothing_in, first_or_later, contains_first, less_or}
+use Rattle.ux_base.proofs.Lists.{nothing_in, first_or_later, contains_first, less_or}
 use Rattle.ux_digraph.proofs.PathsLemmas.{edge_from, reaches_then}
 use Rattle.ux_digraph.specs.declared.closing.Rule.{Rule}
 use Rattle.ux_digraph.specs.Paths.{row_of, Reaches, here, step, IsInside}

@@ -1,6 +1,6 @@
 -- The definitions on small graphs and rules.
 use Rattle.std.proofs.Common.{arith, ◌≡◌, ℕ, List, [], ◌∷◌, sym, ap, inl, inr}
-use Rattle.ux_digraph.proofs.Lists.{nothing_in, first_or_later, contains_first, contains_later}
+use Rattle.ux_base.proofs.Lists.{nothing_in, first_or_later, contains_first, contains_later}
 use Rattle.ux_digraph.specs.declared.closing.Rule.{Rule}
 use Rattle.ux_digraph.specs.Paths.{Path, one, more, Reaches, here}
 use Rattle.ux_digraph.specs.Rules.{Derived, fact, by}

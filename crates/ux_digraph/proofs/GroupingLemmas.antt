@@ -4,7 +4,7 @@ use Rattle.std.specs.Prelude.{Contains}
 use Rattle.std.proofs.lemmas.List.{get_or_push, get_or_append_left, get_or-append-add, get_or-append_right, get_or-set_same}
 use Rattle.std.proofs.lemmas.Grind.{get_or_default_zero}
 use Rattle.std.proofs.lemmas.List.Elements.{Contains-get_or, Contains-append_left, Contains-push, Contains-push_cases}
-use Rattle.ux_digraph.proofs.Lists.{less_or}
+use Rattle.ux_base.proofs.Lists.{less_or}
 use Rattle.ux_digraph.proofs.PathsLemmas.{reaches_joined, reaches_then}
 use Rattle.ux_digraph.proofs.GroupsLemmas.{rises_push, last_is_latest}
 use Rattle.ux_digraph.proofs.MarksLemmas.{set_marks, same_place, opened_done, opened_open}

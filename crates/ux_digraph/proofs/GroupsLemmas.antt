@@ -2,7 +2,7 @@
 use Rattle.std.proofs.Common.{arith, ◌≡◌, ℕ, ◌+◌, ◌<◌, ◌≤◌, List, [], ◌∷◌, ◌++◌, sym, subst, ap, ◌∙◌, inl, inr, length, length-append}
 use Rattle.std.specs.Prelude.{Contains}
 use Rattle.std.proofs.lemmas.List.Elements.{Contains-append_left, Contains-push, Contains-push_cases}
-use Rattle.ux_digraph.proofs.Lists.{nothing_in, first_or_later, contains_first, contains_later}
+use Rattle.ux_base.proofs.Lists.{nothing_in, first_or_later, contains_first, contains_later}
 use Rattle.ux_digraph.specs.declared.grouping.Group.{Group}
 use Rattle.ux_digraph.specs.Grouping.{Rises, AreJoined}
 

@@ -5,7 +5,6 @@ pub mod EdgeRulesLemmas
 mod Examples
 pub mod GroupingLemmas
 pub mod GroupsLemmas
-pub mod Lists
 pub mod MarkingLemmas
 pub mod MarksLemmas
 pub mod PathsLemmas

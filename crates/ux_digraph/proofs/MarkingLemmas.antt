@@ -5,7 +5,7 @@ use Rattle.std.specs.Prelude.{Contains}
 use Rattle.std.proofs.lemmas.List.{get_or-set_same, get_or-set_other, get_or_default}
 use Rattle.std.proofs.lemmas.List.Sums.{sum_by-set}
 use Rattle.std.proofs.lemmas.List.Elements.{Contains-get_or, Contains-append_left, Contains-push, Contains-push_cases}
-use Rattle.ux_digraph.proofs.Lists.{nothing_in, first_or_later, same_or, drop_whole}
+use Rattle.ux_base.proofs.Lists.{nothing_in, first_or_later, same_or, drop_whole}
 use Rattle.ux_digraph.specs.declared.closing.Rule.{Rule}
 use Rattle.ux_digraph.specs.Rules.{Derived, fact, by, AreRulesInside}
 use Rattle.ux_digraph.specs.Marking.{HaveUses, Marking, Added, Applied, Waiting, IsRowDone, unmarked, work_left}

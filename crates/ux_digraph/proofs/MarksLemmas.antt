@@ -3,7 +3,7 @@ use Rattle.std.proofs.Common.{arith, ◌≡◌, ◌≢◌, ℕ, ◌+◌, ◌<◌
 use Rattle.std.specs.Prelude.{sum_by}
 use Rattle.std.proofs.lemmas.List.{get_or_past, get_or-set_same, get_or-set_other}
 use Rattle.std.proofs.lemmas.List.Sums.{sum_by-set, get_or-le-sum_by}
-use Rattle.ux_digraph.proofs.Lists.{same_or, less_or}
+use Rattle.ux_base.proofs.Lists.{same_or, less_or}
 use Rattle.ux_digraph.specs.declared.grouping.Mark.{Mark}
 use Rattle.ux_digraph.specs.declared.grouping.Mark.TheVariants.{New, Open, Done}
 use Rattle.ux_digraph.specs.declared.grouping.Group.{Group}

@@ -2,7 +2,7 @@
 use Rattle.std.proofs.Common.{◌≢◌, ℕ, ◌<◌, List, [], length, refl, subst, inl, inr}
 use Rattle.std.specs.Prelude.{Contains}
 use Rattle.std.proofs.lemmas.List.{get_or_past}
-use Rattle.ux_digraph.proofs.Lists.{nothing_in, less_or}
+use Rattle.ux_base.proofs.Lists.{nothing_in, less_or}
 use Rattle.ux_digraph.specs.Paths.{row_of, Path, one, more, Reaches, here, step}
 
 module _ (edges : List (List ℕ)) where

@@ -3,7 +3,7 @@
 use Rattle.std.proofs.Common.{arith, ◌≡◌, ◌≢◌, ℕ, ◌<◌, ◌≤◌, List, [], ◌∷◌, ◌++◌, refl, sym, ◌∙◌, ap, subst, length, get_or, set}
 use Rattle.std.specs.Prelude.{Contains, map}
 use Rattle.std.proofs.lemmas.List.{get_or-map, length-map, get_or-set_same}
-use Rattle.ux_digraph.proofs.Lists.{nothing_in}
+use Rattle.ux_base.proofs.Lists.{nothing_in}
 use Rattle.ux_digraph.proofs.PathsLemmas.{edge_from, path_apart}
 use Rattle.ux_digraph.proofs.MarksLemmas.{settled_still, opened_keeps, new_is_not_open}
 use Rattle.ux_digraph.proofs.GroupingLemmas.{target_opened}

@@ -3,11 +3,11 @@ use Rattle.std.proofs.Common.{arith, ◌≡◌, ◌≢◌, ◌⊎◌, inl, inr, 
 use Rattle.std.specs.Prelude.{All, AllPairs, IsUtf8}
 use Rattle.std.proofs.lemmas.List.Elements.{All-head, All-tail, All-weaker}
 use Rattle.std.proofs.lemmas.Str.{IsUtf8-nil}
-use Rattle.ux_code_points.proofs.OrderLemmas.{code_points}
+use Rattle.ux_base.proofs.CodePoints.{code_points}
 use Rattle.ux_dela.specs.Sound.{IsSound}
 use Rattle.ux_dela.specs.declared.entry.Entry.{Entry}
 use Rattle.ux_dict.specs.Content.{IsDictionary, IsUpTo}
-use Rattle.ux_dict.proofs.PairLemmas.{AllPairs-head, AllPairs-tail}
+use Rattle.ux_base.proofs.OrderedLists.{AllPairs-head, AllPairs-tail}
 use Rattle.ux_image.specs.Contents.{AreInOrder, HasTexts, IsContent, Precedes}
 
 -- the entry behind another is of its form, or of one behind that by code points

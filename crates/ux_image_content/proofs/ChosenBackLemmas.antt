@@ -9,7 +9,7 @@ use Rattle.std.proofs.lemmas.Option.{get_or_from_slice_get, none-some, same_Some
 use Rattle.ux_base.proofs.FirstsLemmas.{Contains-after, Contains-cases, Contains-first, Contains-none}
 use Rattle.ux_dela.specs.declared.entry.Entry.{Entry}
 use Rattle.ux_dict.specs.Content.{AreDifferent, IsFirstPlace}
-use Rattle.ux_dict.proofs.PairLemmas.{AllPairs-head, AllPairs-tail}
+use Rattle.ux_base.proofs.OrderedLists.{AllPairs-head, AllPairs-tail}
 use Rattle.std.proofs.lemmas.List.Kept.{AllPairs-cons}
 use Rattle.ux_image.specs.Images.{lists_of}
 use Rattle.ux_image.specs.declared.code.CodeList.{CodeList}

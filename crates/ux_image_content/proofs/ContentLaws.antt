@@ -6,7 +6,7 @@ use Rattle.ux_dawg.specs.declared.state.State.{State}
 use Rattle.ux_dela.specs.declared.entry.Entry.{Entry}
 use Rattle.ux_dict.specs.Content.{AreDifferent, IsEarlier}
 use Rattle.ux_dict.proofs.ContentLemmas.{first_place}
-use Rattle.ux_dict.proofs.PairLemmas.{place_of, same_members}
+use Rattle.ux_base.proofs.OrderedLists.{place_of, same_members}
 use Rattle.ux_image.specs.declared.code.Code.{Code}
 use Rattle.ux_image.specs.declared.code.CodeList.{CodeList}
 use Rattle.ux_image.proofs.OneEntryLaws.{one_entry}

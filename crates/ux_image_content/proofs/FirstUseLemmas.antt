@@ -8,7 +8,7 @@ use Rattle.std.proofs.lemmas.Option.{get_or_from_slice_get, none-some, same_Some
 use Rattle.ux_base.specs.Distinct.{AreFirsts}
 use Rattle.ux_base.proofs.FirstsLemmas.{Contains-from_place}
 use Rattle.ux_dawg.specs.declared.state.State.{State}
-use Rattle.ux_dict.proofs.PairLemmas.{slice_get-append_left}
+use Rattle.ux_base.proofs.OrderedLists.{slice_get-append_left}
 use Rattle.ux_image.specs.Images.{numbers_in, renumbered}
 use Rattle.ux_image.proofs.RenumberLemmas.{number_from, number_there, place_holds, place_of}
 use Rattle.ux_image_reader.specs.Layout.{final_number}

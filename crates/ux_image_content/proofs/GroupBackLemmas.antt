@@ -12,7 +12,7 @@ use Rattle.ux_dela.specs.Sound.{HasNoFeed, IsSound}
 use Rattle.ux_dela.specs.declared.entry.Entry.{Entry}
 use Rattle.ux_dela.proofs.PrintLemmas.{printed_no_feed}
 use Rattle.ux_dela.proofs.SoundLemmas.{no_feed-rest}
-use Rattle.ux_dict.proofs.PairLemmas.{AllPairs-tail}
+use Rattle.ux_base.proofs.OrderedLists.{AllPairs-tail}
 use Rattle.ux_image.specs.Codes.{behind_chars, entry_code, front_chars, pair_between, pairs_between, pairs_of_pieces, shared_len, Rebuilds}
 use Rattle.ux_image.specs.Contents.{code_list, entries_of_form, forms_in, forms_with_codes, AreInOrder, Precedes}
 use Rattle.ux_image.specs.Layout.{CodeFits, ListFits}

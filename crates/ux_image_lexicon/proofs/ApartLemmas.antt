@@ -10,7 +10,7 @@ use Rattle.std.proofs.lemmas.List.Elements.{Contains-append_cases, Contains-appe
 use Rattle.indexmap.specs.IndexSet.{insert_all, insert_key}
 use Rattle.ux_dela.specs.declared.entry.Entry.{Entry}
 use Rattle.ux_dict.specs.Equal.{entry_eq}
-use Rattle.ux_dict.proofs.PairLemmas.{Contains-cons_cases, Contains-nil}
+use Rattle.ux_base.proofs.OrderedLists.{Contains-cons_cases, Contains-nil}
 use Rattle.ux_image_lexicon.specs.Counting.{bare_of, AreApart, IsApart}
 use Rattle.ux_image_lexicon.specs.Told.{entry_by, read_in}
 use Rattle.ux_image_lexicon.specs.declared.codes.ReadCode.{ReadCode}

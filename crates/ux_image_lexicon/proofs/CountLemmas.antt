@@ -17,7 +17,7 @@ use Rattle.ux_dela.specs.declared.entry.Entry.{Entry}
 use Rattle.ux_dict.specs.Equal.{entry_eq}
 use Rattle.ux_dict.specs.Forms.{count_of, IsChosen, none, kept, left}
 use Rattle.ux_dict.proofs.ChosenLemmas.{chosen-append, chosen-filter, chosen-none, chosen-only}
-use Rattle.ux_dict.proofs.PairLemmas.{Contains-cons_cases, Contains-nil}
+use Rattle.ux_base.proofs.OrderedLists.{Contains-cons_cases, Contains-nil}
 use Rattle.ux_image_lists.specs.Sizes.{forms_of}
 use Rattle.ux_image_look_ups.proofs.WayLemmas.{chosen-full}
 use Rattle.ux_image_lexicon.specs.Told.{content_in, entries_by, entries_once, entries_told, made_of, read_in, CodedForms, IsCoded}

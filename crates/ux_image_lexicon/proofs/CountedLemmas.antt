@@ -10,7 +10,7 @@ use Rattle.std.proofs.lemmas.List.Sums.{sum_by-append, sum_by-cons}
 use Rattle.indexmap.specs.IndexMap.{get_by_text}
 use Rattle.ux_dawg.specs.declared.state.Form.{Form}
 use Rattle.ux_dict.specs.Forms.{count_of}
-use Rattle.ux_dict.proofs.PairLemmas.{Contains-cons_cases}
+use Rattle.ux_base.proofs.OrderedLists.{Contains-cons_cases}
 use Rattle.ux_image_lists.specs.Sizes.{forms_of}
 use Rattle.ux_image_lexicon.specs.Counting.{AreCountedBut, Puts, TellsForm}
 use Rattle.ux_image_lexicon.specs.Told.{content_in, made_of, read_in, CodedForms, IsCoded}

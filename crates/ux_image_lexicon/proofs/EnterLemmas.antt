@@ -10,7 +10,7 @@ use Rattle.ux_dawg.specs.Building.{bare}
 use Rattle.ux_dawg.specs.Listed.{ending}
 use Rattle.ux_dawg.specs.declared.state.Form.{Form}
 use Rattle.ux_dawg.specs.declared.state.State.{State}
-use Rattle.ux_dict.proofs.PairLemmas.{Contains-nil}
+use Rattle.ux_base.proofs.OrderedLists.{Contains-nil}
 use Rattle.ux_image_lists.specs.Sizes.{forms_of}
 use Rattle.ux_image_look_ups.specs.Ways.{behind_all, Spelt}
 use Rattle.ux_image_look_ups.proofs.WayLemmas.{behind_all-none, branch}

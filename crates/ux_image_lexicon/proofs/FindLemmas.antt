@@ -10,7 +10,7 @@ use Rattle.ux_dawg.specs.Paths.{edge, Accepts, AreStates, IsStep, MakeAutomaton,
 use Rattle.ux_dawg.specs.declared.state.Edge.{Edge}
 use Rattle.ux_dawg.specs.declared.state.Form.{Form}
 use Rattle.ux_dawg.specs.declared.state.State.{State}
-use Rattle.ux_dict.proofs.PairLemmas.{Contains-cons_cases, Contains-nil}
+use Rattle.ux_base.proofs.OrderedLists.{Contains-cons_cases, Contains-nil}
 use Rattle.ux_image.proofs.RenumberLemmas.{Contains-map}
 use Rattle.ux_image_content.proofs.PathLemmas.{forms_accepted}
 use Rattle.ux_image_lists.specs.Sizes.{forms_of}

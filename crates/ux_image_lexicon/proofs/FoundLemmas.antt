@@ -16,7 +16,7 @@ use Rattle.ux_dict.specs.Equal.{entry_eq}
 use Rattle.ux_dict.specs.Forms.{FitsForm, IsChosen, IsFitting, MayBegin as EntryMayBegin, longest_of}
 use Rattle.ux_dict.proofs.ChosenLemmas.{chosen-within}
 use Rattle.ux_dict.proofs.ContentLemmas.{AreDifferent-insert}
-use Rattle.ux_dict.proofs.PairLemmas.{Contains-cons_cases, Contains-nil, Contains-tail}
+use Rattle.ux_base.proofs.OrderedLists.{Contains-cons_cases, Contains-nil, Contains-tail}
 use Rattle.ux_image_lists.specs.Sizes.{forms_of}
 use Rattle.ux_image_look_ups.specs.Longest.{longest_in}
 use Rattle.ux_image_look_ups.specs.Ways.{FitsText, MayBegin}

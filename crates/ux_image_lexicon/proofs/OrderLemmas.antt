@@ -8,13 +8,13 @@ use Rattle.std.specs.declared.cmp.Ordering.TheVariants.{Less}
 use Rattle.std.proofs.lemmas.List.Elements.{All-append, All-contains, All-head, All-map, All-tail, Contains-get_or}
 use Rattle.std.proofs.lemmas.List.Kept.{AllPairs-cons}
 use Rattle.std.proofs.lemmas.Option.{get_or_from_slice_get, slice_get_within}
-use Rattle.ux_code_points.proofs.OrderLemmas.{code_points}
+use Rattle.ux_base.proofs.CodePoints.{code_points}
 use Rattle.ux_dawg.proofs.FormsLemmas.{AreInOrder, Precedes}
 use Rattle.ux_dawg.specs.declared.state.Form.{Form}
 use Rattle.ux_dela.specs.declared.entry.Entry.{Entry}
 use Rattle.ux_dict.specs.Content.{AreDifferent, IsDictionary, IsUpTo}
 use Rattle.ux_dict.proofs.ContentLemmas.{first_place, AreDifferent-insert}
-use Rattle.ux_dict.proofs.PairLemmas.{place_of}
+use Rattle.ux_base.proofs.OrderedLists.{place_of}
 use Rattle.ux_image_content.proofs.PathLemmas.{forms_order}
 use Rattle.ux_image_lists.specs.Sizes.{forms_of}
 use Rattle.ux_image_lexicon.specs.Told.{content_in, entries_by, entries_told, entry_by, read_in, CodedForms, IsCoded, IsTold}

@@ -21,7 +21,7 @@ use Rattle.ux_dela.specs.declared.entry.Entry.{Entry}
 use Rattle.ux_dict.specs.Content.{IsDictionary}
 use Rattle.ux_dict.specs.Equal.{entry_eq}
 use Rattle.ux_dict.proofs.ContentLemmas.{AreDifferent-insert}
-use Rattle.ux_dict.proofs.PairLemmas.{Contains-cons_cases, Contains-nil}
+use Rattle.ux_base.proofs.OrderedLists.{Contains-cons_cases, Contains-nil}
 use Rattle.ux_image.specs.Codes.{entry_code}
 use Rattle.ux_image.specs.Contents.{forms_with_codes, AreForms, HasTexts, IsContent}
 use Rattle.ux_image.specs.declared.code.Code.{Code}

@@ -14,7 +14,7 @@ use Rattle.ux_dawg.specs.declared.state.Form.{Form}
 use Rattle.ux_dawg.specs.declared.state.State.{State}
 use Rattle.ux_dict.specs.Forms.{IsChosen, none, kept}
 use Rattle.ux_dict.proofs.ChosenLemmas.{chosen-all, chosen-again, chosen-append, chosen-from, chosen-member, chosen-none}
-use Rattle.ux_dict.proofs.PairLemmas.{Contains-cons_cases, Contains-nil}
+use Rattle.ux_base.proofs.OrderedLists.{Contains-cons_cases, Contains-nil}
 use Rattle.ux_image_lists.specs.Sizes.{forms_of}
 use Rattle.ux_image_look_ups.specs.Ways.{behind_all, branches, forms_at, forms_by, forms_on, AreSpelt, BeginsFitting, FitsText, HaveForms, IsSpelt, MayBegin, Spelt}
 use Rattle.ux_image_look_ups.proofs.WayLemmas.{behind_all-none, branch, by_edges, chosen-full, ended, from_here, passed, whole_begins}

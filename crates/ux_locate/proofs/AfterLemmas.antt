@@ -3,7 +3,7 @@ use Rattle.std.proofs.Common.{◌≡◌, ◌↔◌, ℕ, ◌<◌, List, [], ◌�
 use Rattle.std.specs.Prelude.{Contains, filter}
 use Rattle.std.specs.List.Sorted.{IsStrictlyIncreasing}
 use Rattle.std.proofs.lemmas.Bool.{cases_Bool, ltb-true, lt-ltb}
-use Rattle.ux_dict.proofs.PairLemmas.{Contains-cons_cases, Contains-filter, Contains-nil, Contains-tail}
+use Rattle.ux_base.proofs.OrderedLists.{Contains-cons_cases, Contains-filter, Contains-nil, Contains-tail}
 use Rattle.ux_outputs.specs.declared.event.Event.{Event}
 use Rattle.ux_walk.specs.Ends.{AreEnds}
 use Rattle.ux_walk.specs.Settings.{Derives, Setting}

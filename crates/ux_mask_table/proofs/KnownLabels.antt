@@ -11,7 +11,8 @@ use Rattle.ux_net.specs.declared.state.Edge.{Edge}
 use Rattle.ux_net.specs.declared.state.State.{State}
 use Rattle.ux_net.specs.Masks.{masks_of, masks_of_edge, masks_of_graph, masks_of_label, masks_of_state}
 use Rattle.ux_net.specs.Nets.{states_in, states_of}
-use Rattle.ux_net.proofs.JoinedLemmas.{contains_first, contains_joined}
+use Rattle.ux_base.proofs.Lists.{contains_first}
+use Rattle.ux_base.proofs.JoinedLists.{contains_joined}
 use Rattle.ux_mask_table.specs.declared.masked_text.MaskedText.{MaskedText}
 use Rattle.ux_mask_table.specs.MaskedTexts.{AreEdgesKnown, HasTable, IsKnown, IsMaskIn}
 

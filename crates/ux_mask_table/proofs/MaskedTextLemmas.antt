@@ -5,7 +5,7 @@ use Rattle.std.specs.List.Sorted.{IsStrictlyIncreasing}
 use Rattle.std.proofs.lemmas.Bool.{eqb-true, eqb-false}
 use Rattle.std.proofs.lemmas.List.{nil_from_length, get_or-map, get_or_default, length-map, map-append, take_more}
 use Rattle.ux_base.proofs.FirstsLemmas.{Contains-none}
-use Rattle.ux_net.proofs.JoinedLemmas.{contains_mapped}
+use Rattle.ux_base.proofs.JoinedLists.{contains_mapped}
 use Rattle.ux_mask_table.specs.MaskTables.{TellsEnds}
 use Rattle.ux_mask_table.specs.MaskedTexts.{AddsEnds}
 

@@ -5,7 +5,7 @@ use Rattle.std.specs.List.Sorted.{IsNonDecreasing, IsStrictlyIncreasing}
 use Rattle.std.proofs.lemmas.List.{take_more, map-append, get_or-take, get_or-drop, get_or-map, get_or_append_left, get_or-append-add, get_or_default, length-take-le, length-map}
 use Rattle.std.proofs.lemmas.List.Kept.{AllPairs-from_increasing}
 use Rattle.std.proofs.lemmas.List.Sorted.{IsNonDecreasingBy-from_default}
-use Rattle.ux_net.proofs.JoinedLemmas.{less_or}
+use Rattle.ux_base.proofs.Lists.{less_or}
 use Rattle.ux_mask_table.specs.declared.spans.Stretch.{Stretch}
 use Rattle.ux_mask_table.specs.declared.spans.Spans.{Spans}
 use Rattle.ux_mask_table.specs.Spans.{number_at, end_at, ArePaired, StandsBefore, IsOrdered, HasEnd, IsRow, AreKept}

@@ -2,7 +2,7 @@
 use Rattle.std.proofs.Common.{arith, ◌≡◌, ℕ, zero, suc, ◌<◌, ◌≤◌, List, [], length, refl, ap, subst, sym, ◌∙◌, inl, inr, get_or, Bool, true, false}
 use Rattle.std.specs.Prelude.{All}
 use Rattle.std.proofs.lemmas.List.{get_or_past}
-use Rattle.ux_digraph.proofs.Lists.{less_or}
+use Rattle.ux_base.proofs.Lists.{less_or}
 use Rattle.ux_net.specs.declared.place.Place.{Place}
 use Rattle.ux_net.specs.Words.{Step, stop, letters}
 use Rattle.ux_net.specs.Places.{places_of, place_grammar, IsPlaceStep}

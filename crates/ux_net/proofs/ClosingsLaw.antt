@@ -5,7 +5,7 @@ use Rattle.std.specs.Prelude.{Option, Contains}
 use Rattle.std.specs.List.{range_with_len}
 use Rattle.std.proofs.lemmas.List.{get_or_default}
 use Rattle.std.proofs.lemmas.List.Folds.{list_any_at}
-use Rattle.ux_digraph.proofs.Lists.{same_or}
+use Rattle.ux_base.proofs.Lists.{same_or, nothing_in, contains_first}
 use Rattle.ux_net.specs.declared.label.Label.{Label}
 use Rattle.ux_net.specs.declared.label.Label.TheVariants.{Positive, Negative, ContextEnd}
 use Rattle.ux_net.specs.declared.net_graph.Closing.{Closing}
@@ -25,7 +25,7 @@ use Rattle.ux_net.specs.Ranks.{AreCallsInside, AreAllFit, row_of, AreBuilt}
 use Rattle.ux_net.specs.Words.{negative, opens, mark_of, IsBody}
 use Rattle.ux_net.proofs.ClosingsLemmas.{told_at, closings_ascend}
 use Rattle.ux_net.proofs.ConstructLaw.{has_line, old_step, OfLabel, of_label, IsDrawn, drawn, closes_forth, closes_back}
-use Rattle.ux_net.proofs.JoinedLemmas.{nothing_in, contains_first, contains_joined, contains_range}
+use Rattle.ux_base.proofs.JoinedLists.{contains_joined, contains_range}
 use Rattle.ux_net.proofs.MeasuredLaw.{in_graph}
 use Rattle.ux_net.proofs.StatesLemmas.{line_there, place_inside}
 

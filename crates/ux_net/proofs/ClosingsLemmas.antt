@@ -18,7 +18,8 @@ use Rattle.ux_net.specs.Closers.{AreClosers}
 use Rattle.ux_net.specs.Numbers.{AreOffsets}
 use Rattle.ux_net.specs.Places.{label_lines, places_of}
 use Rattle.std.proofs.lemmas.Option.{same_Some}
-use Rattle.ux_net.proofs.JoinedLemmas.{less_or, contains_first, joined_more}
+use Rattle.ux_base.proofs.Lists.{less_or, contains_first}
+use Rattle.ux_base.proofs.JoinedLists.{joined_more}
 use Rattle.ux_net.proofs.StatesLemmas.{number_next}
 
 abbrev nothing : Closing

@@ -16,7 +16,8 @@ use Rattle.ux_net.specs.Closers.{ClosesInto}
 use Rattle.ux_net.specs.Places.{label_lines, place_output, place_targets, is_reached, places_of, IsPlaceStep, IsEndPlace, place_grammar}
 use Rattle.ux_net.specs.Nets.{IsNetStep, IsNetEnd, net_graph}
 use Rattle.ux_net.specs.Construct.{labels_in, IsLine, has_state, number, line_at, called_at, labels_at, chain_len, first_chain, target_of, output_before, edge_of, edges_to, place_state, chain_state, at_place, along_lines, by_state, states_of, AreFit, AreTargetsInside}
-use Rattle.ux_net.proofs.JoinedLemmas.{less_or, nothing_in, first_or_later, contains_first, contains_later, contains_joined, contained_joined, contains_mapped, contained_mapped, contains_range, contained_range}
+use Rattle.ux_base.proofs.Lists.{less_or, nothing_in, first_or_later, contains_first, contains_later}
+use Rattle.ux_base.proofs.JoinedLists.{contains_joined, contained_joined, contains_mapped, contained_mapped, contains_range, contained_range}
 use Rattle.ux_net.proofs.EdgeLabelsLemmas.{same_letters, each_label, ordinary_labels, several_edges, first_edge, one_edge}
 use Rattle.ux_net.proofs.RefineLemmas.{letters_along, IsSame, IsNumbered, Refines, body_forth, body_back, refined_same}
 use Rattle.ux_net.proofs.StatesLemmas.{total, total_few, line_there, line_some, place_inside, get_place, get_chain, length_by_state, Stands, of_a_place, of_a_line, stands}

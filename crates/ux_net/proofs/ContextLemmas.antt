@@ -2,7 +2,7 @@
 use Rattle.std.proofs.Common.{arith, ◌≡◌, ℕ, ◌<◌, ◌≤◌, List, [], ◌∷◌, ◌++◌, length, refl, ap, subst, sym, ◌∙◌, inl, inr, ◌↔◌, suc, ◌+◌, get_or, take, drop}
 use Rattle.std.specs.Prelude.{Contains, None}
 use Rattle.std.proofs.lemmas.List.{get_or-take, get_or-drop, length-take-le}
-use Rattle.ux_digraph.proofs.Lists.{same_or}
+use Rattle.ux_base.proofs.Lists.{same_or}
 use Rattle.ux_net.specs.declared.leading.Leading.{Leading}
 use Rattle.ux_net.specs.declared.place.Place.{Place}
 use Rattle.ux_net.specs.Admissible.{IsFirst}

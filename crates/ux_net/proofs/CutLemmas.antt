@@ -1,7 +1,7 @@
 -- Rows that are cut from a list have what stands there at the numbers of the places.
 use Rattle.std.proofs.Common.{arith, ◌≡◌, ℕ, zero, suc, ◌+◌, ◌<◌, ◌≤◌, List, [], ◌∷◌, ◌++◌, length, refl, ap, sym, ◌∙◌, get_or, take, drop, inl, inr}
 use Rattle.std.proofs.lemmas.List.{get_or_default, drop-drop, get_or-take, get_or-drop, get_or_past, length-take, length-drop}
-use Rattle.ux_digraph.proofs.Lists.{less_or}
+use Rattle.ux_base.proofs.Lists.{less_or}
 use Rattle.ux_net.specs.declared.place.Place.{Place}
 use Rattle.ux_net.specs.Places.{places_of}
 use Rattle.ux_net.specs.Numbers.{places_before, number_of, all_places}

@@ -3,7 +3,7 @@ use Rattle.std.proofs.Common.{arith, ◌≡◌, ℕ, ◌<◌, List, [], length, 
 use Rattle.std.specs.Prelude.{Contains, All}
 use Rattle.ux_digraph.specs.Paths.{row_of, Path, Reaches, here, step, IsInside}
 use Rattle.ux_digraph.specs.Components.{AreComponents}
-use Rattle.ux_digraph.proofs.Lists.{same_or}
+use Rattle.ux_base.proofs.Lists.{same_or}
 use Rattle.ux_digraph.proofs.PathsLemmas.{edge_from, reaches_joined, reaches_then, path_apart}
 use Rattle.ux_net.specs.declared.place.Place.{Place}
 use Rattle.ux_net.specs.Words.{stop}

@@ -20,7 +20,7 @@ use Rattle.ux_net.specs.Construct.{has_state, number, line_at, called_at, labels
 use Rattle.ux_net.specs.Silent.{is_silent, are_silent}
 use Rattle.ux_net.specs.Admission.{place_rank, is_place_free, IsLowerPlace}
 use Rattle.ux_net.specs.Ranks.{rest_rank, rest_free, above, call_rank}
-use Rattle.ux_net.proofs.JoinedLemmas.{contains_first}
+use Rattle.ux_base.proofs.Lists.{contains_first}
 use Rattle.ux_net.proofs.StatesLemmas.{line_there, line_called, labels_called}
 use Rattle.ux_net.proofs.ConstructLaw.{lt_then, lt_else, has_line, starts, old_step, old_is_step, OfLabel, drawn, closes_back}
 use Rattle.ux_net.proofs.RankFalls.{IsLowerRank, lower_weighs, silent_more, free_more, rest_lower, rest_marked, beneath, call_below, both_marked, line_from, as_drawn, alone}

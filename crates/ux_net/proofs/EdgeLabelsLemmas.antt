@@ -8,7 +8,7 @@ use Rattle.ux_net.specs.declared.label.Label.{Label}
 use Rattle.ux_net.specs.declared.label.Label.TheVariants.{Empty, Fold, Exact, Mask, Brace, Space, Glue, Begin, End, Positive, Negative, ContextEnd, Cut, Call}
 use Rattle.ux_net.specs.Words.{ordinary, mark_of, letters}
 use Rattle.ux_net.specs.Construct.{is_call, is_mark, IsLine, called_behind, edge_labels}
-use Rattle.ux_net.proofs.JoinedLemmas.{nothing_in, first_or_later, contains_first}
+use Rattle.ux_base.proofs.Lists.{nothing_in, first_or_later, contains_first}
 
 -- they have the letters of the line
 pub same_letters : (called : Option ℕ) (line : List Label) →

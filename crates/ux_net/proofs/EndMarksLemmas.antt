@@ -3,7 +3,7 @@ use Rattle.std.proofs.Common.{arith, ◌≡◌, ℕ, ◌<◌, List, [], ◌∷�
 use Rattle.std.specs.Prelude.{Contains, Option, Some, None}
 use Rattle.std.proofs.lemmas.Bool.{eqb-true}
 use Rattle.ux_digraph.specs.Paths.{row_of}
-use Rattle.ux_digraph.proofs.Lists.{nothing_in, contains_first}
+use Rattle.ux_base.proofs.Lists.{nothing_in, contains_first}
 use Rattle.ux_digraph.specs.Rules.{Derived, fact, by, AreRulesInside, is_marked_at}
 use Rattle.ux_digraph.specs.declared.closing.Rule.{Rule}
 use Rattle.ux_net.specs.declared.leading.Leading.{Leading}

@@ -5,7 +5,7 @@ use Rattle.std.proofs.lemmas.List.{get_or_default, get_or-set_same, get_or-set_o
 use Rattle.std.proofs.lemmas.List.Elements.{Contains-get_or, Contains-append_left, Contains-append_right, Contains-push, Contains-push_cases}
 use Rattle.std.proofs.lemmas.Option.{slice_get-get_or, slice_get_within, get_or_from_slice_get}
 use Rattle.ux_digraph.specs.Paths.{row_of}
-use Rattle.ux_digraph.proofs.Lists.{nothing_in, contains_first, contains_later, same_or}
+use Rattle.ux_base.proofs.Lists.{nothing_in, contains_first, contains_later, same_or}
 use Rattle.ux_net.specs.declared.closers.Pair.{Pair}
 use Rattle.ux_net.specs.declared.leading.Leading.{Leading}
 use Rattle.ux_net.specs.Finding.{Finds, pair_of, AreRowsOf, AreJumps, Jumps, IsLooked, IsFinding}

@@ -3,7 +3,7 @@ use Rattle.std.proofs.Common.{arith, ◌≡◌, ℕ, ◌+◌, ◌<◌, ◌≤◌
 use Rattle.std.specs.Prelude.{Contains, Some}
 use Rattle.std.proofs.lemmas.Option.{slice_get_read, slice_get_within, get_or_from_slice_get}
 use Rattle.std.proofs.lemmas.List.Elements.{Contains-append_left, Contains-push, Contains-push_cases}
-use Rattle.ux_digraph.proofs.Lists.{same_or, nothing_in}
+use Rattle.ux_base.proofs.Lists.{same_or, nothing_in}
 use Rattle.ux_net.specs.Gains.{Gains, SoBelow, SoAt, SoOfOne}
 
 -- nothing is added where nothing is so

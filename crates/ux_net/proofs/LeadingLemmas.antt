@@ -6,7 +6,7 @@ use Rattle.std.proofs.lemmas.List.{get_or_default, get_or_append_left, get_or_pa
 use Rattle.std.proofs.lemmas.List.Elements.{Contains-get_or, All-contains_itself, All-weaker}
 use Rattle.std.proofs.lemmas.Option.{slice_get_read}
 use Rattle.ux_digraph.specs.Paths.{row_of}
-use Rattle.ux_digraph.proofs.Lists.{same_or, less_or}
+use Rattle.ux_base.proofs.Lists.{same_or, less_or}
 use Rattle.ux_net.specs.declared.label.Label.{Label}
 use Rattle.ux_net.specs.declared.leading.Leading.{Leading}
 use Rattle.ux_net.specs.declared.leading.Marks.{Marks}

@@ -29,7 +29,6 @@ pub mod MaskSetLemmas
 pub mod RefusingLemmas
 pub mod SameGraph
 pub mod SplittingLemmas
-pub mod JoinedLemmas
 pub mod EdgeLabelsLemmas
 pub mod RefineLemmas
 pub mod StatesLemmas

@@ -4,7 +4,7 @@ use Rattle.std.specs.Prelude.{Contains, All}
 use Rattle.std.proofs.lemmas.List.{get_or_past}
 use Rattle.ux_digraph.specs.Paths.{row_of, Reaches, here, step, IsInside}
 use Rattle.ux_digraph.specs.Components.{AreComponents}
-use Rattle.ux_digraph.proofs.Lists.{less_or, same_or}
+use Rattle.ux_base.proofs.Lists.{less_or, same_or}
 use Rattle.ux_digraph.proofs.PathsLemmas.{reaches_joined, reaches_then}
 use Rattle.ux_net.specs.declared.label.Label.TheVariants.{Call}
 use Rattle.ux_net.specs.declared.place.Place.{Place}

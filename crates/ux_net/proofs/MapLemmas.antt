@@ -1,7 +1,7 @@
 -- What a list of results contains.
 use Rattle.std.proofs.Common.{◌≡◌, List, [], ◌∷◌, map, subst, inl, inr, ◌↔◌}
 use Rattle.std.specs.Prelude.{Contains}
-use Rattle.ux_digraph.proofs.Lists.{nothing_in, first_or_later, contains_first, contains_later}
+use Rattle.ux_base.proofs.Lists.{nothing_in, first_or_later, contains_first, contains_later}
 
 module _ {A B : Type 0} (f : A → B) where
   map_from : (xs : List A) (y : B) → Contains (map f xs) y → (x : A) × Contains xs x × (f x ≡ y)

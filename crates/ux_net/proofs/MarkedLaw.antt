@@ -26,7 +26,8 @@ use Rattle.ux_net.specs.Construct.{is_call, edge_labels, has_state, number, line
 use Rattle.ux_net.specs.Admission.{ArePlaceRanks}
 use Rattle.ux_net.specs.Ranks.{AreCallsInside, AreAllFit, AreBuilt}
 use Rattle.ux_net.proofs.EdgeLabelsLemmas.{each_label}
-use Rattle.ux_net.proofs.JoinedLemmas.{less_or, nothing_in, first_or_later, contains_mapped, contained_mapped}
+use Rattle.ux_base.proofs.Lists.{less_or, nothing_in, first_or_later}
+use Rattle.ux_base.proofs.JoinedLists.{contains_mapped, contained_mapped}
 use Rattle.ux_net.proofs.StatesLemmas.{total, length_by_state, line_called, place_inside, get_place, get_chain, Stands as StandsAt, of_a_place, of_a_line, stands}
 use Rattle.ux_net.proofs.ConstructLaw.{lt_then, lt_else, has_line, starts, line_is, old_step, old_is_step, OfLabel, of_label, line_mark, IsDrawn, drawn, closes_forth}
 use Rattle.ux_net.proofs.MeasuredLaw.{in_graph, built_is_measured, built_is_inside}

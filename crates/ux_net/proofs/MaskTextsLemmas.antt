@@ -12,7 +12,8 @@ use Rattle.ux_masks.specs.Texts.{IsBadAt}
 use Rattle.ux_net.specs.declared.bad_masks.BadText.{BadText}
 use Rattle.ux_net.specs.BadMasks.{Checks, IsFirstBadBox}
 use Rattle.ux_net.specs.MaskTexts.{mask_texts_of_item, mask_texts_of_line, mask_texts_of, mask_texts_in, IsMask, AreMasks, HaveMasks, IsFirstBad}
-use Rattle.ux_net.proofs.JoinedLemmas.{contains_first, contains_joined, less_or, nothing_in}
+use Rattle.ux_base.proofs.Lists.{contains_first, less_or, nothing_in}
+use Rattle.ux_base.proofs.JoinedLists.{contains_joined}
 use Rattle.ux_net.proofs.SplittingLemmas.{take-next}
 
 module _ {X : Type 0} (f : X → List (List ℕ)) (xs : List X) (i : ℕ) where

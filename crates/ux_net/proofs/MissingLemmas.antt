@@ -13,7 +13,8 @@ use Rattle.ux_base.proofs.FirstTextsLemmas.{first_of_firsts}
 use Rattle.ux_net.specs.Boxes.{Drawn, names_of}
 use Rattle.ux_net.specs.Compiling.{AreThere, IsFirstLacking}
 use Rattle.ux_net.specs.Refusing.{drawn_of, drawn, calls_of, calls_in, AreCalled, AreWhole, IsFirstMissing}
-use Rattle.ux_net.proofs.JoinedLemmas.{less_or, nothing_in, contained_mapped}
+use Rattle.ux_base.proofs.Lists.{less_or, nothing_in}
+use Rattle.ux_base.proofs.JoinedLists.{contained_mapped}
 use Rattle.ux_net.proofs.RefusingLemmas.{Given}
 
 abbrev names_given : List Given → List (List ℕ)

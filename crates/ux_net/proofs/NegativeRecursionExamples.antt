@@ -2,7 +2,7 @@
 use Rattle.std.proofs.Common.{arith, ◌≡◌, ℕ, ◌<◌, List, [], ◌∷◌, inl, inr, refl, subst, sym, ◌∙◌}
 use Rattle.std.specs.Prelude.{Contains}
 use Rattle.std.proofs.lemmas.List.Elements.{All-nil, All-cons, All-contains, Contains-push_cases}
-use Rattle.ux_digraph.proofs.Lists.{nothing_in}
+use Rattle.ux_base.proofs.Lists.{nothing_in}
 use Rattle.ux_net.specs.declared.label.Label.{Label}
 use Rattle.ux_net.specs.declared.label.Label.TheVariants.{Fold, Positive, Negative, ContextEnd, Call}
 use Rattle.ux_net.specs.Words.{Letter, negative, opens, mark_of, Step, Grammar, Run, stop, along, across}

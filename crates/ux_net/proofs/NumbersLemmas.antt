@@ -3,7 +3,7 @@ use Rattle.std.proofs.Common.{arith, ◌≡◌, ℕ, zero, suc, ◌+◌, ◌<◌
 use Rattle.std.specs.Prelude.{All}
 use Rattle.std.proofs.lemmas.List.Elements.{All-head, All-tail}
 use Rattle.std.proofs.lemmas.List.{get_or_append_left, get_or_push}
-use Rattle.ux_digraph.proofs.Lists.{less_or}
+use Rattle.ux_base.proofs.Lists.{less_or}
 use Rattle.ux_net.specs.declared.place.Place.{Place}
 use Rattle.ux_net.specs.Places.{places_of}
 use Rattle.ux_net.specs.Numbers.{places_before, number_of, all_places, AreOffsets}

@@ -15,7 +15,7 @@ use Rattle.ux_net.specs.Construct.{is_call, IsLine, edge_labels, number, line_at
 use Rattle.ux_net.specs.Silent.{is_silent, are_silent}
 use Rattle.ux_net.specs.Admission.{place_rank, is_place_free}
 use Rattle.ux_net.specs.Ranks.{silent_len, rest_rank, rest_free, above, chain_rank, chain_free, chain_rank_at, chain_free_at, state_ranks, state_frees}
-use Rattle.ux_net.proofs.JoinedLemmas.{less_or}
+use Rattle.ux_base.proofs.Lists.{less_or}
 use Rattle.ux_net.proofs.StatesLemmas.{line_there, place_inside, get_place, get_chain}
 use Rattle.ux_net.proofs.ConstructLaw.{lt_then, lt_else, drop_whole, has_line}
 

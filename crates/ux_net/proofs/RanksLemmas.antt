@@ -14,7 +14,7 @@ use Rattle.ux_net.specs.Construct.{edge_labels, line_at, called_at, along_line, 
 use Rattle.ux_net.specs.Places.{label_lines}
 use Rattle.ux_net.specs.Silent.{is_silent, are_silent}
 use Rattle.ux_net.specs.Ranks.{silent_len, rest_rank, rest_free, call_rank, call_free, chain_rank, chain_free, chain_rank_at, chain_free_at}
-use Rattle.ux_net.proofs.JoinedLemmas.{less_or}
+use Rattle.ux_base.proofs.Lists.{less_or}
 use Rattle.ux_net.proofs.StatesLemmas.{line_called}
 
 -- where some labels in front are silent, there is one less after the first

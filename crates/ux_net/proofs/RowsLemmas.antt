@@ -4,7 +4,7 @@ use Rattle.std.specs.Prelude.{Contains}
 use Rattle.std.proofs.lemmas.List.{get_or-set_same, get_or-set_other}
 use Rattle.std.proofs.lemmas.List.Elements.{Contains-append_left, Contains-push, Contains-push_cases}
 use Rattle.ux_digraph.specs.Paths.{row_of}
-use Rattle.ux_digraph.proofs.Lists.{same_or}
+use Rattle.ux_base.proofs.Lists.{same_or}
 
 -- one more pair
 pub rows_put : (rows after : List (List ℕ)) (pairs : List (ℕ × ℕ)) (p : ℕ × ℕ) →

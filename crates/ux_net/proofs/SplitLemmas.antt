@@ -15,7 +15,7 @@ use Rattle.ux_net.specs.Compiling.{AreSplit, HasSoundContexts, RefusesPlaces, Re
 use Rattle.ux_net.specs.ContextClose.{IsBadContext, AreClosed}
 use Rattle.ux_net.specs.NegativeRecursion.{HasNoNegativeRecursion, IsFirstNegative}
 use Rattle.ux_net.specs.Refusing.{AreWhole, AreMasked, HaveSoundContexts, Refuses}
-use Rattle.ux_net.proofs.JoinedLemmas.{less_or, nothing_in}
+use Rattle.ux_base.proofs.Lists.{less_or, nothing_in}
 use Rattle.ux_net.proofs.StepsLemmas.{step_inside, target_from}
 use Rattle.ux_net.proofs.SameGraph.{place_step, box_step}
 use Rattle.ux_net.proofs.SameContexts.{bad_within, closed_within, negative_within}

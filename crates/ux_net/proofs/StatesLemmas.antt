@@ -13,7 +13,8 @@ use Rattle.ux_net.specs.declared.place.Place.{Place}
 use Rattle.ux_net.specs.Places.{lines_in, output_in_place, label_lines, place_output, reached_in, is_reached}
 use Rattle.ux_net.specs.Construct.{labels_in, edge_labels, later_edges, place_size, has_state, number, line_at, called_at, labels_at, chain_len, chains_len, chain_start, first_chain, along_line, along_lines, at_place, by_state, table_of, AreFit}
 use Rattle.ux_net.proofs.EdgeLabelsLemmas.{no_fewer, call_whole}
-use Rattle.ux_net.proofs.JoinedLemmas.{less_or, get_left, get_right, get_mapped_range, get_joined, find_joined, length_joined, sum_more, sum_shorter}
+use Rattle.ux_base.proofs.Lists.{less_or}
+use Rattle.ux_base.proofs.JoinedLists.{get_left, get_right, get_mapped_range, get_joined, find_joined, length_joined, sum_more, sum_shorter}
 
 -- sums over a list, and over the range of its indices
 sum_same : (f g : ℕ → ℕ) → ((k : ℕ) → f k ≡ g k) → (ks : List ℕ) → sum_by f ks ≡ sum_by g ks

@@ -4,7 +4,7 @@ use Rattle.std.specs.Prelude.{Contains, Some, slice_get}
 use Rattle.std.specs.List.{dedup, dedup_from}
 use Rattle.std.specs.List.Sorted.{IsNonDecreasingBy}
 use Rattle.std.proofs.lemmas.Option.{same_Some, slice_get_within}
-use Rattle.ux_net.proofs.JoinedLemmas.{less_or, first_or_later, contains_first, contains_later}
+use Rattle.ux_base.proofs.Lists.{less_or, first_or_later, contains_first, contains_later}
 
 module _ {X : Type 0} (same : X → X → Bool) (sound : (x y : X) → same x y ≡ true → x ≡ y) where
   kept_from : (x : X) (xs : List X) (y : X) → Contains (x ∷ xs) y →

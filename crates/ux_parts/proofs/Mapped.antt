@@ -2,7 +2,7 @@
 use Rattle.std.proofs.Common.{arith, ◌≡◌, ℕ, zero, suc, List, [], ◌∷◌, refl, inl, inr, ap, subst}
 use Rattle.std.specs.Prelude.{Contains, map, Some, slice_get}
 use Rattle.std.proofs.lemmas.Option.{same_Some, slice_get_within, get_or_from_slice_get}
-use Rattle.ux_net.proofs.JoinedLemmas.{nothing_in, first_or_later, contains_first, contains_later}
+use Rattle.ux_base.proofs.Lists.{nothing_in, first_or_later, contains_first, contains_later}
 
 -- what stands at a place stands in the list
 pub contains_at : {A : Type 0} (xs : List A) (i : ℕ) (x : A) → slice_get xs i ≡ Some x → Contains xs x

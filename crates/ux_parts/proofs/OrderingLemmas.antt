@@ -19,9 +19,9 @@ use Rattle.ux_net.specs.declared.state.Edge.{Edge}
 use Rattle.ux_net.specs.declared.state.State.{State}
 use Rattle.ux_net.specs.Nets.{graph_at, states_of}
 use Rattle.ux_net.specs.Measured.{width_of, weigh, rank_in, rank_of}
-use Rattle.ux_net.proofs.JoinedLemmas.{nothing_in, less_or, first_or_later, contains_joined, contained_joined, contains_range, contained_range, joined_push}
+use Rattle.ux_base.proofs.Lists.{nothing_in, less_or, first_or_later, same_or}
+use Rattle.ux_base.proofs.JoinedLists.{contains_joined, contained_joined, contains_range, contained_range, joined_push}
 use Rattle.ux_net.proofs.SplittingLemmas.{take-next}
-use Rattle.ux_digraph.proofs.Lists.{same_or}
 use Rattle.ux_parts.proofs.Deduped.{kept, lighter_first}
 use Rattle.ux_parts.specs.Order.{Entry, ranks_in, rank_at, entry_of, is_opening, entries_by, entries_from, entries_at, all_entries, entry_cmp, same_entry, IsOrderOf, IsPut, AreNumbers}
 use Rattle.ux_parts.specs.Parts.{number_in}

@@ -13,7 +13,8 @@ use Rattle.ux_net.specs.Closings.{closing_of as told_of, TellsClosings}
 use Rattle.ux_net.specs.Marked.{IsMarked}
 use Rattle.ux_net.specs.Measured.{rank_of}
 use Rattle.ux_net.specs.Nets.{states_in, states_of, net_grammar}
-use Rattle.ux_net.proofs.JoinedLemmas.{contains_first, contains_later, contains_joined}
+use Rattle.ux_base.proofs.Lists.{contains_first, contains_later}
+use Rattle.ux_base.proofs.JoinedLists.{contains_joined}
 use Rattle.ux_parts.specs.declared.part.Part.{Part}
 use Rattle.ux_parts.specs.declared.parts.Parts.{Parts}
 use Rattle.ux_parts.specs.Order.{Entry, entry_of, is_opening, entries_by, entries_from, entries_at, all_entries, IsOrderOf, closing_list, part_of, AreNumbers}

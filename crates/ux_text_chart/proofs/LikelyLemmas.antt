@@ -19,7 +19,7 @@ use Rattle.ux_net.specs.declared.state.Edge.{Edge}
 use Rattle.ux_net.specs.declared.state.State.{State}
 use Rattle.ux_net.specs.Nets.{net_grammar, states_of}
 use Rattle.ux_net.specs.Words.{Step, mark_of, closes}
-use Rattle.ux_net.proofs.JoinedLemmas.{less_or}
+use Rattle.ux_base.proofs.Lists.{less_or}
 use Rattle.ux_meaning.specs.Inputs.{Input}
 use Rattle.ux_parts.specs.declared.part.Part.{Part}
 use Rattle.ux_parts.specs.declared.parts.Parts.{Parts}

@@ -12,7 +12,7 @@ use Rattle.ux_alphabet.specs.Letters.{Letters}
 use Rattle.ux_net.specs.declared.label.Label.{Label}
 use Rattle.ux_net.specs.declared.label.Label.TheVariants.{Fold, Exact}
 use Rattle.ux_net.specs.declared.state.Edge.{Edge}
-use Rattle.ux_net.proofs.JoinedLemmas.{less_or, nothing_in, first_or_later, contains_first, contains_later}
+use Rattle.ux_base.proofs.Lists.{less_or, nothing_in, first_or_later, contains_first, contains_later}
 use Rattle.ux_walk.specs.declared.edge_index.Fitting.{Fitting}
 use Rattle.ux_walk.specs.declared.edge_index.EdgeIndex.{EdgeIndex}
 use Rattle.ux_walk.specs.EdgeIndexes.{IsIndexOf, fits_at, number_of, place_of}

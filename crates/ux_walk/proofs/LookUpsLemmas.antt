@@ -14,7 +14,7 @@ use Rattle.ux_net.specs.declared.state.Edge.{Edge}
 use Rattle.ux_net.specs.declared.state.State.{State}
 use Rattle.ux_net.specs.declared.net_graph.NetGraph.{NetGraph}
 use Rattle.ux_net.specs.Nets.{states_of}
-use Rattle.ux_net.proofs.JoinedLemmas.{first_or_later, contains_first, contains_later}
+use Rattle.ux_base.proofs.Lists.{first_or_later, contains_first, contains_later}
 use Rattle.ux_outputs.specs.Rendering.{skip}
 use Rattle.ux_meaning.specs.Texts.{FoldsTo}
 use Rattle.ux_walk.specs.declared.config.Frame.{Frame}

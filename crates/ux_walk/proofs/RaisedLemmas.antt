@@ -7,7 +7,7 @@ use Rattle.std.proofs.lemmas.List.{length-map, take_more, take_all}
 use Rattle.std.proofs.Math.ListN.{get_or-map}
 use Rattle.std.proofs.lemmas.List.Elements.{Contains-append_left, Contains-push, Contains-push_cases}
 use Rattle.std.proofs.lemmas.Option.{same_Some, slice_get_within, get_or_from_slice_get}
-use Rattle.ux_net.proofs.JoinedLemmas.{less_or}
+use Rattle.ux_base.proofs.Lists.{less_or}
 use Rattle.ux_alphabet.specs.Letters.{Letters}
 use Rattle.ux_walk.specs.Literals.{AreRaised, IsPlainChar}
 

@@ -4,7 +4,7 @@ use Rattle.std.specs.Str.{chars}
 use Rattle.std.proofs.lemmas.Str.{encodes-chars}
 use Rattle.ux_dict.specs.Parts.{goes_on, IsSifted}
 use Rattle.ux_dict.proofs.PartLemmas.{IsFollowed-pushed, IsFollowed-none, front_fits}
-use Rattle.ux_dict.proofs.PairLemmas.{Contains-at, nil_from_first}
+use Rattle.ux_base.proofs.OrderedLists.{Contains-at, nil_from_first}
 use Rattle.ux_dict.proofs.continuing.push_going_on.Goals as goal
 
 pub returns-in_default : goal.returns-in_default

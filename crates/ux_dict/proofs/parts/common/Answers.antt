@@ -3,7 +3,7 @@ use Rattle.std.proofs.lemmas.List.Elements.{All-contains}
 use lib.Utf8.{encodes}
 use Rattle.ux_dela.specs.declared.entry.Entry.{Entry}
 use Rattle.ux_dict.proofs.NearLemmas.{front_bytes}
-use Rattle.ux_dict.proofs.PairLemmas.{Contains-at}
+use Rattle.ux_base.proofs.OrderedLists.{Contains-at}
 use Rattle.ux_dict.proofs.parts.common.Goals as goal
 
 pub returns-in-Some : goal.returns-in-Some

@@ -3,7 +3,7 @@ use Rattle.std.proofs.lemmas.Grind.{common_steps}
 use Rattle.std.proofs.lemmas.List.Elements.{Contains-get_or}
 use Rattle.ux_digraph.specs.declared.closing.Rule.{Rule}
 use Rattle.ux_digraph.specs.Marking.{Marking, Waiting}
-use Rattle.ux_digraph.proofs.Lists.{take_more, emptied}
+use Rattle.ux_base.proofs.Lists.{take_more, emptied}
 use Rattle.ux_digraph.proofs.MarkingLemmas.{more_facts, takes, none_waits, marks_exactly}
 use Rattle.ux_digraph.proofs.UsesLemmas.{uses_known, uses_inside}
 use Rattle.ux_digraph.proofs.closing.closure.Goals as goal

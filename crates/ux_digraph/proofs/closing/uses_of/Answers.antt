@@ -2,7 +2,7 @@ use Rattle.std.proofs.Common.{◌≡◌, ◌∙◌, length, get_or, map, List, t
 use Rattle.std.proofs.lemmas.Grind.{common_steps}
 use Rattle.std.proofs.lemmas.List.{length-map}
 use Rattle.ux_digraph.specs.declared.closing.Rule.{Rule}
-use Rattle.ux_digraph.proofs.Lists.{take_more}
+use Rattle.ux_base.proofs.Lists.{take_more}
 use Rattle.ux_digraph.proofs.UsesLemmas.{no_uses, more_uses, premises_inside}
 use Rattle.ux_digraph.proofs.closing.uses_of.Goals as goal
 

@@ -3,7 +3,7 @@ use Rattle.std.proofs.lemmas.Grind.{common_steps}
 use Rattle.ux_digraph.specs.declared.grouping.Mark.TheVariants.{New}
 use Rattle.ux_digraph.specs.Grouping.{mark_at}
 use Rattle.ux_digraph.proofs.StepLemmas.{mark_read}
-use Rattle.ux_digraph.proofs.Lists.{emptied}
+use Rattle.ux_base.proofs.Lists.{emptied}
 use Rattle.ux_digraph.proofs.VisitLemmas.{visit_begins, visit_keeps, visit_meets, visit_ends}
 use Rattle.ux_digraph.proofs.grouping.visit.Goals as goal
 

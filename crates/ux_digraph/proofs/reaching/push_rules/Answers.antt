@@ -1,6 +1,6 @@
 use Rattle.std.proofs.Common.{◌+◌, List, ℕ, take, get_or, subst}
 use Rattle.ux_digraph.specs.EdgeRules.{AreRulesAdded}
-use Rattle.ux_digraph.proofs.Lists.{take_more, take_whole}
+use Rattle.ux_base.proofs.Lists.{take_more, take_whole}
 use Rattle.ux_digraph.proofs.EdgeRulesLemmas.{one_added}
 use Rattle.ux_digraph.proofs.reaching.push_rules.Goals as goal
 

@@ -1,7 +1,7 @@
 use Rattle.std.proofs.Common.{arith, ◌+◌, ◌++◌, List, [], ℕ, get_or, cond, ◌∙◌, ap, subst}
 use Rattle.std.specs.Prelude.{Contains}
 use Rattle.ux_net.specs.Construct.{is_refused, closing_from, closings_at}
-use Rattle.ux_net.proofs.JoinedLemmas.{adds_list}
+use Rattle.ux_base.proofs.JoinedLists.{adds_list}
 use Rattle.ux_net.proofs.closings.closings.Goals as goal
 
 pub push_closing-requires-clause-inside : goal.push_closing-requires-clause-inside

@@ -1,5 +1,5 @@
 use Rattle.ux_net.specs.Construct.{along_lines, chain_state}
-use Rattle.ux_net.proofs.JoinedLemmas.{adds_list}
+use Rattle.ux_base.proofs.JoinedLists.{adds_list}
 use Rattle.ux_net.proofs.construct.chain_states.Goals as goal
 
 pub loop-place-preserved : goal.loop-place-preserved

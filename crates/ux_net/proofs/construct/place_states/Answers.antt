@@ -1,6 +1,6 @@
 use Rattle.std.proofs.Common.{[]}
 use Rattle.ux_net.specs.Construct.{at_place, place_state}
-use Rattle.ux_net.proofs.JoinedLemmas.{adds_list}
+use Rattle.ux_base.proofs.JoinedLists.{adds_list}
 use Rattle.ux_net.proofs.construct.place_states.Goals as goal
 
 pub loop-place-preserved : goal.loop-place-preserved

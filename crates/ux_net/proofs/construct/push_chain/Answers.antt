@@ -1,5 +1,5 @@
 use Rattle.ux_net.specs.Construct.{chain_state}
-use Rattle.ux_net.proofs.JoinedLemmas.{adds_item}
+use Rattle.ux_base.proofs.JoinedLists.{adds_item}
 use Rattle.ux_net.proofs.construct.push_chain.Goals as goal
 
 pub loop-k-preserved : goal.loop-k-preserved

@@ -1,6 +1,6 @@
 use Rattle.std.proofs.Common.{arith, sym, ◌∙◌, append-nil}
 use Rattle.ux_net.specs.Construct.{number, chain_start, chain_state, along_line}
-use Rattle.ux_net.proofs.JoinedLemmas.{adds_list}
+use Rattle.ux_base.proofs.JoinedLists.{adds_list}
 use Rattle.ux_net.proofs.StatesLemmas.{chain_fits, chain_next, table_within, table_at}
 use Rattle.ux_net.proofs.construct.push_chains.Goals as goal
 

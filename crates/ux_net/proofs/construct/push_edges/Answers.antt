@@ -1,6 +1,6 @@
 use Rattle.std.proofs.Common.{arith, ℕ, sym, ◌∙◌, append-nil}
 use Rattle.ux_net.specs.Construct.{number, chain_start, edge_of}
-use Rattle.ux_net.proofs.JoinedLemmas.{adds_item}
+use Rattle.ux_base.proofs.JoinedLists.{adds_item}
 use Rattle.ux_net.proofs.StatesLemmas.{chain_fits, chain_next, line_some, table_within, table_at}
 use Rattle.ux_net.proofs.construct.push_edges.Goals as goal
 

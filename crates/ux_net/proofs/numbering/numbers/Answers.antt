@@ -1,6 +1,6 @@
 use Rattle.std.proofs.Common.{arith, []}
 use Rattle.ux_net.specs.Construct.{number}
-use Rattle.ux_net.proofs.JoinedLemmas.{adds_item}
+use Rattle.ux_base.proofs.JoinedLists.{adds_item}
 use Rattle.ux_net.proofs.StatesLemmas.{number_next, number_fits}
 use Rattle.ux_net.proofs.numbering.numbers.Goals as goal
 

@@ -1,6 +1,6 @@
 use Rattle.std.proofs.Common.{[]}
 use Rattle.ux_net.specs.Construct.{chain_start}
-use Rattle.ux_net.proofs.JoinedLemmas.{adds_item}
+use Rattle.ux_base.proofs.JoinedLists.{adds_item}
 use Rattle.ux_net.proofs.numbering.starts.Goals as goal
 
 pub loop-place-preserved : goal.loop-place-preserved

@@ -1,6 +1,6 @@
 use Rattle.ux_net.specs.Construct.{along_lines}
 use Rattle.ux_net.specs.Ranks.{chain_rank_at, chain_free_at}
-use Rattle.ux_net.proofs.JoinedLemmas.{adds_list}
+use Rattle.ux_base.proofs.JoinedLists.{adds_list}
 use Rattle.ux_net.proofs.ranks.push_chains.Goals as goal
 
 pub loop-place-preserved : goal.loop-place-preserved

@@ -1,6 +1,6 @@
 use Rattle.std.proofs.Common.{ℕ, ◌+◌, drop}
 use Rattle.ux_net.specs.Ranks.{rest_rank, rest_free}
-use Rattle.ux_net.proofs.JoinedLemmas.{adds_item}
+use Rattle.ux_base.proofs.JoinedLists.{adds_item}
 use Rattle.ux_net.proofs.ranks.push_labels.Goals as goal
 
 pub loop-k-preserved : goal.loop-k-preserved

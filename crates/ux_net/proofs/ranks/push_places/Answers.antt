@@ -2,7 +2,7 @@ use Rattle.std.proofs.Common.{[], ◌∷◌, ◌++◌, ◌∙◌, ap, cond}
 use Rattle.ux_net.specs.Admission.{place_rank, is_place_free}
 use Rattle.ux_net.specs.Construct.{has_state, at_place}
 use Rattle.ux_net.specs.Ranks.{above}
-use Rattle.ux_net.proofs.JoinedLemmas.{adds_list}
+use Rattle.ux_base.proofs.JoinedLists.{adds_list}
 use Rattle.ux_net.proofs.ranks.push_places.Goals as goal
 
 pub loop-place-preserved : goal.loop-place-preserved

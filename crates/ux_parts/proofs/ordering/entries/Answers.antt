@@ -1,5 +1,5 @@
 use Rattle.std.proofs.Common.{◌+◌, []}
-use Rattle.ux_net.proofs.JoinedLemmas.{adds_list}
+use Rattle.ux_base.proofs.JoinedLists.{adds_list}
 use Rattle.ux_parts.specs.Order.{entries_at}
 use Rattle.ux_parts.proofs.ordering.entries.Goals as goal
 

@@ -1,36 +1,13 @@
 -- Joined lists: what they contain, and at which index each element stands.
-use Rattle.std.proofs.Common.{arith, ◌≡◌, ℕ, zero, suc, ◌+◌, ◌-◌, ◌<◌, ◌≤◌, List, [], ◌∷◌, ◌++◌, refl, sym, ◌∙◌, ap, subst, ◌⊎◌, inl, inr, length, append_assoc, append-nil, length-append}
+use Rattle.std.proofs.Common.{arith, ◌≡◌, ℕ, zero, suc, ◌+◌, ◌-◌, ◌<◌, ◌≤◌, List, [], ◌∷◌, ◌++◌, refl, sym, ◌∙◌, ap, subst, inl, inr, length, append_assoc, append-nil, length-append}
 use Rattle.std.specs.Prelude.{Some, slice_get, Contains, map, sum_by}
 use Rattle.std.specs.List.{range_with_len, flat_map}
 use Rattle.std.proofs.lemmas.List.{get_or-append-add, get_or_append_left}
 use Rattle.std.proofs.lemmas.Option.{slice_get-get_or}
-use Rattle.std.proofs.lemmas.List.Elements.{Contains-append_left, Contains-append_right, Contains-append_cases, Contains-push, Contains-push_cases, Contains-get_or}
+use Rattle.std.proofs.lemmas.List.Elements.{Contains-append_left, Contains-append_right, Contains-append_cases, Contains-get_or}
 use Rattle.std.proofs.lemmas.List.FromFn.{length-range_with_len, get_or-range_with_len, get_or-map-range_with_len, length-map-range_with_len, map-range_with_len_more}
 use Rattle.std.proofs.lemmas.List.Sums.{sum_by-cons, sum_by_push}
-
-pub less_or : (i n : ℕ) → (i < n) ⊎ (n ≤ i)
-less_or zero zero = inr (omega arith)
-less_or (suc i) zero = inr (omega arith)
-less_or zero (suc n) = inl (omega arith)
-less_or (suc i) (suc n) =
-    elim (less_or i n) [ inl h ↦ inl (omega arith) | inr h ↦ inr (omega arith) ]
-
-pub nothing_in : {A : Type 0} {x : A} → Contains [] x → ⊥
-nothing_in h = absurd (omega (arith, h.1))
-
-pub first_or_later : {A : Type 0} (x : A) (xs : List A) (y : A) → Contains (x ∷ xs) y →
-    (x ≡ y) ⊎ Contains xs y
-first_or_later x xs y h = elim (Contains-append_cases (x ∷ []) xs y h) [
-  | inl a ↦ elim (Contains-push_cases [] x y a) [ inl b ↦ absurd (nothing_in b) | inr e ↦ inl e ]
-  | inr b ↦ inr b
-]
-
-pub contains_first : {A : Type 0} (x : A) (xs : List A) → Contains (x ∷ xs) x
-contains_first x xs = Contains-append_left (x ∷ []) xs x (Contains-push [] x)
-
-pub contains_later : {A : Type 0} (x : A) (xs : List A) (y : A) → Contains xs y →
-    Contains (x ∷ xs) y
-contains_later x xs y h = Contains-append_right (x ∷ []) xs y h
+use Rattle.ux_base.proofs.Lists.{less_or, nothing_in, first_or_later, contains_first, contains_later}
 
 pub contains_joined : {A B : Type 0} (f : A → List B) (xs : List A) (x : A) (y : B) →
     Contains xs x → Contains (f x) y → Contains (flat_map f xs) y

@@ -1,4 +1,11 @@
-//! Two texts compared.
+//! Texts in the order of their code points.
+//!
+//! The order of two texts in UTF-8 by their bytes is that of their characters by code points, so texts
+//! are compared a byte at a time, and nothing is decoded.
+//!
+//! ```text
+//! compare("chat", "chats")      // Less
+//! ```
 
 ghost use Rattle.std.specs.Prelude.{◌≡◌, chars};
 ghost use Rattle.std.specs.Ordering.{nat_cmp};

@@ -1,8 +1,8 @@
 use Rattle.std.proofs.Common.{◌∙◌, ap}
 use Rattle.std.specs.Ordering.{nat_cmp}
 use Rattle.std.specs.Cmp.Lexicographic.{slice_cmp}
-use Rattle.ux_code_points.proofs.OrderLemmas.{code_points}
-use Rattle.ux_code_points.proofs.order.compare.Goals as goal
+use Rattle.ux_base.proofs.CodePoints.{code_points}
+use Rattle.ux_base.proofs.code_points.compare.Goals as goal
 
 pub returns : goal.returns
 returns c =
