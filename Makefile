@@ -16,7 +16,7 @@ PREFIX ?= /usr/local
 FILES := time.grf part.grf text.txt alphabet.txt
 
 # In the order of crates.txt, which begins with the lowest layer. Crates of rows have tests alone, so no program needs them.
-CRATES := $(filter-out ux_rows ux_dictionary_rows ux_search_rows,$(shell sed -n 's/^\([a-z0-9_]*\).*:.*/\1/p' crates.txt))
+CRATES := $(filter-out ux_tests_files ux_tests_dictionaries ux_tests_search,$(shell sed -n 's/^\([a-z0-9_]*\).*:.*/\1/p' crates.txt))
 
 example:
 	@echo 'unitex locate time.grf text.txt alphabet.txt, unproved: compiling, about a minute'

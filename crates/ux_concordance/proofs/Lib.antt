@@ -1,3 +1,8 @@
-pub mod Answering
-pub mod ConcordLaws
-pub mod HitsLemmas
+pub mod CharactersLemmas
+pub mod ContextLemmas
+pub mod EndsLemmas
+pub mod LinesLemmas
+pub mod LyingLemmas
+pub mod OrderLemmas
+pub mod SplitLemmas
+pub mod WidthLemmas

@@ -1,2 +1,5 @@
-pub mod Applied
-pub mod Concord
+pub mod Concordance
+pub mod Contexts
+pub mod Lent
+pub mod Widths
+pub mod Ends

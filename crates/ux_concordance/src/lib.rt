@@ -1,22 +1,22 @@
-//! The command `concord`: the concordance of the places of a text that a grammar takes.
+//! The concordance of hits: each with what stands before and behind it, in an order.
 //!
-//! In go the names of a graph, a text, an alphabet and dictionaries, as for a search, and out comes the
-//! concordance of the hits, as bytes, or the first file that stops the reading. Begin with
-//! `specs/Concord.antt`, which says what is read and what answers it; what a hit is stands in
-//! `ux_locate`, and what a concordance is in `ux_concord`. `hits` has the hits found, and `command` reads
-//! the files and has the hits laid out.
+//! In go a text and hits in it, and out comes a text with a line for each hit. `specs/Concordance.antt`
+//! says what a concordance is. A column is counted as a terminal shows it, by the display widths of
+//! Unicode: some characters take two, and some none.
+//!
+//! `context` cuts what stands around a hit, `line` puts a hit and its contexts together, `order` sorts
+//! the lines, and `concordance` writes them. A context is a part of the text until it is written.
 //!
 //! ```text
-//! let (mode, policy, novar) = (Mode::Merge, Policy::Longest, NoVar::Nothing);
-//! let layout = Layout { left: 40, right: 40, sort: Sort::LC };
-//! let names = ("noun.grf", "text.txt", "alphabet.txt");
-//! let lines = concord(alloc, names.0, names.1, names.2, &dics, mode, policy, novar, false, layout, folder)?;
+//! let concordance = concord(alloc, &text, hits.as_slice(), 40, 40, Sort::LC)?;
 //! ```
 #![tactic(auto)]
 
-mod command;
-mod hits;
-mod layout;
+mod characters;
+mod concordance;
+mod context;
+mod line;
+mod order;
+mod width;
 
-pub use command::concord;
-pub use layout::Layout;
+pub use concordance::concord;

@@ -14,14 +14,14 @@ use Rattle.ux_status.specs.declared.status.Status.{Status}
 use Rattle.ux_status.specs.declared.status.Status.TheVariants.{Done, Usage, Absent, Refused, ReadFault, WriteFault, TooLarge, NoMemory}
 use Rattle.ux_status.specs.declared.status.Reason.{Reason}
 use Rattle.ux_status.specs.Statuses.{line_of}
-use Rattle.ux_words.specs.declared.request.Request.{Request}
-use Rattle.ux_words.specs.declared.request.Request.TheVariants.{Locate, Concord, Tokenize, Check, Dico, Fst2, Inflect, Compress, Tfst, Elag, Bench, Cascade, Flatten, Tfind, Morpho, Help, Version}
-use Rattle.ux_search.proofs.SearchLaws.{laws as locate_laws}
-use Rattle.ux_concordance.proofs.ConcordLaws.{laws as concord_laws}
-use Rattle.ux_tokenize.proofs.TokenizeLaws.{laws as tokenize_laws}
-use Rattle.ux_check.proofs.CheckLaws.{entries_laws, stems_laws}
-use Rattle.ux_compress.proofs.CompressLaws.{laws as compress_laws}
-use Rattle.ux_dico.proofs.DicoLaws.{laws as dico_laws}
+use Rattle.ux_command_line.specs.declared.request.Request.{Request}
+use Rattle.ux_command_line.specs.declared.request.Request.TheVariants.{Locate, Concord, Tokenize, Check, Dico, Fst2, Inflect, Compress, Tfst, Elag, Bench, Cascade, Flatten, Tfind, Morpho, Help, Version}
+use Rattle.ux_cmd_locate.proofs.SearchLaws.{laws as locate_laws}
+use Rattle.ux_cmd_concord.proofs.ConcordLaws.{laws as concord_laws}
+use Rattle.ux_cmd_tokenize.proofs.TokenizeLaws.{laws as tokenize_laws}
+use Rattle.ux_cmd_check.proofs.CheckLaws.{entries_laws, stems_laws}
+use Rattle.ux_cmd_compress.proofs.CompressLaws.{laws as compress_laws}
+use Rattle.ux_cmd_dico.proofs.DicoLaws.{laws as dico_laws}
 use Rattle.ux_run.specs.Requests.{is_drawn}
 use Rattle.ux_run.specs.Running.{Asked, Denies, EndsBy, IsAnswer, IsAnswerable, IsAsked, asked_if, asked_of, asks, nothing, only_if, same_told, status_of, told_of, unread_command}
 

@@ -4,7 +4,7 @@ use Rattle.ux_base.specs.Outside.{Seen}
 use Rattle.ux_plan.specs.declared.stop.Stop.{Stop}
 use Rattle.ux_plan.specs.declared.stop.Stop.TheVariants as stop
 use Rattle.ux_plan.specs.Plans.{Halts, IsMemory}
-use Rattle.ux_words.specs.declared.request.Request.TheVariants.{Bench}
+use Rattle.ux_command_line.specs.declared.request.Request.TheVariants.{Bench}
 use Rattle.ux_status.specs.declared.status.Reason.{Reason}
 use Rattle.ux_status.specs.declared.status.Status.{Status}
 use Rattle.ux_status.specs.declared.status.Status.TheVariants.{NoMemory}

@@ -1,16 +1,16 @@
 -- How the reasons of each command are told by a run. This file carries public meaning.
 use Rattle.ux_status.specs.declared.status.Reason.{Reason}
 use Rattle.ux_status.specs.declared.status.Reason.TheVariants as reason
-use Rattle.ux_search.specs.declared.reason.Reason as search
-use Rattle.ux_search.specs.declared.reason.Reason.TheVariants as search_reason
-use Rattle.ux_tokenize.specs.declared.reason.Reason as tokenize
-use Rattle.ux_tokenize.specs.declared.reason.Reason.TheVariants as tokenize_reason
-use Rattle.ux_check.specs.declared.reason.Reason as check
-use Rattle.ux_check.specs.declared.reason.Reason.TheVariants as check_reason
-use Rattle.ux_compress.specs.declared.reason.Reason as compress
-use Rattle.ux_compress.specs.declared.reason.Reason.TheVariants as compress_reason
-use Rattle.ux_dico.specs.declared.reason.Reason as dico
-use Rattle.ux_dico.specs.declared.reason.Reason.TheVariants as dico_reason
+use Rattle.ux_cmd_locate.specs.declared.reason.Reason as search
+use Rattle.ux_cmd_locate.specs.declared.reason.Reason.TheVariants as search_reason
+use Rattle.ux_cmd_tokenize.specs.declared.reason.Reason as tokenize
+use Rattle.ux_cmd_tokenize.specs.declared.reason.Reason.TheVariants as tokenize_reason
+use Rattle.ux_cmd_check.specs.declared.reason.Reason as check
+use Rattle.ux_cmd_check.specs.declared.reason.Reason.TheVariants as check_reason
+use Rattle.ux_cmd_compress.specs.declared.reason.Reason as compress
+use Rattle.ux_cmd_compress.specs.declared.reason.Reason.TheVariants as compress_reason
+use Rattle.ux_cmd_dico.specs.declared.reason.Reason as dico
+use Rattle.ux_cmd_dico.specs.declared.reason.Reason.TheVariants as dico_reason
 
 abbrev pub search_told : search.Reason → Reason
 search_told (search_reason.Decode error) = reason.Decode error

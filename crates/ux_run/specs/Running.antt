@@ -7,17 +7,17 @@ use Rattle.ux_plan.specs.declared.stop.Stop.{Stop}
 use Rattle.ux_plan.specs.declared.stop.Stop.TheVariants as stop
 use Rattle.ux_plan.specs.Plans as plan
 use Rattle.ux_plan.specs.Plans.{Comes, Command, Halts, gives}
-use Rattle.ux_words.specs.Requests.{request_of}
-use Rattle.ux_words.specs.declared.help.TheConstants.{HELP, VERSION}
-use Rattle.ux_words.specs.declared.request.Request.{Request}
-use Rattle.ux_words.specs.declared.request.Request.TheVariants.{Locate, Concord, Tokenize, Check, Compress, Dico, Bench, Help, Version}
-use Rattle.ux_search.specs.Locate.{locate}
-use Rattle.ux_concordance.specs.Concord.{concord}
-use Rattle.ux_tokenize.specs.Tokenize.{tokenize}
-use Rattle.ux_check.specs.Check.{check_entries, check_stems}
-use Rattle.ux_compress.specs.Compress.{compress}
-use Rattle.ux_dico.specs.Dico.{dico}
-use Rattle.ux_bench.specs.Bench.{IsSummaryOf}
+use Rattle.ux_command_line.specs.Requests.{request_of}
+use Rattle.ux_command_line.specs.declared.help.TheConstants.{HELP, VERSION}
+use Rattle.ux_command_line.specs.declared.request.Request.{Request}
+use Rattle.ux_command_line.specs.declared.request.Request.TheVariants.{Locate, Concord, Tokenize, Check, Compress, Dico, Bench, Help, Version}
+use Rattle.ux_cmd_locate.specs.Locate.{locate}
+use Rattle.ux_cmd_concord.specs.Concord.{concord}
+use Rattle.ux_cmd_tokenize.specs.Tokenize.{tokenize}
+use Rattle.ux_cmd_check.specs.Check.{check_entries, check_stems}
+use Rattle.ux_cmd_compress.specs.Compress.{compress}
+use Rattle.ux_cmd_dico.specs.Dico.{dico}
+use Rattle.ux_cmd_bench.specs.Bench.{IsSummaryOf}
 use Rattle.ux_status.specs.declared.status.Status.{Status}
 use Rattle.ux_status.specs.declared.status.Status.TheVariants.{Done, Usage, Absent, Refused, ReadFault, WriteFault, TooLarge, NoMemory}
 use Rattle.ux_status.specs.declared.status.Reason.{Reason}

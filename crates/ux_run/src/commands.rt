@@ -2,23 +2,23 @@
 
 ghost use Rattle.std.specs.Prelude.{◌≡◌, true, false, IfOk, IfErr, Option};
 ghost use Rattle.ux_base.specs.Outside.{Files, IsLater, Seen};
-ghost use Rattle.ux_words.specs.declared.request.Request.TheVariants as request;
-ghost use Rattle.ux_bench.specs.Bench.{IsSummaryOf};
+ghost use Rattle.ux_command_line.specs.declared.request.Request.TheVariants as request;
+ghost use Rattle.ux_cmd_bench.specs.Bench.{IsSummaryOf};
 ghost use Rattle.ux_run.specs.Running.{Denies, IsAnswer, asked_of};
 
 use crate::built::is_drawn;
 use crate::stops::with_status;
 use std::alloc::Global;
 use ux_base::{Folder, Sort, Txt};
-use ux_bench::bench;
-use ux_check::{check_entries, check_stems};
-use ux_compress::compress;
-use ux_concordance::{Layout, concord};
-use ux_dico::dico;
-use ux_search::locate;
+use ux_cmd_bench::bench;
+use ux_cmd_check::{check_entries, check_stems};
+use ux_cmd_compress::compress;
+use ux_cmd_concord::{Layout, concord};
+use ux_cmd_dico::dico;
+use ux_cmd_locate::locate;
+use ux_cmd_tokenize::tokenize;
+use ux_command_line::{HELP, Request, Search, VERSION};
 use ux_status::Status;
-use ux_tokenize::tokenize;
-use ux_words::{HELP, Request, Search, VERSION};
 
 /// The answer to a request, or how the run ends without one.
 pub fn answer_to<F: Folder>(

@@ -3,13 +3,13 @@
 ghost use Rattle.std.specs.Prelude.{◌≡◌};
 ghost use Rattle.ux_run.specs.Running.{status_of, told_of};
 
-use ux_check::Reason as CheckReason;
-use ux_compress::Reason as CompressReason;
-use ux_dico::Reason as DicoReason;
+use ux_cmd_check::Reason as CheckReason;
+use ux_cmd_compress::Reason as CompressReason;
+use ux_cmd_dico::Reason as DicoReason;
+use ux_cmd_locate::Reason as SearchReason;
+use ux_cmd_tokenize::Reason as TokenizeReason;
 use ux_plan::Stop;
-use ux_search::Reason as SearchReason;
 use ux_status::{Reason, Status};
-use ux_tokenize::Reason as TokenizeReason;
 
 /// A command's own reasons.
 pub trait CommandReason: Drop {

@@ -8,8 +8,8 @@ ghost use Rattle.ux_run.specs.Running.{asked_by, Denies, EndsBy, IsAnswer, IsAns
 use crate::commands::answer_to;
 use std::alloc::Global;
 use ux_base::{Folder, Sink};
+use ux_command_line::{Request, WordsError};
 use ux_status::{Status, tell};
-use ux_words::{Request, WordsError};
 
 /// Does what the words ask for. The result is built whole, and then written to `out`; where there
 /// is none, one line on `err` says why.

@@ -1,4 +1,4 @@
--- How lists grow by what is wanted. Inner, but that `ux_search` speaks of it too.
+-- How lists grow by what is wanted. Inner, but that `ux_cmd_locate` speaks of it too.
 use Rattle.std.specs.Prelude.{◌⊎◌, List, Contains}
 
 -- what is wanted was added to what was there, and nothing else

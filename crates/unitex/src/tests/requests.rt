@@ -6,7 +6,7 @@ use crate::tests::rows::{
 use std::alloc::Global;
 use std::process::Abort;
 use std::test::Fail;
-use ux_words::{HELP, VERSION};
+use ux_command_line::{HELP, VERSION};
 
 /// Gives the words with the usual files, and compares what is written to `out`.
 fn compare_words<R: Abort + AllocGlobal>(

@@ -1,6 +1,6 @@
 use Rattle.std.proofs.Common.{◌≡◌}
-use Rattle.ux_words.specs.declared.help.TheConstants.{HELP, VERSION}
-use Rattle.ux_bench.specs.Bench.{IsSummaryOf}
+use Rattle.ux_command_line.specs.declared.help.TheConstants.{HELP, VERSION}
+use Rattle.ux_cmd_bench.specs.Bench.{IsSummaryOf}
 use Rattle.ux_run.proofs.Ending.{unread_answers, unread_denies}
 use Rattle.ux_run.proofs.commands.answer_to.Goals as goal
 

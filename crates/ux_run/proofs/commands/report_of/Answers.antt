@@ -1,4 +1,4 @@
-use Rattle.ux_dico.specs.Dico.{dico}
+use Rattle.ux_cmd_dico.specs.Dico.{dico}
 use Rattle.ux_run.specs.Reasons.{dico_told}
 use Rattle.ux_run.proofs.Ending.{told_answers, told_denies}
 use Rattle.ux_run.proofs.commands.report_of.Goals as goal

@@ -1,7 +1,7 @@
 use Rattle.std.proofs.Common.{inr, map, string_bytes, rules}
 use Rattle.ux_base.specs.Outside.{Rose}
 use Rattle.ux_status.specs.declared.status.Status.TheVariants.{WriteFault}
-use Rattle.ux_words.specs.Requests.{request_of}
+use Rattle.ux_command_line.specs.Requests.{request_of}
 use Rattle.ux_run.specs.Running.{asked_if}
 use Rattle.ux_run.proofs.Ending.{denied_ends, ended_memory, front_line}
 use Rattle.ux_run.proofs.top_call.run.Goals as goal

@@ -1,5 +1,0 @@
-use Rattle.ux_bench.proofs.summary.summary.Given as goal
-
--- steps are counted in the ledger of the blank
-abbrev pub ghosts-counts : goal.ghosts-counts
-ghosts-counts a = record { name = a.blank.name; parts = a.blank.parts }

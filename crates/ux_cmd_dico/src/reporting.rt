@@ -1,0 +1,58 @@
+//! The report on the dictionaries that apply to a text.
+
+ghost use Rattle.std.specs.Prelude.{IfErr, IfOk, string_bytes};
+ghost use Rattle.ux_base.specs.Outside.{IsLater};
+ghost use Rattle.ux_plan.specs.Plans.{Answers, Halts};
+ghost use Rattle.ux_dictionaries.specs.Dictionaries.{contents_of};
+ghost use Rattle.ux_cmd_dico.specs.Dico.{IsReportOf, dico as dico_command};
+
+use crate::reason::Reason;
+use std::alloc::Global;
+use ux_alphabet::Alphabet;
+use ux_apply::{Applied, Priority};
+use ux_base::{Folder, Mem, Txt};
+use ux_dictionaries::read_dictionaries;
+use ux_lexicon::AnyLexicon;
+use ux_plan::Stop;
+use ux_report::report;
+use ux_texts::read_letters_and_text;
+use ux_tokens::Text;
+
+/// Reads an alphabet, a text in its letters and dictionaries in the order of their names, and gives
+/// the report of the entries that apply to the text. With `chars` each letter is a word of its own.
+#[tactic(auto, using(ux_plan::proofs::PlanSteps::plan_steps))]
+pub fn dico<F: Folder>(
+    alloc: Global,
+    text: &str,
+    alphabet: &str,
+    dics: &[Txt],
+    chars: bool,
+    folder: &mut F,
+) -> Result<Vec<u8>, Stop<Reason>>
+    ensures later { IsLater (F.seen folder.old) (F.seen folder.new) }
+    ensures ok { IfOk result (λ answer.
+        Answers (dico_command text.now alphabet.now dics.now chars) (F.seen folder.old).files
+        answer.items) }
+    ensures err { IfErr result (Halts (dico_command text.now alphabet.now dics.now chars).plan
+        (F.seen folder.old) (F.seen folder.new)) }
+{
+    let (alphabet, text) = read_letters_and_text(alloc, text, alphabet, chars, folder)?;
+    let dics = read_dictionaries(alloc, dics, folder)?;
+    let report = applied_report(alloc, &text, &alphabet, dics)?;
+    Ok(report.into_bytes())
+}
+
+/// The report of the entries that apply to the text. The dictionaries are freed before it is made.
+fn applied_report(
+    alloc: Global,
+    text: &Text,
+    alphabet: &Alphabet,
+    dics: Vec<(Priority, AnyLexicon)>,
+) -> Mem<String>
+    ensures { IfOk result (λ report.
+        IsReportOf alphabet.now text.now (contents_of dics.items) (string_bytes report)) }
+{
+    let applied = Applied::of(alloc, text, alphabet, &dics)?;
+    drop(dics);
+    report(alloc, text, &applied)
+}

@@ -1,5 +1,0 @@
-pub mod Concordance
-pub mod Contexts
-pub mod Lent
-pub mod Widths
-pub mod Ends

@@ -1,4 +1,0 @@
-use Rattle.ux_search_rows.proofs.walker.way_in.Goals as goal
-
-pub of-requires-clause-plain : goal.of-requires-clause-plain
-of-requires-clause-plain c = c.is_plain.ensures.0 c.if-is_plain.true

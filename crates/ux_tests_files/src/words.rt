@@ -1,0 +1,383 @@
+//! Rows of words, with `|` between them.
+//!
+//! A request is a large type, and a function that holds one where it may fail or stop is dear to
+//! prove. So requests are compared as they are debugged, which tells them apart.
+
+use crate::comparing::compare;
+use std::alloc::{AllocError, Global};
+use std::process::Abort;
+use std::test::Fail;
+use ux_command_line::{Request, WordsError};
+
+fn words_of(alloc: Global, line: &str) -> Result<Vec<String>, AllocError> {
+    let mut words = Vec::new(alloc);
+    for word in line.split('|') {
+        words.push(String::from_str(alloc, word)?)?;
+    }
+    Ok(words)
+}
+
+fn debugged(alloc: Global, request: &Request) -> Result<String, AllocError> {
+    format!(in alloc; "{request:?}")
+}
+
+/// What the words of a line ask for, as it is debugged.
+fn asked(alloc: Global, line: &str) -> Result<String, WordsError> {
+    let words = words_of(alloc, line)?;
+    let request = Request::of(alloc, &words)?;
+    let text = debugged(alloc, &request);
+    drop(request);
+    Ok(text?)
+}
+
+/// Words, and what they ask for as it is debugged.
+type Asked = (&'static str, &'static str);
+
+fn check_asked(rt: &impl Abort, alloc: Global, row: &Asked) -> Result<(), Fail> {
+    let got = asked(alloc, row.0)?;
+    compare(rt, row.0, got.as_str(), row.1);
+    Ok(())
+}
+
+#[test]
+fn reads_each_command(rt: HostRuntime) -> Result<(), Fail> {
+    const ROWS: &[Asked] = &[
+        (
+            "locate|g|t|a",
+            "Locate(Search { graph: Txt { text: \"g\" }, text: Txt { text: \"t\" }, alphabet: Txt { text: \"a\" }, dics: Lst { items: [] }, mode: Ignore, policy: All, novar: Nothing, chars: false })",
+        ),
+        (
+            "locate|--novar|--mode=replace|g|t|--policy|shortest|a|d|e",
+            "Locate(Search { graph: Txt { text: \"g\" }, text: Txt { text: \"t\" }, alphabet: Txt { text: \"a\" }, dics: Lst { items: [Txt { text: \"d\" }, Txt { text: \"e\" }] }, mode: Replace, policy: Shortest, novar: Drop, chars: false })",
+        ),
+        (
+            "concord|g|t|a|--right|0007|--chars|--sort=RL",
+            "Concord { search: Search { graph: Txt { text: \"g\" }, text: Txt { text: \"t\" }, alphabet: Txt { text: \"a\" }, dics: Lst { items: [] }, mode: Ignore, policy: All, novar: Nothing, chars: true }, left: 40, right: 7, sort: RL }",
+        ),
+        (
+            "tokenize|t|a",
+            "Tokenize { text: Txt { text: \"t\" }, alphabet: Txt { text: \"a\" }, chars: false }",
+        ),
+        (
+            "tokenize|--|--chars|a",
+            "Tokenize { text: Txt { text: \"--chars\" }, alphabet: Txt { text: \"a\" }, chars: false }",
+        ),
+        (
+            "check|d.udi|--delas",
+            "Check { delas: true, file: Txt { text: \"d.udi\" } }",
+        ),
+        (
+            "dico|t|--chars|a|d",
+            "Dico { text: Txt { text: \"t\" }, alphabet: Txt { text: \"a\" }, dics: Lst { items: [Txt { text: \"d\" }] }, chars: true }",
+        ),
+        (
+            "fst2|g|a",
+            "Fst2 { graph: Txt { text: \"g\" }, alphabet: Txt { text: \"a\" }, chars: false }",
+        ),
+        ("inflect|s", "Inflect { stems: Txt { text: \"s\" } }"),
+        ("compress|d", "Compress { dic: Txt { text: \"d\" } }"),
+        (
+            "txt2tfst|t|a|--chars",
+            "Tfst { text: Txt { text: \"t\" }, alphabet: Txt { text: \"a\" }, dics: Lst { items: [] }, chars: true }",
+        ),
+        (
+            "elag|f|r|s",
+            "Elag { tfst: Txt { text: \"f\" }, rules: Lst { items: [Txt { text: \"r\" }, Txt { text: \"s\" }] } }",
+        ),
+        ("bench|200000", "Bench { n: 200000 }"),
+        (
+            "cascade|--trace|t|a|dic:e|replace07:h:i|dic:d|merge:g",
+            "Cascade { text: Txt { text: \"t\" }, alphabet: Txt { text: \"a\" }, steps: Lst { items: [CascadeStep { graph: Txt { text: \"h:i\" }, mode: Replace, times: 7 }, CascadeStep { graph: Txt { text: \"g\" }, mode: Merge, times: 1 }] }, dics: Lst { items: [Txt { text: \"e\" }, Txt { text: \"d\" }] }, trace: true }",
+        ),
+        (
+            "flatten|g|a",
+            "Flatten { graph: Txt { text: \"g\" }, alphabet: Txt { text: \"a\" }, depth: 10 }",
+        ),
+        (
+            "tfind|g|f|a",
+            "Tfind { graph: Txt { text: \"g\" }, tfst: Txt { text: \"f\" }, alphabet: Txt { text: \"a\" } }",
+        ),
+        (
+            "morpho|g|t|a|d",
+            "Morpho { graph: Txt { text: \"g\" }, text: Txt { text: \"t\" }, alphabet: Txt { text: \"a\" }, dics: Lst { items: [Txt { text: \"d\" }] } }",
+        ),
+        ("--help", "Help"),
+        ("--version", "Version"),
+    ];
+    for row in ROWS {
+        check_asked(&rt, rt.alloc(), row)?;
+    }
+    Ok(())
+}
+
+/// Words, and others that ask for the same; none where they are no request.
+type Row = (&'static str, &'static str);
+
+fn check<R: Abort + AllocGlobal>(rt: &R, rows: &[Row]) -> Result<(), Fail> {
+    for (words, same) in rows {
+        let got = asked(rt.alloc(), words);
+        let want = if same.is_empty() {
+            Err(WordsError::Usage)
+        } else {
+            Ok(asked(rt.alloc(), same)?)
+        };
+        compare(rt, words, got.as_deref(), want.as_deref());
+    }
+    Ok(())
+}
+
+#[test]
+fn reads_every_form_of_an_option(rt: HostRuntime) -> Result<(), Fail> {
+    const ROWS: &[Row] = &[
+        // An option with a value.
+        ("locate|--mode=merge|g|t|a", "locate|g|t|a|--mode|merge"),
+        (
+            "locate|--policy=longest|g|t|a",
+            "locate|g|t|--policy|longest|a",
+        ),
+        ("locate|--mode=ignore|--policy=all|g|t|a", "locate|g|t|a"),
+        ("locate|--mode=merge|--mode=merge|g|t|a", ""),
+        ("locate|--mode|merge|--mode=replace|g|t|a", ""),
+        ("locate|--policy|all|g|t|a|--policy|all", ""),
+        ("locate|--mode=|g|t|a", ""),
+        ("locate|--mode||g|t|a", ""),
+        ("locate|--mode=Merge|g|t|a", ""),
+        ("locate|--mode=merge=|g|t|a", ""),
+        ("locate|--mode|--policy|all|g|t|a", ""),
+        ("locate|--mode|--|g|t|a", ""),
+        ("locate|g|t|a|--mode", ""),
+        ("locate|--mod=merge|g|t|a", ""),
+        ("locate|--modes=merge|g|t|a", ""),
+        ("locate|--pol|all|g|t|a", ""),
+        ("locate|-m|merge|g|t|a", ""),
+        ("locate|-mode=merge|g|t|a", ""),
+        ("locate|--=merge|g|t|a", ""),
+        ("locate|--left=5|g|t|a", ""),
+        ("locate|--delas|g|t|a", ""),
+        // A flag.
+        ("locate|g|t|a|--novar", "locate|--novar|g|t|a"),
+        ("locate|--novar|--novar|g|t|a", ""),
+        ("locate|--novar=|g|t|a", ""),
+        ("locate|--novar=x|g|t|a", ""),
+        ("locate|--no|g|t|a", ""),
+        ("check|--delas|d", "check|d|--delas"),
+        ("check|--delas|d|--delas", ""),
+        ("check|--delas=|d", ""),
+        ("check|--del|d", ""),
+        // Numbers.
+        ("concord|--left=40|--right=0040|g|t|a", "concord|g|t|a"),
+        ("concord|--left|0|g|t|a", "concord|g|t|a|--left=0000"),
+        ("concord|--left=1000|g|t|a", "concord|--left|1000|g|t|a"),
+        ("concord|--left=1001|g|t|a", ""),
+        ("concord|--left=00040|g|t|a", ""),
+        ("concord|--left=|g|t|a", ""),
+        ("concord|--left=+5|g|t|a", ""),
+        ("concord|--left|-5|g|t|a", ""),
+        ("concord|--right=5x|g|t|a", ""),
+        ("concord|--right=5|--right=5|g|t|a", ""),
+        ("concord|--sort=TO|g|t|a", "concord|g|t|a"),
+        ("concord|--sort=to|g|t|a", ""),
+        ("concord|--sort=LC|--sort|LC|g|t|a", ""),
+        (
+            "concord|--mode=merge|g|t|a|--novar",
+            "concord|--novar|--mode|merge|g|t|a",
+        ),
+        ("bench|000005", "bench|5"),
+        ("bench|0", ""),
+        ("bench|200001", ""),
+        ("bench|0000005", ""),
+        ("bench|x", ""),
+        ("bench|--|5", "bench|5"),
+    ];
+    check(&rt, ROWS)
+}
+
+#[test]
+fn reads_single_letters(rt: HostRuntime) -> Result<(), Fail> {
+    const ROWS: &[Row] = &[
+        ("locate|--chars|g|t|a", "locate|g|t|a|--chars"),
+        ("concord|--chars|g|t|a", "concord|g|t|a|--chars"),
+        ("tokenize|--chars|t|a", "tokenize|t|a|--chars"),
+        ("dico|--chars|t|a|d", "dico|t|a|d|--chars"),
+        ("txt2tfst|--chars|t|a", "txt2tfst|t|a|--chars"),
+        ("fst2|--chars|g|a", "fst2|g|a|--chars"),
+        ("locate|--chars|--chars|g|t|a", ""),
+        ("tokenize|--chars|t|a|--chars", ""),
+        ("dico|--chars=|t|a", ""),
+        ("fst2|--chars=x|g|a", ""),
+        ("txt2tfst|--char|t|a", ""),
+        ("tokenize|-chars|t|a", ""),
+        // Commands that lack it.
+        ("check|--chars|d", ""),
+        ("inflect|--chars|s", ""),
+        ("compress|--chars|d", ""),
+        ("elag|--chars|f|r", ""),
+        ("bench|--chars|5", ""),
+        ("cascade|--chars|t|a|merge:g", ""),
+        ("flatten|--chars|g|a", ""),
+        ("tfind|--chars|g|f|a", ""),
+        ("morpho|--chars|g|t|a", ""),
+    ];
+    check(&rt, ROWS)
+}
+
+#[test]
+fn reads_the_steps_of_a_cascade(rt: HostRuntime) -> Result<(), Fail> {
+    const ROWS: &[Row] = &[
+        // How often a step is applied.
+        ("cascade|t|a|merge:g", "cascade|t|a|merge1:g"),
+        ("cascade|t|a|merge01:g", "cascade|t|a|merge:g"),
+        ("cascade|t|a|merge07:g", "cascade|t|a|merge7:g"),
+        ("cascade|t|a|replace99:g", "cascade|--|t|a|replace99:g"),
+        ("cascade|t|a|merge0:g", ""),
+        ("cascade|t|a|merge00:g", ""),
+        ("cascade|t|a|merge100:g", ""),
+        ("cascade|t|a|replace007:g", ""),
+        ("cascade|t|a|mergex:g", ""),
+        ("cascade|t|a|merge+1:g", ""),
+        ("cascade|t|a|replace 1:g", ""),
+        // Kinds of steps.
+        ("cascade|t|a|merge", ""),
+        ("cascade|t|a|merge:", ""),
+        ("cascade|t|a|merge7:", ""),
+        ("cascade|t|a|replace:", ""),
+        ("cascade|t|a|:g", ""),
+        ("cascade|t|a|Merge:g", ""),
+        ("cascade|t|a|ignore:g", ""),
+        ("cascade|t|a|remerge:g", ""),
+        ("cascade|t|a|merge:g|h", ""),
+        // Dictionaries, which stand among the steps.
+        ("cascade|t|a|dic:d|merge:g", "cascade|t|a|merge:g|dic:d"),
+        ("cascade|t|a|dic:f", ""),
+        ("cascade|t|a|merge:g|dic:", ""),
+        ("cascade|t|a|merge:g|dic2:f", ""),
+        ("cascade|t|a|merge:g|dics:f", ""),
+        // Counts and options.
+        ("cascade", ""),
+        ("cascade|t", ""),
+        ("cascade|t|a", ""),
+        ("cascade|merge:g|t|a", ""),
+        ("cascade|--trace|t|a|merge:g", "cascade|t|a|merge:g|--trace"),
+        ("cascade|--trace|--trace|t|a|merge:g", ""),
+        ("cascade|--trace=|t|a|merge:g", ""),
+        ("cascade|--trace=x|t|a|merge:g", ""),
+        ("cascade|t|a|merge:g|--|--trace", ""),
+        ("cascade|--mode=merge|t|a|merge:g", ""),
+    ];
+    check(&rt, ROWS)
+}
+
+#[test]
+fn reads_the_last_commands(rt: HostRuntime) -> Result<(), Fail> {
+    const ROWS: &[Row] = &[
+        // How deep calls are written out.
+        ("flatten|g|a|--depth=10", "flatten|g|a"),
+        ("flatten|--depth|010|g|a", "flatten|--|g|a"),
+        ("flatten|--depth=0|g|a", "flatten|g|a|--depth|000"),
+        ("flatten|--depth=100|g|a", "flatten|g|--depth|100|a"),
+        ("flatten|--depth=101|g|a", ""),
+        ("flatten|--depth=0010|g|a", ""),
+        ("flatten|--depth=|g|a", ""),
+        ("flatten|--depth||g|a", ""),
+        ("flatten|--depth=x|g|a", ""),
+        ("flatten|--depth=-1|g|a", ""),
+        ("flatten|--depth|-1|g|a", ""),
+        ("flatten|--depth|+1|g|a", ""),
+        ("flatten|--depth=1|--depth=1|g|a", ""),
+        ("flatten|g|a|--depth", ""),
+        ("flatten|g", ""),
+        ("flatten|g|a|x", ""),
+        ("fst2|--depth=1|g|a", ""),
+        // Searches in automata and inside words.
+        ("tfind|g|f|a", "tfind|--|g|f|a"),
+        ("tfind|g|f", ""),
+        ("tfind|g|f|a|d", ""),
+        ("tfind|--mode=merge|g|f|a", ""),
+        ("tfind|--depth=1|g|f|a", ""),
+        ("morpho|g|t|a", "morpho|--|g|t|a"),
+        ("morpho|g|t|a|d|e", "morpho|g|t|a|--|d|e"),
+        ("morpho|g|t", ""),
+        ("morpho|g.fst2|t|a", ""),
+        ("morpho|--|g.fst2|t|a|d", ""),
+        ("morpho|.fst2|t|a", ""),
+        ("morpho|g.fst2.grf|t|a", "morpho|--|g.fst2.grf|t|a"),
+        ("morpho|g|t.fst2|a", "morpho|--|g|t.fst2|a"),
+        ("morpho|--trace|g|t|a", ""),
+    ];
+    check(&rt, ROWS)
+}
+
+#[test]
+fn reads_names_of_files(rt: HostRuntime) -> Result<(), Fail> {
+    const ROWS: &[Row] = &[
+        // `--`, `-` and the empty word.
+        ("locate|--|g|t|a", "locate|g|t|a"),
+        ("locate|g|--|t|a", "locate|g|t|a"),
+        ("locate|g|t|a|--", "locate|g|t|a"),
+        (
+            "locate|--mode=merge|--|--mode|--novar|--",
+            "locate|--mode|merge|--|--mode|--novar|--",
+        ),
+        ("locate|--|--mode=merge|t", ""),
+        ("locate|-|-|-", "locate|--|-|-|-"),
+        ("tokenize|--|-x|--", "tokenize|--|-x|--"),
+        ("tokenize|-x|a", ""),
+        ("tokenize|--x|t|a", ""),
+        ("locate||t|a", ""),
+        ("locate|g|t|a|", ""),
+        ("locate|--|g|t|", ""),
+        ("tokenize|t|a|--|", ""),
+        // Counts.
+        ("locate|g|t", ""),
+        ("concord|g|t", ""),
+        ("tokenize|t", ""),
+        ("tokenize|t|a|d", ""),
+        ("dico|t", ""),
+        ("dico|t|a", "dico|--|t|a"),
+        ("fst2|g", ""),
+        ("fst2|g|a|x", ""),
+        ("txt2tfst|t", ""),
+        ("check|", ""),
+        ("check|d|e", ""),
+        ("inflect|s|t", ""),
+        ("compress|--", ""),
+        ("compress|d|e", ""),
+        ("elag|f", ""),
+        ("bench|1|2", ""),
+        // Commands.
+        ("", ""),
+        ("locate", ""),
+        ("Locate|g|t|a", ""),
+        ("loc|g|t|a", ""),
+        ("tfst|t|a", ""),
+        ("--|locate|g|t|a", ""),
+        ("--help|locate", ""),
+        ("locate|--help", ""),
+        ("--version|", ""),
+        ("--help=", ""),
+        ("-h", ""),
+    ];
+    check(&rt, ROWS)
+}
+
+#[test]
+fn takes_no_option_where_a_command_has_none(rt: HostRuntime) -> Result<(), Fail> {
+    const ROWS: &[Row] = &[
+        ("tokenize|--mode=merge|t|a", ""),
+        ("dico|--novar|t|a", ""),
+        ("fst2|--policy|all|g|a", ""),
+        ("inflect|--delas|s", ""),
+        ("compress|--delas|d", ""),
+        ("txt2tfst|--sort=TO|t|a", ""),
+        ("elag|--left=5|f|r", ""),
+        ("bench|--right|5|6", ""),
+        ("check|--mode=merge|d", ""),
+    ];
+    check(&rt, ROWS)
+}
+
+#[test]
+fn no_words_are_no_request(rt: HostRuntime) {
+    let refused = Request::of(rt.alloc(), &[]).err();
+    compare(&rt, "no words", refused, Some(WordsError::Usage));
+}

@@ -1,8 +1,0 @@
-use Rattle.std.proofs.Common.{take}
-use Rattle.ux_words.proofs.StepLemmas.{AreRead}
-use Rattle.ux_words.proofs.steps.Steps.of.Given as goal
-
--- the words so far are read
-abbrev pub invariant-loop-word : goal.invariant-loop-word
-invariant-loop-word l =
-    AreRead (take l.word-index l.words) l.read.steps.items l.read.dics.items
