@@ -9,13 +9,14 @@ use Rattle.ux_dela.specs.declared.entry.Entry.{Entry}
 use Rattle.ux_tokens.specs.declared.kind.Kind.{Kind}
 use Rattle.ux_tokens.specs.declared.kind.Kind.TheVariants.{Word, Space, Other, Sentence, Stop, Tag}
 use Rattle.ux_tokens.specs.Tokens.{Token}
+use Rattle.ux_lexical_tables.proofs.LetterLemmas.{IsSettled, settled_below, settled_implies, settled_le, simple_settled}
+use Rattle.ux_lexical_tables.specs.Belonging.{Belongs, MayHaveSimple, StandsOn}
+use Rattle.ux_lexical_tables.specs.Spans.{IsSpan, MayBound, MayStand}
+use Rattle.ux_lexical_tables.specs.Tables.{Tables, AreOwnCompound, IsOwnCompound, IsOwnSimple, IsSimpleForm, with_lasts}
 use Rattle.ux_apply.specs.declared.priority.Priority.{Priority}
 use Rattle.ux_apply.specs.Applying.{AreApplying, AreOfFirst, priorities}
-use Rattle.ux_apply.specs.Belonging.{Belongs, MayHaveSimple, StandsOn}
-use Rattle.ux_apply.specs.Spans.{IsSpan, MayBound, MayStand}
-use Rattle.ux_apply.specs.Tables.{Tables, AreApplied, AreCompoundUpTo, AreOfSpan, AreOwnCompound, AreSimpleOf, IsOwnCompound, IsOwnSimple, IsSimpleForm, with_lasts}
+use Rattle.ux_apply.specs.Applied.{AreApplied, AreCompoundUpTo, AreOfSpan, AreSimpleOf}
 use Rattle.ux_apply.proofs.CompoundLemmas.{marked, with_lasts-none}
-use Rattle.ux_apply.proofs.LetterLemmas.{IsSettled, settled_below, settled_implies, settled_le, simple_settled}
 use Rattle.ux_apply.proofs.PairsLemmas.{pairs_append, pairs_map, pairs_short}
 use Rattle.ux_apply.proofs.ZipLemmas.{zip-at, zip-back, zip-length}
 

@@ -6,8 +6,9 @@ use Rattle.std.proofs.lemmas.Option.{none-some, same_Some}
 use Rattle.ux_alphabet.specs.Letters.{Letters}
 use Rattle.ux_dela.specs.declared.entry.Entry.{Entry}
 use Rattle.ux_tokens.specs.Tokens.{Token}
+use Rattle.ux_lexical_tables.specs.Tables.{AreOwnCompound, with_lasts}
 use Rattle.ux_apply.specs.declared.priority.Priority.{Priority}
-use Rattle.ux_apply.specs.Tables.{AreCompoundUpTo, AreOfSpan, AreOwnCompound, with_lasts}
+use Rattle.ux_apply.specs.Applied.{AreCompoundUpTo, AreOfSpan}
 
 -- what stands in a list with one item more stands in the list, or is that item
 pushed_cases : {X : Type 0} (xs : List X) (x : X) (i : ℕ) (y : X) →

@@ -14,11 +14,12 @@ use Rattle.ux_tokens.specs.declared.kind.Kind.TheVariants.{Word, Space, Other, S
 use Rattle.ux_tokens.specs.Tokens.{Token}
 use Rattle.ux_tokens.specs.Numbers.{different_texts}
 use Rattle.ux_tokens.proofs.DistinctLemmas.{different_texts-once}
-use Rattle.ux_apply.specs.Tables.{AreOwnSimple, IsOwnSimple, IsSimpleForm}
-use Rattle.ux_apply.specs.Kept.{AreRowsUpTo, AreSoundMembers, IsOwnRow, IsWordNumber, items_in, row_at, row_by, row_of, simple_at, table_of}
+use Rattle.ux_lexical_tables.proofs.LetterLemmas.{IsSettled, simple_settled}
+use Rattle.ux_lexical_tables.proofs.TableLemmas.{table-row}
+use Rattle.ux_lexical_tables.specs.Kept.{items_in, row_at, row_by, row_of, simple_at, table_of}
+use Rattle.ux_lexical_tables.specs.Tables.{AreOwnSimple, IsOwnSimple, IsSimpleForm}
+use Rattle.ux_apply.specs.Kept.{AreRowsUpTo, AreSoundMembers, IsOwnRow, IsWordNumber}
 use Rattle.ux_apply.proofs.BelongingLemmas.{AreKeptWell}
-use Rattle.ux_apply.proofs.LetterLemmas.{IsSettled, simple_settled}
-use Rattle.ux_apply.proofs.RowLemmas.{table-row}
 use Rattle.ux_apply.proofs.ZipLemmas.{zip-at, zip-length}
 
 -- own entries are sound

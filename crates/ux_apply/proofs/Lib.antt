@@ -12,11 +12,7 @@ pub mod SpanLemmas
 pub mod StartLemmas
 pub mod RowLemmas
 pub mod UnknownLemmas
-pub mod LetterLemmas
-pub mod EqualRowLemmas
-pub mod OneTokenLaws
 pub mod PairsLemmas
 pub mod BelongingLemmas
 pub mod KeptLemmas
-pub mod EndsLemmas
 pub mod OneTableLaws

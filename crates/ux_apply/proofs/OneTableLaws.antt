@@ -12,13 +12,14 @@ use Rattle.ux_base.proofs.OrderedLists.{place_of, same_members}
 use Rattle.ux_tokens.specs.declared.kind.Kind.{Kind}
 use Rattle.ux_tokens.specs.declared.kind.Kind.TheVariants.{Word, Space, Other, Sentence, Stop, Tag}
 use Rattle.ux_tokens.specs.Tokens.{Token}
+use Rattle.ux_lexical_tables.proofs.EqualRowLemmas.{one_own, one_tag}
+use Rattle.ux_lexical_tables.proofs.LetterLemmas.{IsSettled, simple_settled}
+use Rattle.ux_lexical_tables.specs.Spans.{text_of}
+use Rattle.ux_lexical_tables.specs.Tables.{Tables, AreOwnCompound, AreUnknown, IsOwnCompound, IsSimpleForm, with_lasts}
 use Rattle.ux_apply.specs.declared.priority.Priority.{Priority}
 use Rattle.ux_apply.specs.Applying.{AreApplying, AreFound, AreOfFirst, priorities}
-use Rattle.ux_apply.specs.Spans.{text_of}
-use Rattle.ux_apply.specs.Tables.{Tables, AreApplied, AreCompoundUpTo, AreCompounds, AreOfSpan, AreOwnCompound, AreSimpleOf, AreUnknown, IsOwnCompound, IsSimpleForm, with_lasts}
+use Rattle.ux_apply.specs.Applied.{AreApplied, AreCompoundUpTo, AreCompounds, AreOfSpan, AreSimpleOf}
 use Rattle.ux_apply.proofs.BelongingLemmas.{span_settled}
-use Rattle.ux_apply.proofs.EqualRowLemmas.{one_own, one_tag}
-use Rattle.ux_apply.proofs.LetterLemmas.{IsSettled, simple_settled}
 
 -- LISTS
 

@@ -6,12 +6,13 @@ use Rattle.ux_dela.specs.declared.entry.Entry.{Entry}
 use Rattle.ux_tokens.specs.declared.kind.Kind.{Kind}
 use Rattle.ux_tokens.specs.declared.kind.Kind.TheVariants.{Word, Space, Other, Sentence, Stop, Tag}
 use Rattle.ux_tokens.specs.Tokens.{IsTag, Token}
+use Rattle.ux_lexical_tables.specs.Spans.{MayBound}
+use Rattle.ux_lexical_tables.specs.Tables.{AreOwnCompound, AreOwnSimple, IsSimpleForm}
 use Rattle.ux_apply.specs.Kept.{IsOwnRow}
 use Rattle.ux_apply.proofs.CompoundLemmas.{row-own}
 use Rattle.ux_apply.proofs.SpanLemmas.{none-unbounded, row-whole}
 use Rattle.ux_apply.specs.declared.priority.Priority.{Priority}
-use Rattle.ux_apply.specs.Spans.{MayBound}
-use Rattle.ux_apply.specs.Tables.{AreCompoundUpTo, AreOwnCompound, AreOwnSimple, AreSimpleOf, IsCompoundRow, IsSimpleForm}
+use Rattle.ux_apply.specs.Applied.{AreCompoundUpTo, AreSimpleOf, IsCompoundRow}
 
 -- a token of another kind has no compound entry
 no_compound : (alphabet : Letters) (kind : Kind) (text : List ℕ) (place : ℕ) → (kind ≢ Tag) →

@@ -1,58 +1,22 @@
 -- Rows of compound entries, of which only those with an entry are kept.
-use Rattle.std.proofs.Common.{arith, below_more, ◌≡◌, ◌≢◌, ℕ, zero, suc, ◌+◌, ◌<◌, ◌≤◌, List, [], ◌∷◌, ◌++◌, length, get_or, map, take, refl, sym, ◌∙◌, ap, subst}
-use Rattle.std.specs.Prelude.{All, Option, Some, IsSomeAnd, Vec, slice_get}
+use Rattle.std.proofs.Common.{arith, below_more, ◌≡◌, ◌≢◌, ℕ, zero, suc, ◌+◌, ◌≤◌, List, [], ◌∷◌, ◌++◌, length, map, take, sym, ◌∙◌, ap, subst}
+use Rattle.std.specs.Prelude.{All, Some, Vec, slice_get}
 use Rattle.std.specs.BTreeMap.{BTreeMap, is_at}
 use Rattle.std.specs.Map.{lookup}
 use Rattle.std.specs.Ordering.{nat_cmp}
 use Rattle.std.specs.List.{AllZip}
-use Rattle.std.proofs.lemmas.List.{length_push, get_or_push, get_or_append_left}
-use Rattle.std.proofs.lemmas.Option.{same_Some, slice_get_within, slice_get-get_or, get_or_from_slice_get}
+use Rattle.std.proofs.lemmas.Option.{get_or_from_slice_get}
 use Rattle.ux_alphabet.specs.Letters.{Letters}
 use Rattle.std.proofs.lemmas.List.Elements.{All-append, All-map}
 use Rattle.ux_dela.specs.Sound.{IsSound}
 use Rattle.ux_dela.specs.declared.entry.Entry.{Entry}
 use Rattle.ux_tokens.specs.Tokens.{Token}
+use Rattle.ux_lexical_tables.proofs.TableLemmas.{length-table, some-at, table-row}
+use Rattle.ux_lexical_tables.specs.Kept.{items_in, row_of, table_of}
 use Rattle.ux_apply.specs.declared.priority.Priority.{Priority}
-use Rattle.ux_apply.specs.Tables.{IsCompoundRow, AreCompounds}
-use Rattle.ux_apply.specs.Kept.{AreRowsUpTo, AreSoundMembers, items_in, row_of, table_of}
+use Rattle.ux_apply.specs.Applied.{IsCompoundRow, AreCompounds}
+use Rattle.ux_apply.specs.Kept.{AreRowsUpTo, AreSoundMembers}
 use Rattle.ux_apply.proofs.ZipLemmas.{zip-more}
-
-module _ {X : Type 0} (at : ℕ → X) where
-  -- a table has a row for each place
-  pub length-table : (end : ℕ) → length (table_of at end) ≡ end
-  length-table zero = refl
-  length-table (suc end) =
-      length_push (table_of at end) (at end) ∙ omega (arith, length-table end)
-
-  get_or-table : (end place : ℕ) (d : X) → place < end → get_or (table_of at end) place d ≡ at place
-  get_or-table zero place d lt = absurd (omega arith)
-  get_or-table (suc end) place d lt =
-      let long = length-table end in
-      below_more (λ k. get_or (table_of at end ++ at end ∷ []) k d ≡ at k) end
-      (λ k below.
-      get_or_append_left (table_of at end) (at end ∷ []) d k (omega (arith, long, below))
-      ∙ get_or-table end k d below)
-      (get_or_push (table_of at end) (at end) d end long) place (omega (arith, lt))
-
-  -- which is what there is at the place
-  pub table-at : (end place : ℕ) → place < end → slice_get (table_of at end) place ≡ Some (at place)
-  table-at end place lt =
-      let long = length-table end in
-      slice_get-get_or (table_of at end) place (at place) (omega (arith, long, lt))
-      ∙ ap (λ (x : X). Some x) (get_or-table end place (at place) lt)
-
-  pub table-row : (end place : ℕ) (row : X) → slice_get (table_of at end) place ≡ Some row →
-      (place < end) × (row ≡ at place)
-  table-row end place row is =
-      let long = length-table end in
-      let within = slice_get_within (table_of at end) place row is in
-      let below : place < end = omega (arith, long, within) in
-      (below, same_Some row (at place) (sym is ∙ table-at end place below))
-
-  pub table-some : (end place : ℕ) (row : X) → place < end → row ≡ at place →
-      IsSomeAnd (slice_get (table_of at end) place) (λ given. row ≡ given)
-  table-some end place row lt is =
-      subst (λ (o : Option X). IsSomeAnd o (λ given. row ≡ given)) (sym (table-at end place lt)) is
 
 module _ {X Z : Type 0} (IsRow : ℕ → List X → Type 0) where
   -- no row is kept at first
@@ -104,12 +68,6 @@ sound-more last row entries before sound =
     let IsSoundMember : ℕ × Entry → Type 0 = λ m. IsSound m.1 in
     All-append IsSoundMember row (map mark entries) before
     (All-map IsSoundMember mark entries sound)
-
--- what stands at a place
-pub some-at : {A : Type 0} (xs : List A) (i : ℕ) → i < length xs → (x : A) × (slice_get xs i ≡ Some x)
-some-at [] i lt = absurd (omega (arith, lt))
-some-at (x ∷ xs) zero lt = (x, refl)
-some-at (x ∷ xs) (suc i) lt = some-at xs i (omega (arith, lt))
 
 -- a table whose rows belong to the members of a list
 pub zip-table : {A B : Type 0} (R : A → B → Type 0) (xs : List A) (at : ℕ → B) (end : ℕ) →

@@ -8,10 +8,10 @@ use Rattle.ux_dela.specs.declared.entry.Entry.{Entry}
 use Rattle.ux_tokens.specs.declared.kind.Kind.{Kind}
 use Rattle.ux_tokens.specs.declared.kind.Kind.TheVariants.{Word, Space, Other, Sentence, Stop, Tag}
 use Rattle.ux_tokens.specs.Tokens.{Token, joined}
+use Rattle.ux_lexical_tables.specs.Spans.{IsSpan, MayBound, MayStand, text_of}
 use Rattle.ux_apply.specs.declared.priority.Priority.{Priority}
 use Rattle.ux_apply.specs.Applying.{AreApplying}
-use Rattle.ux_apply.specs.Spans.{IsSpan, MayBound, MayStand, text_of}
-use Rattle.ux_apply.specs.Tables.{AreOfSpan, AreCompoundUpTo}
+use Rattle.ux_apply.specs.Applied.{AreOfSpan, AreCompoundUpTo}
 use Rattle.ux_apply.specs.Kept.{HaveNone, IsFront, NoneBegins}
 use Rattle.ux_apply.proofs.CompoundLemmas.{row-more}
 use Rattle.ux_apply.proofs.NothingLemmas.{nothing-applies}

@@ -8,11 +8,11 @@ use Rattle.ux_dela.specs.declared.entry.Entry.{Entry}
 use Rattle.ux_tokens.specs.declared.kind.Kind.TheVariants.{Space}
 use Rattle.ux_tokens.specs.Tokens.{Token, SPACE, joined}
 use Rattle.ux_tokens.specs.Numbers.{different_texts}
+use Rattle.ux_lexical_tables.specs.Spans.{MayBound, text_of}
 use Rattle.ux_apply.specs.declared.priority.Priority.{Priority}
 use Rattle.ux_apply.specs.declared.starts.Start.{Start}
 use Rattle.ux_apply.specs.declared.starts.Start.TheVariants.{Never, Unspaced, Spaced}
-use Rattle.ux_apply.specs.Spans.{MayBound, text_of}
-use Rattle.ux_apply.specs.Tables.{AreCompoundUpTo}
+use Rattle.ux_apply.specs.Applied.{AreCompoundUpTo}
 use Rattle.ux_apply.specs.Kept.{HaveNone, IsFront, IsNearestLast, IsOver, IsSpaceAt, IsStart}
 use Rattle.ux_apply.proofs.CompoundLemmas.{row-more}
 use Rattle.ux_apply.proofs.OwnLemmas.{start-bound}

@@ -21,13 +21,16 @@ use Rattle.ux_tokens.specs.Tokens.{Token}
 use Rattle.ux_tokens.specs.Numbers.{different_texts}
 use Rattle.ux_tokens.proofs.DistinctLemmas.{different_texts-once}
 use Rattle.ux_base.proofs.DistinctLemmas.{length-each_once}
+use Rattle.ux_lexical_tables.proofs.TableLemmas.{table-at, table-row}
+use Rattle.ux_lexical_tables.specs.Kept.{items_in, row_at, row_by, row_of, simple_at, table_of}
+use Rattle.ux_lexical_tables.specs.Tables.{AreOwnSimple, AreUnknown, IsUnknown}
 use Rattle.ux_apply.specs.declared.priority.Priority.{Priority}
 use Rattle.ux_apply.specs.Applying.{AreApplying}
-use Rattle.ux_apply.specs.Tables.{AreOwnSimple, AreSimpleOf, AreSimple, AreUnknown, IsUnknown}
-use Rattle.ux_apply.specs.Kept.{AreRowsUpTo, IsOwnRow, IsWordNumber, items_in, row_at, row_by, row_of, simple_at, table_of}
+use Rattle.ux_apply.specs.Applied.{AreSimpleOf, AreSimple}
+use Rattle.ux_apply.specs.Kept.{AreRowsUpTo, IsOwnRow, IsWordNumber}
 use Rattle.ux_apply.specs.Unknown.{AreMarkedIn, HasNoRow, IsWithoutRow}
 use Rattle.ux_apply.proofs.OwnLemmas.{simple-own}
-use Rattle.ux_apply.proofs.RowLemmas.{table-at, table-row, zip-table}
+use Rattle.ux_apply.proofs.RowLemmas.{zip-table}
 use Rattle.ux_apply.proofs.ZipLemmas.{zip-at, zip-back, zip-length, zip-more}
 
 reads : (s : BTreeSet ℕ) (q : ℕ) → (contains nat_cmp s q ≡ true) ↔ Contains s.keys q

@@ -1,8 +1,7 @@
 -- What is kept of a text's entries, and how it is collected. Inner: the crate's own functions alone
 -- speak of it.
-use Rattle.std.specs.Prelude.{◌≡◌, ◌≢◌, ◌⊎◌, ℕ, zero, suc, ◌+◌, ◌<◌, ◌≤◌, List, [], ◌∷◌, ◌++◌, Option, None, Some, All, IsSomeAnd, IsUtf8, Vec, slice_get}
-use Rattle.std.specs.BTreeMap.{BTreeMap, get}
-use Rattle.std.specs.Ordering.{nat_cmp}
+use Rattle.std.specs.Prelude.{◌≡◌, ◌≢◌, ◌⊎◌, ℕ, ◌+◌, ◌<◌, ◌≤◌, List, [], ◌∷◌, ◌++◌, Option, None, Some, All, IsSomeAnd, IsUtf8, Vec, slice_get}
+use Rattle.std.specs.BTreeMap.{BTreeMap}
 use Rattle.ux_alphabet.specs.Letters.{Letters}
 use Rattle.ux_dela.specs.Sound.{IsSound}
 use Rattle.ux_dela.specs.declared.entry.Entry.{Entry}
@@ -10,11 +9,13 @@ use Rattle.ux_dict.specs.Forms.{IsFitting, MayBegin}
 use Rattle.ux_tokens.specs.declared.kind.Kind.TheVariants.{Word, Space}
 use Rattle.ux_tokens.specs.Tokens.{Token, SPACE}
 use Rattle.ux_tokens.specs.Numbers.{different_texts}
+use Rattle.ux_lexical_tables.specs.Kept.{row_of}
+use Rattle.ux_lexical_tables.specs.Spans.{MayBound, MayStand}
+use Rattle.ux_lexical_tables.specs.Tables.{AreOwnSimple}
 use Rattle.ux_apply.specs.declared.priority.Priority.{Priority}
 use Rattle.ux_apply.specs.declared.starts.Start.{Start}
 use Rattle.ux_apply.specs.declared.starts.Start.TheVariants.{Never, Unspaced, Spaced}
-use Rattle.ux_apply.specs.Spans.{MayBound, MayStand}
-use Rattle.ux_apply.specs.Tables.{AreOfSpan, AreOwnSimple}
+use Rattle.ux_apply.specs.Applied.{AreOfSpan}
 
 -- the entries with those of a content that fit the text
 pub record AreAdded (alphabet : Letters) (text : List ℕ) (content old new : List Entry) :
@@ -75,37 +76,6 @@ abbrev pub IsWordNumber : List Token → Token → Option ℕ → Type 0
 IsWordNumber tokens token None = token.kind ≢ Word
 IsWordNumber tokens token (Some number) =
     (token.kind ≡ Word) × (slice_get (different_texts tokens) number ≡ Some token.text)
-
--- the items in the vector, if there is one
-abbrev pub items_in : {X Z : Type 0} → Option (Vec X Z) → List X
-items_in None = []
-items_in (Some items) = items.items
-
--- the row of a number, where there is one
-abbrev pub row_at : {X Z : Type 0} → List (Vec X Z) → Option ℕ → List X
-row_at rows None = []
-row_at rows (Some number) = items_in (slice_get rows number)
-
--- the row of a place, if one is kept
-abbrev pub row_of : {X Z : Type 0} → BTreeMap ℕ (Vec X Z) → ℕ → List X
-row_of rows place = items_in (get nat_cmp rows place)
-
--- what there is at each place before the end
-abbrev pub table_of : {X : Type 0} → (ℕ → X) → (end : ℕ) → List X
-table_of at zero = []
-table_of at (suc end) = table_of at end ++ at end ∷ []
-
--- the row of a token, by its number if it is a word, and else by its place
-abbrev pub row_by : {Z : Type 0} → List (Vec Entry Z) → BTreeMap ℕ (Vec Entry Z) → (place : ℕ) →
-    Option (Option ℕ) → List Entry
-row_by rows tags place None = []
-row_by rows tags place (Some None) = row_of tags place
-row_by rows tags place (Some (Some number)) = row_at rows (Some number)
-
--- the row of simple entries at a place
-abbrev pub simple_at : {Z : Type 0} → List (Option ℕ) → List (Vec Entry Z) →
-    BTreeMap ℕ (Vec Entry Z) → (place : ℕ) → List Entry
-simple_at words rows tags place = row_by rows tags place (slice_get words place)
 
 -- the row has the own simple entry of the token at the place
 abbrev pub IsOwnRow : Letters → List Token → (place : ℕ) → List Entry → Type 0

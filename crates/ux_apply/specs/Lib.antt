@@ -1,11 +1,6 @@
 pub mod Names
-pub mod Spans
 pub mod Applying
 pub mod Cursors
-pub mod Tables
+pub mod Applied
 pub mod Kept
 pub mod Unknown
-pub mod Belonging
-pub mod Accepting
-pub mod Ends
-pub mod Words

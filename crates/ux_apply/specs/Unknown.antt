@@ -2,7 +2,7 @@
 -- functions alone speak of it.
 use Rattle.std.specs.Prelude.{◌≡◌, ℕ, Bool, true, false, List, [], Option, Some, Contains, Vec, get_or}
 use Rattle.ux_dela.specs.declared.entry.Entry.{Entry}
-use Rattle.ux_apply.specs.Kept.{row_at}
+use Rattle.ux_lexical_tables.specs.Kept.{row_at}
 
 -- the word has the number, whose row is empty
 abbrev pub HasNoRow : {Z : Type 0} → List (Vec Entry Z) → (number : ℕ) (word : Option ℕ) → Type 0

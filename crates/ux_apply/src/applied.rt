@@ -1,136 +1,38 @@
-//! The entries that apply to a text.
-//!
-//! Simple entries are kept once for each different token, and compound ones only for the tokens at
-//! which some begin.
+//! Dictionaries applied to a text.
 
-ghost use Rattle.std.specs.Prelude.{◌≡◌, ◌<◌, ◌+◌, ◌↔◌, ℕ, Contains, IfOk, IsSomeAnd, length, slice_get};
+ghost use Rattle.std.specs.Prelude.{IfOk};
+ghost use Rattle.ux_lexical_tables.specs.Belonging.{Belongs};
 ghost use Rattle.ux_apply.specs.Applying.{contents};
-ghost use Rattle.ux_apply.specs.Accepting.{Accepts};
-ghost use Rattle.ux_apply.specs.Belonging.{Belongs};
-ghost use Rattle.ux_apply.specs.Tables.{AreApplied};
-ghost use Rattle.std.specs.List.Sorted.{IsStrictlyIncreasing};
+ghost use Rattle.ux_apply.specs.Applied.{AreApplied};
 
-use crate::compounds::{Rows, compounds};
-use crate::ends::accepted;
+use crate::compounds::compounds;
 use crate::numbered::{ask_each, first_places, word_numbers};
 use crate::priority::Priority;
-use crate::tagged::{Tagged, own_at, tagged};
-use crate::unknown::{row_of_number, unknown_numbers};
-use crate::words::Words;
+use crate::tagged::tagged;
+use crate::unknown::unknown_numbers;
 use std::alloc::Global;
-use std::marker::Model;
-use std::sync::ledger::Ledger;
 use ux_alphabet::Alphabet;
-use ux_base::{Mem, Steps};
-use ux_dela::Entry;
+use ux_base::Mem;
+use ux_lexical_tables::LexicalTables;
 use ux_lexicon::Lexicon;
-use ux_masks::Mask;
 use ux_tokens::Text;
 
-/// The entries that apply to a text. Contracts see it as the tables of them, with one row a token.
-#[derive(Drop)]
-pub struct Applied {
-    /// The number of each token that is a word.
-    words: Words,
-    /// The entries of each different token, by its number.
-    entries: Vec<Vec<Entry>>,
-    /// The own entries of tags, by place.
-    tags: Tagged,
-    compounds: Rows,
-    unknown: Vec<u32>,
-}
-
-impl Model for Applied {
-    ghost use Rattle.std.specs.Prelude.{length};
-    ghost use Rattle.ux_apply.specs.Tables.{Tables};
-    ghost use Rattle.ux_apply.specs.Kept.{row_of, simple_at, table_of};
-
-    ghost Value = { Tables };
-
-    ghost view = { λ a. record {
-      simple = table_of (simple_at a.words a.entries.items a.tags) (length a.words);
-      compounds = table_of (row_of a.compounds) (length a.words);
-      unknown = a.unknown.items;
-    } };
-}
-
-impl Applied {
-    /// The entries of the dictionaries that apply to the text, by the priorities of these.
-    pub fn of<L: Lexicon>(
-        alloc: Global,
-        text: &Text,
-        alphabet: &Alphabet,
-        dics: &[(Priority, L)],
-    ) -> Mem<Applied>
-        ensures applied { IfOk result
-            (AreApplied alphabet.now (contents L.content dics.now) text.now) }
-        ensures belongs { IfOk result (Belongs alphabet.now text.now) }
-    {
-        let places = first_places(alloc, text)?;
-        let asked = ask_each(alloc, text, &places, alphabet, dics)?;
-        let compounds = compounds(alloc, text, &asked.starts, alphabet, dics)?;
-        let words = word_numbers(alloc, text)?;
-        let tags = tagged(alloc, text, alphabet)?;
-        let unknown = unknown_numbers(alloc, &words, &asked.entries)?;
-        Ok(Applied {
-            words,
-            entries: asked.entries,
-            tags,
-            compounds,
-            unknown,
-        })
-    }
-
-    /// The simple entries of a token. Takes no memory.
-    pub fn simple(&self, i: usize) -> &[Entry]
-        requires { i < length self.now.simple }
-        ensures { IsSomeAnd (slice_get self.now.simple i) (λ row. result.now ≡ row) }
-    {
-        match self.words.at(i) {
-            Some(number) => row_of_number(&self.entries, number),
-            None => own_at(&self.tags, i),
-        }
-    }
-
-    /// The compound entries that begin at a token, each with its last token, in order of last
-    /// token. Takes no memory.
-    pub fn compounds(&self, i: usize) -> &[(usize, Entry)]
-        requires { i < length self.now.compounds }
-        ensures { IsSomeAnd (slice_get self.now.compounds i) (λ row. result.now ≡ row) }
-    {
-        match self.compounds.get(&i) {
-            Some(row) => row.as_slice(),
-            None => &[],
-        }
-    }
-
-    /// The numbers of the words without a simple entry, each once and ascending. Takes no memory.
-    pub fn unknown(&self) -> &[u32]
-        ensures { result.now ≡ self.now.unknown }
-    {
-        self.unknown.as_slice()
-    }
-
-    /// The positions after the spans that the mask accepts from a token on, ascending. Takes one
-    /// step, also where memory runs out, and time in the entries that begin at the token; for `<NB>`
-    /// in the digits from there.
-    pub fn ends<L: Ledger>(
-        &self,
-        alloc: Global,
-        text: &Text,
-        alphabet: &Alphabet,
-        mask: &Mask,
-        i: usize,
-        steps: &mut Steps<L>,
-    ) -> Mem<Vec<usize>>
-        requires belongs { Belongs alphabet.now text.now self.now }
-        requires inside { i < length text.now }
-        ensures step { steps.new ≡ steps.old + 1 }
-        ensures exactly { IfOk result (λ ends. (k : ℕ) → Contains ends.items k
-            ↔ Accepts alphabet.now text.now self.now mask.now i k) }
-        ensures ascending { IfOk result (λ ends. IsStrictlyIncreasing ends.items) }
-    {
-        steps.tick();
-        accepted(alloc, self, text, alphabet, mask, i)
-    }
+/// The entries of the dictionaries that apply to the text, by the priorities of these.
+pub fn apply<L: Lexicon>(
+    alloc: Global,
+    text: &Text,
+    alphabet: &Alphabet,
+    dics: &[(Priority, L)],
+) -> Mem<LexicalTables>
+    ensures applied { IfOk result
+        (AreApplied alphabet.now (contents L.content dics.now) text.now) }
+    ensures belongs { IfOk result (Belongs alphabet.now text.now) }
+{
+    let places = first_places(alloc, text)?;
+    let asked = ask_each(alloc, text, &places, alphabet, dics)?;
+    let compounds = compounds(alloc, text, &asked.starts, alphabet, dics)?;
+    let words = word_numbers(alloc, text)?;
+    let tags = tagged(alloc, text, alphabet)?;
+    let unknown = unknown_numbers(alloc, &words, &asked.entries)?;
+    Ok(LexicalTables::from_parts(words, asked.entries, tags, compounds, unknown))
 }

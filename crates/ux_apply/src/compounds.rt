@@ -6,12 +6,14 @@ ghost use Rattle.ux_dela.specs.Sound.{IsSound};
 ghost use Rattle.ux_dela.specs.declared.entry.Entry.{Entry};
 ghost use Rattle.ux_tokens.specs.Numbers.{different_texts};
 ghost use Rattle.ux_tokens.specs.Tokens.{joined};
+ghost use Rattle.ux_lexical_tables.specs.Kept.{row_of};
+ghost use Rattle.ux_lexical_tables.specs.Spans.{MayBound, MayStand, text_of};
+ghost use Rattle.ux_lexical_tables.specs.Tables.{IsSimpleForm};
 ghost use Rattle.ux_apply.specs.Applying.{contents};
 ghost use Rattle.ux_apply.specs.Cursors.{AreReachedBy, WhereLed};
 ghost use Rattle.ux_apply.specs.declared.priority.Priority.{Priority};
-ghost use Rattle.ux_apply.specs.Kept.{AreRowsUpTo, AreSoundMembers, IsNearestLast, IsFront, IsStart, row_of};
-ghost use Rattle.ux_apply.specs.Spans.{MayBound, MayStand, text_of};
-ghost use Rattle.ux_apply.specs.Tables.{AreOfSpan, IsCompoundRow, IsSimpleForm};
+ghost use Rattle.ux_apply.specs.Kept.{AreRowsUpTo, AreSoundMembers, IsNearestLast, IsFront, IsStart};
+ghost use Rattle.ux_apply.specs.Applied.{AreOfSpan, IsCompoundRow};
 
 use crate::applying::applying_there;
 use crate::cursors::{Cursor, begin, go_on, may_go_on};
@@ -23,12 +25,10 @@ use std::collections::BTreeMap;
 use ux_alphabet::Alphabet;
 use ux_base::Mem;
 use ux_dela::Entry;
+use ux_lexical_tables::Rows;
+use ux_lexical_tables::spans::{may_bound, may_stand};
 use ux_lexicon::Lexicon;
 use ux_tokens::Text;
-use ux_tokens::kind::Kind;
-
-/// Compound entries with their last tokens, by first token, where there are any.
-pub(crate) type Rows = BTreeMap<usize, Vec<(usize, Entry)>>;
 
 /// The compound entries of the text. From each token the dictionaries are gone along once, as far as
 /// some form may begin with the tokens.
@@ -209,24 +209,4 @@ fn entries_to(
         return Ok(Vec::new(alloc));
     }
     applying_there(alloc, cursors, text.slice(first, last))
-}
-
-/// Whether a token of this kind may stand in a span.
-fn may_stand(kind: Kind) -> bool
-    ensures { IsTrue result ↔ MayStand kind }
-{
-    match kind {
-        Kind::Word | Kind::Space | Kind::Other => true,
-        Kind::Sentence | Kind::Stop | Kind::Tag => false,
-    }
-}
-
-/// Whether a token of this kind may be the first or the last one of a span.
-pub(crate) fn may_bound(kind: Kind) -> bool
-    ensures { IsTrue result ↔ MayBound kind }
-{
-    match kind {
-        Kind::Word | Kind::Other => true,
-        Kind::Space | Kind::Sentence | Kind::Stop | Kind::Tag => false,
-    }
 }

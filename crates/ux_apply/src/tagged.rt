@@ -1,8 +1,9 @@
 //! The own entries of a text's tags.
 
 ghost use Rattle.std.specs.Prelude.{◌≡◌, ◌↔◌, ◌<◌, ◌∷◌, [], IfOk, IsTrue, length};
-ghost use Rattle.ux_apply.specs.Kept.{AreRowsUpTo, IsOwnRow, row_of};
-ghost use Rattle.ux_apply.specs.Tables.{IsSimpleForm};
+ghost use Rattle.ux_lexical_tables.specs.Kept.{row_of};
+ghost use Rattle.ux_lexical_tables.specs.Tables.{IsSimpleForm};
+ghost use Rattle.ux_apply.specs.Kept.{AreRowsUpTo, IsOwnRow};
 
 use crate::compounds::put_row;
 use std::alloc::Global;
@@ -10,10 +11,8 @@ use std::collections::BTreeMap;
 use ux_alphabet::Alphabet;
 use ux_base::Mem;
 use ux_dela::Entry;
+use ux_lexical_tables::Tagged;
 use ux_tokens::Text;
-
-/// Own simple entries by the places of tags, where there are any.
-pub(crate) type Tagged = BTreeMap<usize, Vec<Entry>>;
 
 /// The own entries of the tags whose forms have letters alone.
 pub(crate) fn tagged(alloc: Global, text: &Text, alphabet: &Alphabet) -> Mem<Tagged>
@@ -64,14 +63,4 @@ pub(crate) fn is_simple(entry: &Entry, alphabet: &Alphabet) -> bool
         }
     }
     simple
-}
-
-/// The row of a place.
-pub(crate) fn own_at(rows: &Tagged, place: usize) -> &[Entry]
-    ensures { result.now ≡ row_of rows.now place }
-{
-    match rows.get(&place) {
-        Some(row) => row.as_slice(),
-        None => &[],
-    }
 }

@@ -2,14 +2,15 @@
 
 ghost use Rattle.std.specs.Prelude.{◌≡◌, ◌↔◌, ◌⊎◌, ℕ, false, true, Contains, IfOk, OnOk, Some, get_or, slice_get, slice_set};
 ghost use Rattle.std.specs.List.Sorted.{IsStrictlyIncreasing};
-ghost use Rattle.ux_apply.specs.Kept.{items_in, row_at};
+ghost use Rattle.ux_lexical_tables.specs.Kept.{items_in, row_at};
 ghost use Rattle.ux_apply.specs.Unknown.{AreMarkedIn, HasNoRow, IsWithoutRow};
 
-use crate::words::Words;
 use std::alloc::{AllocError, Global};
 use std::collections::BTreeSet;
 use ux_base::Mem;
 use ux_dela::Entry;
+use ux_lexical_tables::Words;
+use ux_lexical_tables::rows::row_of_number;
 
 /// The numbers of the words whose rows are empty, each once and ascending. Takes a step a token,
 /// and one insertion for each different unknown word. A number beyond the rows, which no text has,
@@ -108,16 +109,6 @@ fn row(rows: &[Vec<Entry>], word: Option<u32>) -> &[Entry]
 {
     match word {
         Some(number) => row_of_number(rows, number),
-        None => &[],
-    }
-}
-
-/// The row of a number, if there is one.
-pub(crate) fn row_of_number(rows: &[Vec<Entry>], number: u32) -> &[Entry]
-    ensures { result.now ≡ items_in (slice_get rows.now number) }
-{
-    match rows.get(number as usize) {
-        Some(row) => row.as_slice(),
         None => &[],
     }
 }

@@ -1,8 +1,8 @@
 -- From what is kept to starts from which nothing is derived.
 use Rattle.std.proofs.Common.{arith, ◌≡◌, ℕ, ◌+◌, ◌<◌, ◌≤◌, ◌⊎◌, inl, inr, sym, ◌∙◌, subst, refl, length, Bool, true, false}
 use Rattle.std.specs.Prelude.{IsTrue}
-use Rattle.ux_apply.specs.Accepting.{IsAlone}
-use Rattle.ux_apply.specs.Belonging.{Belongs}
+use Rattle.ux_lexical_tables.specs.Accepting.{IsAlone}
+use Rattle.ux_lexical_tables.specs.Belonging.{Belongs}
 use Rattle.ux_closure.specs.Taking.{TellsSpace}
 use Rattle.ux_masks.specs.declared.mask.Mask.{Mask}
 use Rattle.ux_meaning.specs.Texts.{IsSpaceAt}

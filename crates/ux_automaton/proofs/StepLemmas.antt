@@ -1,8 +1,8 @@
 -- From what is kept to what a step gives.
 use Rattle.std.proofs.Common.{arith, ◌≡◌, ℕ, ◌+◌, ◌<◌, ◌≤◌, List, [], ◌∷◌, ◌⊎◌, ◌↔◌, inl, inr, sym, ◌∙◌, subst, refl, length, Bool, true, false}
 use Rattle.std.specs.Prelude.{Contains, Some, IsTrue, slice_get}
-use Rattle.ux_apply.specs.Accepting.{IsAlone}
-use Rattle.ux_apply.specs.Belonging.{Belongs}
+use Rattle.ux_lexical_tables.specs.Accepting.{IsAlone}
+use Rattle.ux_lexical_tables.specs.Belonging.{Belongs}
 use Rattle.ux_closure.specs.declared.closing.Closure.{Closure}
 use Rattle.ux_closure.specs.declared.stand.Stand.{Stand}
 use Rattle.ux_closure.specs.Holding.{IsClosure}

@@ -3,9 +3,9 @@ use Rattle.std.proofs.Common.{arith, ◌≡◌, ℕ, ◌+◌, ◌<◌, ◌≤◌
 use Rattle.std.specs.Prelude.{Option, Some, None, slice_get}
 use Rattle.std.proofs.Math.Nat.{eq-or-lt_of_le}
 use Rattle.std.proofs.lemmas.Option.{same_Some, slice_get_within}
-use Rattle.ux_apply.specs.Accepting.{IsAlone}
-use Rattle.ux_apply.specs.Belonging.{Belongs}
-use Rattle.ux_apply.proofs.OneTokenLaws.{accepts_alike, accepts_forward}
+use Rattle.ux_lexical_tables.specs.Accepting.{IsAlone}
+use Rattle.ux_lexical_tables.specs.Belonging.{Belongs}
+use Rattle.ux_lexical_tables.proofs.OneTokenLaws.{accepts_alike, accepts_forward}
 use Rattle.ux_masks.specs.declared.mask.Mask.{Mask}
 use Rattle.ux_net.specs.declared.label.Label.{Label}
 use Rattle.ux_net.specs.declared.label.Label.TheVariants as label

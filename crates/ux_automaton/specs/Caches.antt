@@ -1,6 +1,6 @@
 -- When what is kept is right. Inner: the crate's own functions alone speak of it.
 use Rattle.std.specs.Prelude.{◌≡◌, ◌↔◌, ◌⊎◌, ◌+◌, ℕ, List, Bool, false, Option, Some, IsTrue, slice_get}
-use Rattle.ux_apply.specs.Accepting.{IsAlone}
+use Rattle.ux_lexical_tables.specs.Accepting.{IsAlone}
 use Rattle.ux_tokens.specs.declared.kind.Kind.{Kind}
 use Rattle.ux_tokens.specs.Numbers.{different_texts}
 use Rattle.ux_tokens.specs.Tokens.{Token}

@@ -1,7 +1,7 @@
 -- What an automaton keeps is right for its setting. Inner: contracts see an
 -- automaton as its setting and its fronts.
 use Rattle.std.specs.Prelude.{◌≡◌, ◌↔◌, ◌≤◌, ℕ, List, Bool, true, false, Contains, Some, IsTrue, length, slice_get}
-use Rattle.ux_apply.specs.Accepting.{IsAlone}
+use Rattle.ux_lexical_tables.specs.Accepting.{IsAlone}
 use Rattle.ux_closure.specs.declared.stand.Stand.{Stand}
 use Rattle.ux_mask_table.specs.declared.masked_text.MaskedText.{MaskedText}
 use Rattle.ux_mask_table.specs.MaskedTexts.{HasTable}

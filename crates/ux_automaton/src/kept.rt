@@ -10,7 +10,7 @@ ghost use Rattle.ux_outputs.specs.Rendering.{skip as skip_of};
 ghost use Rattle.ux_closure.specs.Taking.{TellsSpace};
 ghost use Rattle.ux_walk.specs.Leads.{Stack as TheStack};
 ghost use Rattle.ux_walk.specs.Settings.{Setting, masked_setting};
-ghost use Rattle.ux_apply.specs.Accepting.{IsAlone};
+ghost use Rattle.ux_lexical_tables.specs.Accepting.{IsAlone};
 ghost use Rattle.ux_mask_table.specs.MaskedTexts.{HasTable};
 ghost use Rattle.ux_automaton.specs.Caches.{HasValue, IsClosed, IsNumbered, IsTransition, TakeSingly};
 ghost use Rattle.ux_automaton.specs.FrontIndexes.{AreFrontsIndexed};

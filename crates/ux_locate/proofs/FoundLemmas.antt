@@ -4,8 +4,8 @@ use Rattle.std.specs.Prelude.{Contains, Some, length}
 use Rattle.std.proofs.lemmas.Bool.Decides.{leb_tells}
 use Rattle.ux_base.specs.declared.settings.Mode.{Mode}
 use Rattle.ux_base.specs.declared.settings.NoVar.{NoVar}
-use Rattle.ux_apply.specs.Belonging.{Belongs}
-use Rattle.ux_apply.proofs.OneTokenLaws.{accepts_forward}
+use Rattle.ux_lexical_tables.specs.Belonging.{Belongs}
+use Rattle.ux_lexical_tables.proofs.OneTokenLaws.{accepts_forward}
 use Rattle.ux_net.specs.Nets.{net_grammar}
 use Rattle.ux_outputs.specs.declared.event.Event.{Event}
 use Rattle.ux_outputs.specs.declared.hit.Hit.{Hit}

@@ -7,7 +7,7 @@ use Rattle.ux_base.specs.declared.settings.Mode.TheVariants.{Ignore}
 use Rattle.ux_base.specs.declared.settings.NoVar.{NoVar}
 use Rattle.ux_base.specs.declared.settings.Policy.{Policy}
 use Rattle.ux_alphabet.specs.Letters.{Letters}
-use Rattle.ux_apply.specs.Tables.{Tables}
+use Rattle.ux_lexical_tables.specs.Tables.{Tables}
 use Rattle.ux_mask_table.specs.declared.masked_text.MaskedText.{MaskedText}
 use Rattle.ux_mask_table.specs.MaskedTexts.{IsOver}
 use Rattle.ux_net.specs.declared.net_graph.NetGraph.{NetGraph}

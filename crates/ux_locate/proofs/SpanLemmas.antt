@@ -9,7 +9,7 @@ use Rattle.ux_base.specs.declared.settings.NoVar.{NoVar}
 use Rattle.ux_base.specs.declared.settings.Policy.{Policy}
 use Rattle.ux_base.specs.declared.settings.Policy.TheVariants.{Shortest, Longest}
 use Rattle.ux_base.specs.declared.settings.Policy.TheVariants as policies
-use Rattle.ux_apply.specs.Belonging.{Belongs}
+use Rattle.ux_lexical_tables.specs.Belonging.{Belongs}
 use Rattle.ux_net.specs.Nets.{CutNothing, net_grammar}
 use Rattle.ux_outputs.specs.declared.hit.Hit.{Hit}
 use Rattle.ux_outputs.specs.declared.span.Span.{Span}

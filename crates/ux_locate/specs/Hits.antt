@@ -5,7 +5,7 @@ use Rattle.ux_base.specs.declared.settings.Mode.{Mode}
 use Rattle.ux_base.specs.declared.settings.NoVar.{NoVar}
 use Rattle.ux_alphabet.specs.Letters.{Letters}
 use Rattle.ux_tokens.specs.Tokens.{Token}
-use Rattle.ux_apply.specs.Tables.{Tables}
+use Rattle.ux_lexical_tables.specs.Tables.{Tables}
 use Rattle.ux_net.specs.Words.{Grammar}
 use Rattle.ux_outputs.specs.declared.event.Event.{Event}
 use Rattle.ux_outputs.specs.declared.hit.Hit.{Hit}

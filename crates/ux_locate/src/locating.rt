@@ -5,7 +5,7 @@
 //! same one.
 
 ghost use Rattle.std.specs.Prelude.{ℕ, ◌+◌, ◌*◌, ◌≤◌, IfOk, length};
-ghost use Rattle.ux_apply.specs.Belonging.{Belongs};
+ghost use Rattle.ux_lexical_tables.specs.Belonging.{Belongs};
 ghost use Rattle.ux_mask_table.specs.MaskedTexts.{HasTable};
 ghost use Rattle.ux_net.specs.Masks.{IsMaskCount};
 ghost use Rattle.ux_net.specs.Nets.{net_grammar};
@@ -22,8 +22,8 @@ use crate::sorting::sort_hits;
 use std::alloc::Global;
 use std::sync::ledger::Ledger;
 use ux_alphabet::Alphabet;
-use ux_apply::Applied;
 use ux_base::{Mem, Mode, NoVar, Policy, Steps};
+use ux_lexical_tables::LexicalTables;
 use ux_mask_table::MaskedText;
 use ux_net::Net;
 use ux_outputs::Hit;
@@ -43,7 +43,7 @@ pub fn locate<L: Ledger>(
     net: &Net,
     text: &Text,
     alphabet: &Alphabet,
-    applied: &Applied,
+    applied: &LexicalTables,
     mode: Mode,
     novar: NoVar,
     policy: Policy,

@@ -7,7 +7,7 @@
 ghost use Rattle.std.specs.Prelude.{◌≡◌, ◌<◌, ◌≤◌, ◌+◌, ◌*◌, ◌++◌, ℕ, All, Contains, IfOk, OnOk, length, map};
 ghost use Rattle.ux_base.specs.declared.settings.Mode.TheVariants.{Ignore};
 ghost use Rattle.ux_base.specs.declared.settings.NoVar.{NoVar};
-ghost use Rattle.ux_apply.specs.Belonging.{Belongs};
+ghost use Rattle.ux_lexical_tables.specs.Belonging.{Belongs};
 ghost use Rattle.ux_mask_table.specs.MaskedTexts.{HasTable};
 ghost use Rattle.ux_net.specs.Masks.{IsMaskCount};
 ghost use Rattle.ux_net.specs.Nets.{ArePlain, CutNothing, net_grammar};
@@ -29,8 +29,8 @@ use crate::walks::{find_ends, may_find};
 use std::alloc::Global;
 use std::sync::ledger::Ledger;
 use ux_alphabet::Alphabet;
-use ux_apply::Applied;
 use ux_base::{Mem, Policy, Steps};
+use ux_lexical_tables::LexicalTables;
 use ux_mask_table::MaskedText;
 use ux_net::Net;
 use ux_outputs::Span;
@@ -48,7 +48,7 @@ pub fn locate_spans<L: Ledger>(
     net: &Net,
     text: &Text,
     alphabet: &Alphabet,
-    applied: &Applied,
+    applied: &LexicalTables,
     policy: Policy,
     steps: &mut Steps<L>,
 ) -> Mem<Vec<Span>>

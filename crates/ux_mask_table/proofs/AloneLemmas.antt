@@ -3,10 +3,10 @@ use Rattle.std.proofs.Common.{◌≡◌, ◌≤◌, ℕ, List, [], ◌∷◌, sy
 use Rattle.std.specs.Prelude.{Option, Some, None, IsSomeAnd, slice_get}
 use Rattle.ux_alphabet.specs.Letters.{Letters}
 use Rattle.ux_dela.specs.declared.entry.Entry.{Entry}
-use Rattle.ux_apply.specs.Accepting.{IsAlone}
-use Rattle.ux_apply.specs.Belonging.{Belongs}
-use Rattle.ux_apply.specs.Tables.{Tables}
-use Rattle.ux_apply.proofs.OneTokenLaws.{alone_tag, alone_without_row}
+use Rattle.ux_lexical_tables.specs.Accepting.{IsAlone}
+use Rattle.ux_lexical_tables.specs.Belonging.{Belongs}
+use Rattle.ux_lexical_tables.specs.Tables.{Tables}
+use Rattle.ux_lexical_tables.proofs.OneTokenLaws.{alone_tag, alone_without_row}
 use Rattle.ux_tokens.specs.declared.kind.Kind.{Kind}
 use Rattle.ux_tokens.specs.declared.kind.Kind.TheVariants.{Tag}
 use Rattle.ux_tokens.specs.Tokens.{Token}

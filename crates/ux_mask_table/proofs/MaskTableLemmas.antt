@@ -19,10 +19,10 @@ use Rattle.ux_masks.specs.declared.mask.Mask.{Mask}
 use Rattle.ux_masks.specs.Equal.{mask_eq, mask_eq-Decides}
 use Rattle.ux_base.proofs.OrderedLists.{slice_get-append_left}
 use Rattle.ux_base.proofs.FirstsLemmas.{AreFirsts-unique, Contains-none}
-use Rattle.ux_apply.specs.Accepting.{Accepts, IsAlone}
-use Rattle.ux_apply.specs.Belonging.{Belongs}
-use Rattle.ux_apply.specs.Tables.{Tables}
-use Rattle.ux_apply.proofs.OneTokenLaws.{accepts_alike, accepts_forward}
+use Rattle.ux_lexical_tables.specs.Accepting.{Accepts, IsAlone}
+use Rattle.ux_lexical_tables.specs.Belonging.{Belongs}
+use Rattle.ux_lexical_tables.specs.Tables.{Tables}
+use Rattle.ux_lexical_tables.proofs.OneTokenLaws.{accepts_alike, accepts_forward}
 use Rattle.ux_base.proofs.Lists.{less_or}
 use Rattle.ux_net.specs.declared.net_graph.NetGraph.{NetGraph}
 use Rattle.ux_net.specs.Masks.{AreMasksOf, IsMaskCount, masks_in, masks_of}

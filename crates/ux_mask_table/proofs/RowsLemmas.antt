@@ -8,8 +8,8 @@ use Rattle.ux_alphabet.specs.Letters.{Letters}
 use Rattle.ux_tokens.specs.Tokens.{Token}
 use Rattle.ux_tokens.proofs.CutLemmas.{slice_get-push_cases}
 use Rattle.ux_masks.specs.declared.mask.Mask.{Mask}
-use Rattle.ux_apply.specs.Accepting.{Accepts}
-use Rattle.ux_apply.specs.Tables.{Tables}
+use Rattle.ux_lexical_tables.specs.Accepting.{Accepts}
+use Rattle.ux_lexical_tables.specs.Tables.{Tables}
 use Rattle.ux_mask_table.specs.declared.rows.Row.{Row}
 use Rattle.ux_mask_table.specs.declared.spans.Spans.{Spans}
 use Rattle.ux_mask_table.specs.Spans.{AreKept, ArePaired, IsRow}

@@ -6,8 +6,8 @@ use Rattle.ux_alphabet.specs.Letters.{Letters}
 use Rattle.ux_tokens.specs.Tokens.{Token}
 use Rattle.ux_tokens.specs.Numbers.{different_texts}
 use Rattle.ux_masks.specs.declared.mask.Mask.{Mask}
-use Rattle.ux_apply.specs.Accepting.{Accepts, IsAlone}
-use Rattle.ux_apply.specs.Tables.{Tables}
+use Rattle.ux_lexical_tables.specs.Accepting.{Accepts, IsAlone}
+use Rattle.ux_lexical_tables.specs.Tables.{Tables}
 use Rattle.ux_net.specs.declared.net_graph.NetGraph.{NetGraph}
 use Rattle.ux_net.specs.Masks.{AreMasksOf, masks_in, masks_of}
 use Rattle.ux_mask_table.specs.declared.rows.Row.{Row}

@@ -5,9 +5,9 @@ use Rattle.std.specs.List.Sorted.{IsStrictlyIncreasing}
 use Rattle.ux_alphabet.specs.Letters.{Letters}
 use Rattle.ux_tokens.specs.Tokens.{Token}
 use Rattle.ux_masks.specs.declared.mask.Mask.{Mask}
-use Rattle.ux_apply.specs.Accepting.{Accepts}
-use Rattle.ux_apply.specs.Belonging.{Belongs}
-use Rattle.ux_apply.specs.Tables.{Tables}
+use Rattle.ux_lexical_tables.specs.Accepting.{Accepts}
+use Rattle.ux_lexical_tables.specs.Belonging.{Belongs}
+use Rattle.ux_lexical_tables.specs.Tables.{Tables}
 use Rattle.ux_net.specs.declared.label.Label.{Label}
 use Rattle.ux_net.specs.declared.net_graph.NetGraph.{NetGraph}
 use Rattle.ux_net.specs.declared.state.Edge.{Edge}

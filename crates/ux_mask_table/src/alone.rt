@@ -1,16 +1,16 @@
 //! Places at which no mask accepts a span of several tokens.
 
 ghost use Rattle.std.specs.Prelude.{◌≡◌, ◌<◌, ◌≤◌, ◌∷◌, [], ℕ, IsTrue, true, length};
-ghost use Rattle.ux_apply.specs.Accepting.{IsAlone};
-ghost use Rattle.ux_apply.specs.Belonging.{Belongs};
+ghost use Rattle.ux_lexical_tables.specs.Accepting.{IsAlone};
+ghost use Rattle.ux_lexical_tables.specs.Belonging.{Belongs};
 ghost use Rattle.ux_alphabet.specs.Letters.{Letters};
 
-use ux_apply::Applied;
+use ux_lexical_tables::LexicalTables;
 use ux_tokens::{Kind, Text};
 
 /// Whether no span of several tokens begins at the place that a mask may accept: no compound entry and
 /// no digit stands there. A tag stands alone.
-pub fn is_alone(text: &Text, applied: &Applied, place: usize) -> bool
+pub fn is_alone(text: &Text, applied: &LexicalTables, place: usize) -> bool
     requires within { place < length text.now }
     requires rows { length applied.now.compounds ≡ length text.now }
     ensures { result ≡ true → (alphabet : Letters) →

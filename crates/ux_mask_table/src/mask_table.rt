@@ -5,9 +5,9 @@
 ghost use Rattle.std.specs.Prelude.{◌≡◌, ℕ, ◌+◌, ◌*◌, ◌<◌, ◌≤◌, ◌↔◌, [], Some, Contains, IfOk, IfSome, OnOk, true, length, slice_get};
 ghost use Rattle.std.specs.List.Sorted.{IsStrictlyIncreasing};
 ghost use Rattle.ux_alphabet.specs.Letters.{Letters};
-ghost use Rattle.ux_apply.specs.Accepting.{Accepts, IsAlone};
-ghost use Rattle.ux_apply.specs.Belonging.{Belongs};
-ghost use Rattle.ux_apply.specs.Tables.{Tables};
+ghost use Rattle.ux_lexical_tables.specs.Accepting.{Accepts, IsAlone};
+ghost use Rattle.ux_lexical_tables.specs.Belonging.{Belongs};
+ghost use Rattle.ux_lexical_tables.specs.Tables.{Tables};
 ghost use Rattle.ux_mask_table.specs.MaskTables.{AddsRow, AreKnown, AreRows, AreTold, Grows, IsLike, IsMaskTable, IsNumbered, TellsEnds};
 ghost use Rattle.ux_mask_table.specs.Spans.{ArePaired};
 ghost use Rattle.ux_net.specs.Masks.{IsMaskCount, masks_in, masks_of};
@@ -19,8 +19,8 @@ use indexmap::IndexSet;
 use std::alloc::Global;
 use std::sync::ledger::Ledger;
 use ux_alphabet::Alphabet;
-use ux_apply::Applied;
 use ux_base::{Mem, NoMemory, Steps};
+use ux_lexical_tables::LexicalTables;
 use ux_masks::Mask;
 use ux_net::Net;
 use ux_tokens::{Kind, Text};
@@ -54,7 +54,7 @@ impl<'n> MaskTable<'n> {
         net: &'n Net,
         text: &Text,
         alphabet: &Alphabet,
-        applied: &Applied,
+        applied: &LexicalTables,
         steps: &mut Steps<L>,
     ) -> Mem<MaskTable<'n>>
         requires belongs { Belongs alphabet.now text.now applied.now }
@@ -95,7 +95,7 @@ impl<'n> MaskTable<'n> {
         net: &Net,
         text: &Text,
         alphabet: &Alphabet,
-        applied: &Applied,
+        applied: &LexicalTables,
         mask: &Mask,
         place: usize,
     ) -> Told<'_>
@@ -125,7 +125,7 @@ fn fill_rows<L: Ledger>(
     masks: &IndexSet<&Mask>,
     text: &Text,
     alphabet: &Alphabet,
-    applied: &Applied,
+    applied: &LexicalTables,
     rows: &mut Rows,
     numbers: &mut Vec<u32>,
     steps: &mut Steps<L>,
@@ -166,7 +166,7 @@ fn row_for<L: Ledger>(
     masks: &IndexSet<&Mask>,
     text: &Text,
     alphabet: &Alphabet,
-    applied: &Applied,
+    applied: &LexicalTables,
     rows: &mut Rows,
     known: &mut Vec<Option<u32>>,
     place: usize,
@@ -209,7 +209,7 @@ fn own_row<L: Ledger>(
     masks: &IndexSet<&Mask>,
     text: &Text,
     alphabet: &Alphabet,
-    applied: &Applied,
+    applied: &LexicalTables,
     rows: &mut Rows,
     place: usize,
     steps: &mut Steps<L>,

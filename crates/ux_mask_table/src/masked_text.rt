@@ -2,8 +2,8 @@
 
 ghost use Rattle.std.specs.Prelude.{◌≡◌, ℕ, ◌+◌, ◌*◌, ◌<◌, ◌≤◌, ◌↔◌, Contains, IfOk, IsTrue, OnOk, length};
 ghost use Rattle.std.specs.List.Sorted.{IsStrictlyIncreasing};
-ghost use Rattle.ux_apply.specs.Accepting.{Accepts};
-ghost use Rattle.ux_apply.specs.Belonging.{Belongs};
+ghost use Rattle.ux_lexical_tables.specs.Accepting.{Accepts};
+ghost use Rattle.ux_lexical_tables.specs.Belonging.{Belongs};
 ghost use Rattle.ux_mask_table.specs.MaskTables.{TellsEnds};
 ghost use Rattle.ux_mask_table.specs.MaskedTexts.{AddsEnds, HasTable, IsOver, accepts_in};
 ghost use Rattle.ux_net.specs.Masks.{IsMaskCount, masks_of};
@@ -12,8 +12,8 @@ use crate::mask_table::{MaskTable, Told};
 use std::alloc::Global;
 use std::sync::ledger::Ledger;
 use ux_alphabet::Alphabet;
-use ux_apply::Applied;
 use ux_base::{Mem, Steps};
+use ux_lexical_tables::LexicalTables;
 use ux_masks::Mask;
 use ux_net::Net;
 use ux_tokens::Text;
@@ -28,7 +28,7 @@ pub struct MaskedText<'a> {
     /// The letters.
     pub alphabet: &'a Alphabet,
     /// The entries.
-    pub applied: &'a Applied,
+    pub applied: &'a LexicalTables,
     /// What the masks of the net accept.
     pub masks: MaskTable<'a>,
 }
@@ -41,7 +41,7 @@ impl<'a> MaskedText<'a> {
         net: &'a Net,
         text: &'a Text,
         alphabet: &'a Alphabet,
-        applied: &'a Applied,
+        applied: &'a LexicalTables,
         steps: &mut Steps<L>,
     ) -> Mem<MaskedText<'a>>
         requires belongs { Belongs alphabet.now text.now applied.now }

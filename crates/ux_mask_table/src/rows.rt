@@ -1,7 +1,7 @@
 //! Rows: what all masks accept from a place, each tried once there.
 
 ghost use Rattle.std.specs.Prelude.{◌≡◌, ◌+◌, ◌<◌, ◌≤◌, ◌++◌, ◌∷◌, [], IfOk, OnOk, length};
-ghost use Rattle.ux_apply.specs.Belonging.{Belongs};
+ghost use Rattle.ux_lexical_tables.specs.Belonging.{Belongs};
 ghost use Rattle.ux_mask_table.specs.MaskTables.{AddsRow, AreRows, IsEndOf};
 ghost use Rattle.ux_mask_table.specs.Spans.{AreKept, ArePaired, IsRow};
 ghost use Rattle.ux_net.specs.Masks.{masks_in};
@@ -11,8 +11,8 @@ use indexmap::IndexSet;
 use std::alloc::Global;
 use std::sync::ledger::Ledger;
 use ux_alphabet::Alphabet;
-use ux_apply::Applied;
 use ux_base::{Mem, Steps};
+use ux_lexical_tables::LexicalTables;
 use ux_masks::Mask;
 use ux_tokens::Text;
 
@@ -53,7 +53,7 @@ impl Rows {
         masks: &IndexSet<&Mask>,
         text: &Text,
         alphabet: &Alphabet,
-        applied: &Applied,
+        applied: &LexicalTables,
         place: usize,
         steps: &mut Steps<L>,
     ) -> Mem<()>
@@ -84,7 +84,7 @@ impl Spans {
         masks: &IndexSet<&Mask>,
         text: &Text,
         alphabet: &Alphabet,
-        applied: &Applied,
+        applied: &LexicalTables,
         place: usize,
         steps: &mut Steps<L>,
     ) -> Mem<Stretch>

@@ -13,7 +13,7 @@ use Rattle.indexmap.specs.IndexSet.{insert_key}
 use Rattle.indexmap.proofs.CallerLemmas.{Contains-list_any}
 use Rattle.ux_dela.specs.declared.entry.Entry.{Entry}
 use Rattle.ux_tokens.specs.TokenFile.{line_of}
-use Rattle.ux_apply.specs.Tables.{Tables}
+use Rattle.ux_lexical_tables.specs.Tables.{Tables}
 use Rattle.ux_report.specs.Lines.{FromSome, HasMore, IsCompoundBefore, IsLongerPrinted}
 
 -- no line more

@@ -8,7 +8,7 @@ use Rattle.ux_dela.specs.declared.entry.Entry.{Entry}
 use Rattle.ux_tokens.specs.declared.kind.Kind.TheVariants.{Word}
 use Rattle.ux_tokens.specs.Tokens.{Token}
 use Rattle.ux_tokens.specs.Numbers.{different_texts}
-use Rattle.ux_apply.specs.Tables.{Tables}
+use Rattle.ux_lexical_tables.specs.Tables.{Tables}
 use Rattle.ux_report.specs.Lines.{FromSome, HasMore, IsPrinted, IsSimpleAt, IsText}
 use Rattle.ux_report.specs.Words.{AreWordPlacesUpTo, HasPlace, IsWordAt}
 use Rattle.ux_report.proofs.LinesLemmas.{more-same}

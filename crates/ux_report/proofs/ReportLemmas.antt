@@ -13,7 +13,8 @@ use Rattle.ux_tokens.specs.Tokens.{Token}
 use Rattle.ux_tokens.proofs.DistinctLemmas.{different_texts-once}
 use Rattle.ux_apply.specs.declared.priority.Priority.{Priority}
 use Rattle.ux_apply.specs.Applying.{AreApplying}
-use Rattle.ux_apply.specs.Tables.{Tables, AreApplied, AreSimpleOf}
+use Rattle.ux_lexical_tables.specs.Tables.{Tables}
+use Rattle.ux_apply.specs.Applied.{AreApplied, AreSimpleOf}
 use Rattle.ux_apply.proofs.OneTableLaws.{one_applying}
 use Rattle.ux_apply.proofs.ZipLemmas.{zip-at, zip-length}
 use Rattle.ux_report.specs.Lines.{FromSome, HasMore, IsCompoundBefore, IsSimpleAt, IsText, LieWithin}

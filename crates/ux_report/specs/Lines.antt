@@ -3,7 +3,7 @@ use Rattle.std.specs.Prelude.{◌≡◌, ◌↔◌, ◌⊎◌, ℕ, ◌<◌, Lis
 use Rattle.ux_dela.specs.declared.entry.Entry.{Entry}
 use Rattle.ux_dela.specs.Printed.{printed}
 use Rattle.ux_tokens.specs.Tokens.{Token}
-use Rattle.ux_apply.specs.Tables.{Tables}
+use Rattle.ux_lexical_tables.specs.Tables.{Tables}
 
 -- the new lines are the old ones and those that are such
 abbrev pub HasMore : (old : List (List ℕ)) (P : List ℕ → Type 0) (new : List (List ℕ)) → Type 0

@@ -13,7 +13,8 @@ use Rattle.ux_tokens.specs.Tokens.{Token}
 use Rattle.ux_tokens.specs.Numbers.{different_texts}
 use Rattle.ux_tokens.specs.TokenFile.{file_of}
 use Rattle.ux_apply.specs.declared.priority.Priority.{Priority}
-use Rattle.ux_apply.specs.Tables.{Tables, AreApplied}
+use Rattle.ux_lexical_tables.specs.Tables.{Tables}
+use Rattle.ux_apply.specs.Applied.{AreApplied}
 
 -- the tables are those of some dictionaries over the tokens, by some alphabet
 abbrev pub AreTablesOf : List Token → Tables → Type 0

@@ -6,7 +6,7 @@
 //! behind the other.
 //!
 //! ```text
-//! let applied = Applied::of(rt.alloc(), &text, &alphabet, &dics)?;
+//! let applied = apply(rt.alloc(), &text, &alphabet, &dics)?;
 //! report(rt.alloc(), &text, &applied)?      // #DLF 1, the.DET:s, #DLC 0, #ERR 1, zyx, each on a line
 //! ```
 #![tactic(auto)]

@@ -11,16 +11,20 @@ ghost use Rattle.ux_report.specs.Lines.{FromSome, HasMore, IsCompoundBefore, IsL
 use indexmap::IndexSet;
 use std::alloc::{AllocError, Global};
 use std::hash::Hash;
-use ux_apply::Applied;
 use ux_base::{Mem, Txt};
 use ux_dela::{Entry, print_delaf};
+use ux_lexical_tables::LexicalTables;
 use ux_tokens::Text;
 
 /// Lines, each once, in the order in which they came.
 pub(crate) type Lines = IndexSet<Txt>;
 
 /// What is printed for the simple entries of the words at these places.
-pub(crate) fn simple_lines(alloc: Global, applied: &Applied, places: &[Option<usize>]) -> Mem<Lines>
+pub(crate) fn simple_lines(
+    alloc: Global,
+    applied: &LexicalTables,
+    places: &[Option<usize>],
+) -> Mem<Lines>
     requires { LieWithin places.now (length applied.now.simple) }
     ensures { IfOk result (λ lines.
         HasMore [] (FromSome places.now (IsSimpleAt applied.now)) lines.keys) }
@@ -33,7 +37,12 @@ pub(crate) fn simple_lines(alloc: Global, applied: &Applied, places: &[Option<us
 }
 
 /// Puts what is printed for the simple entries of the word at the place, if there is one.
-fn put_simple(lines: &mut Lines, alloc: Global, applied: &Applied, place: Option<usize>) -> Mem<()>
+fn put_simple(
+    lines: &mut Lines,
+    alloc: Global,
+    applied: &LexicalTables,
+    place: Option<usize>,
+) -> Mem<()>
     requires { IfSome place (λ place. place < length applied.now.simple) }
     ensures { OnOk result
         (HasMore lines.old.keys (IsSimpleAt applied.now place) lines.new.keys) }
@@ -56,7 +65,7 @@ fn put_entries(lines: &mut Lines, alloc: Global, entries: &[Entry]) -> Mem<()>
 }
 
 /// What is printed for the compound entries of all spans of two or more tokens.
-pub(crate) fn compound_lines(alloc: Global, applied: &Applied, count: usize) -> Mem<Lines>
+pub(crate) fn compound_lines(alloc: Global, applied: &LexicalTables, count: usize) -> Mem<Lines>
     requires { count ≡ length applied.now.compounds }
     ensures { IfOk result (λ lines.
         HasMore [] (IsCompoundBefore applied.now count) lines.keys) }
@@ -102,7 +111,7 @@ fn put_entry(lines: &mut Lines, alloc: Global, entry: &Entry) -> Mem<()>
 pub(crate) fn unknown_lines(
     alloc: Global,
     text: &Text,
-    applied: &Applied,
+    applied: &LexicalTables,
     places: &[Option<usize>],
 ) -> Mem<Lines>
     requires { LieWithin places.now (length text.now) }

@@ -8,13 +8,13 @@ ghost use Rattle.ux_report.specs.Report.{AreTablesOf, IsReport, report_of, secti
 use crate::lines::{compound_lines, in_order, simple_lines, unknown_lines};
 use crate::words::word_places;
 use std::alloc::{AllocError, Global};
-use ux_apply::Applied;
 use ux_base::{Mem, Txt};
+use ux_lexical_tables::LexicalTables;
 use ux_tokens::Text;
 
 /// The report on the entries that apply to the text: a section of simple entries, one of compound
 /// entries and one of unknown words, each line once. Asks each different word once.
-pub fn report(alloc: Global, text: &Text, applied: &Applied) -> Mem<String>
+pub fn report(alloc: Global, text: &Text, applied: &LexicalTables) -> Mem<String>
     // `applied` was made of this text.
     requires { AreTablesOf text.now applied.now }
     ensures { IfOk result (λ report. IsReport text.now applied.now (string_bytes report)) }

@@ -6,7 +6,7 @@
 //! hyphen 14, x 15.
 
 ghost use Rattle.std.specs.Prelude.{◌≡◌, ◌<◌};
-ghost use Rattle.ux_apply.specs.Belonging.{Belongs};
+ghost use Rattle.ux_lexical_tables.specs.Belonging.{Belongs};
 
 use std::alloc::{AllocError, Global};
 use std::marker::Brand;
@@ -14,9 +14,10 @@ use std::process::Abort;
 use std::sync::ledger::{Blank, Ledger};
 use std::test::Fail;
 use ux_alphabet::Alphabet;
-use ux_apply::{Applied, Priority};
+use ux_apply::{Priority, apply};
 use ux_base::{Mem, Steps};
 use ux_dict::ListLexicon;
+use ux_lexical_tables::LexicalTables;
 use ux_masks::Mask;
 use ux_tokens::Text;
 
@@ -44,7 +45,7 @@ fn found(alloc: Global, row: &Row) -> Result<String, Fail> {
     let alphabet = Alphabet::read(alloc, LETTERS)?;
     let text = Text::read(alloc, String::from_str(alloc, TEXT)?, &alphabet)?;
     let dics = [(Priority::Normal, ListLexicon::read(alloc, LINES)?)];
-    let applied = Applied::of(alloc, &text, &alphabet, &dics)?;
+    let applied = apply(alloc, &text, &alphabet, &dics)?;
     let mask = Mask::read(alloc, row.0)?;
     Ok(found_by::<Brand>(
         alloc,
@@ -60,7 +61,7 @@ fn found(alloc: Global, row: &Row) -> Result<String, Fail> {
 /// The same of one mask, with no step taken before.
 fn found_by<L: Ledger>(
     alloc: Global,
-    applied: &Applied,
+    applied: &LexicalTables,
     text: &Text,
     alphabet: &Alphabet,
     mask: &Mask,

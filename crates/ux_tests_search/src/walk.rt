@@ -3,7 +3,7 @@
 //! The text is `The`, a space, `cat`, a comma, a space, `x`.
 
 ghost use Rattle.std.specs.Prelude.{◌≡◌, ◌<◌, IfOk};
-ghost use Rattle.ux_apply.specs.Belonging.{Belongs};
+ghost use Rattle.ux_lexical_tables.specs.Belonging.{Belongs};
 ghost use Rattle.ux_mask_table.specs.MaskedTexts.{HasTable};
 
 use crate::comparing::compare;
@@ -14,9 +14,10 @@ use std::process::Abort;
 use std::sync::ledger::{Blank, Ledger};
 use std::test::Fail;
 use ux_alphabet::Alphabet;
-use ux_apply::{Applied, Priority};
+use ux_apply::{Priority, apply};
 use ux_base::{Lst, Mem, Steps};
 use ux_dict::ListLexicon;
+use ux_lexical_tables::LexicalTables;
 use ux_mask_table::MaskedText;
 use ux_net::Net;
 use ux_outputs::Event;
@@ -34,11 +35,11 @@ fn ends(alloc: Global, found: &[(usize, Lst<Event>)]) -> Result<String, AllocErr
 }
 
 /// What applies to a text without dictionaries.
-pub fn without_dictionaries(alloc: Global, text: &Text, alphabet: &Alphabet) -> Mem<Applied>
+pub fn without_dictionaries(alloc: Global, text: &Text, alphabet: &Alphabet) -> Mem<LexicalTables>
     ensures { IfOk result (Belongs alphabet.now text.now) }
 {
     let dics: [(Priority, ListLexicon); 0] = [];
-    Applied::of(alloc, text, alphabet, &dics)
+    apply(alloc, text, alphabet, &dics)
 }
 
 /// The ends of the walks from a position, `outside`, or `contexts`.
@@ -53,7 +54,7 @@ fn walked_by<L: Ledger>(
     net: &Net,
     text: &Text,
     alphabet: &Alphabet,
-    applied: &Applied,
+    applied: &LexicalTables,
     start: usize,
     blank: Blank,
 ) -> Mem<String>

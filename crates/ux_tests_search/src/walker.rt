@@ -4,7 +4,7 @@
 //! The text is that of `walk`: `The`, a space, `cat`, a comma, a space, `x`.
 
 ghost use Rattle.std.specs.Prelude.{◌≡◌, ◌<◌};
-ghost use Rattle.ux_apply.specs.Belonging.{Belongs};
+ghost use Rattle.ux_lexical_tables.specs.Belonging.{Belongs};
 ghost use Rattle.ux_mask_table.specs.MaskedTexts.{HasTable};
 
 use crate::comparing::compare;
@@ -15,8 +15,8 @@ use std::process::Abort;
 use std::sync::ledger::{Blank, Ledger};
 use std::test::Fail;
 use ux_alphabet::Alphabet;
-use ux_apply::Applied;
 use ux_base::{Mem, Steps};
+use ux_lexical_tables::LexicalTables;
 use ux_mask_table::MaskedText;
 use ux_net::Net;
 use ux_tokens::Text;
@@ -37,7 +37,7 @@ fn way_by<L: Ledger>(
     net: &Net,
     text: &Text,
     alphabet: &Alphabet,
-    applied: &Applied,
+    applied: &LexicalTables,
     start: usize,
     blank: Blank,
 ) -> Mem<String>

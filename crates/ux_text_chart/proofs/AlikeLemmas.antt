@@ -4,8 +4,8 @@ use Rattle.std.specs.Prelude.{slice_get}
 use Rattle.ux_alphabet.specs.Letters.{Letters}
 use Rattle.ux_tokens.specs.Tokens.{Token}
 use Rattle.ux_net.specs.declared.label.Label.TheVariants as label
-use Rattle.ux_apply.specs.Accepting.{Accepts}
-use Rattle.ux_apply.specs.Tables.{Tables}
+use Rattle.ux_lexical_tables.specs.Accepting.{Accepts}
+use Rattle.ux_lexical_tables.specs.Tables.{Tables}
 use Rattle.ux_outputs.specs.Rendering.{skip}
 use Rattle.ux_meaning.specs.Texts.{FoldsTo, IsBraced, MayStandFor}
 use Rattle.ux_chart.specs.Alike.{AreAlike}

@@ -8,10 +8,10 @@ use Rattle.ux_tokens.specs.Tokens.{Token}
 use Rattle.ux_masks.specs.declared.mask.Mask.{Mask}
 use Rattle.ux_net.specs.declared.label.Label.{Label}
 use Rattle.ux_net.specs.declared.label.Label.TheVariants as label
-use Rattle.ux_apply.specs.Accepting.{Accepts}
-use Rattle.ux_apply.specs.Belonging.{Belongs}
-use Rattle.ux_apply.specs.Tables.{Tables}
-use Rattle.ux_apply.proofs.OneTokenLaws.{accepts_forward}
+use Rattle.ux_lexical_tables.specs.Accepting.{Accepts}
+use Rattle.ux_lexical_tables.specs.Belonging.{Belongs}
+use Rattle.ux_lexical_tables.specs.Tables.{Tables}
+use Rattle.ux_lexical_tables.proofs.OneTokenLaws.{accepts_forward}
 use Rattle.ux_outputs.specs.declared.event.Event.TheVariants as event
 use Rattle.ux_outputs.specs.Rendering.{skip}
 use Rattle.ux_meaning.specs.Inputs.{Input}

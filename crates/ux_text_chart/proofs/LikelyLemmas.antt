@@ -30,7 +30,7 @@ use Rattle.ux_parts.proofs.Running.{whole}
 use Rattle.ux_alphabet.specs.Letters.{Letters}
 use Rattle.ux_tokens.specs.Numbers.{different_texts}
 use Rattle.ux_tokens.specs.Tokens.{Token}
-use Rattle.ux_apply.specs.Tables.{Tables}
+use Rattle.ux_lexical_tables.specs.Tables.{Tables}
 use Rattle.ux_walk.specs.Literals.{IsFitted, IsLiteral}
 use Rattle.ux_walk.specs.Settings.{applied_text}
 use Rattle.ux_chart.specs.Likely.{AreLikely, ReachesSome}

@@ -6,7 +6,7 @@
 
 ghost use Rattle.std.specs.Prelude.{◌≡◌, ◌<◌, ◌≤◌, List, IfOk, IfSome, IsSomeAnd, IsTrue, Some, length, slice_get};
 ghost use Rattle.ux_alphabet.specs.Letters.{Letters};
-ghost use Rattle.ux_apply.specs.Tables.{Tables};
+ghost use Rattle.ux_lexical_tables.specs.Tables.{Tables};
 ghost use Rattle.ux_net.specs.declared.net_graph.NetGraph.{NetGraph};
 ghost use Rattle.ux_outputs.specs.Rendering.{skip as skip_of};
 ghost use Rattle.ux_tokens.specs.Numbers.{different_texts};

@@ -2,7 +2,7 @@
 
 ghost use Rattle.std.specs.Prelude.{◌≡◌, ℕ, ◌≤◌, ◌↔◌, List, Contains, IfOk, length};
 ghost use Rattle.std.specs.List.Sorted.{IsStrictlyIncreasing};
-ghost use Rattle.ux_apply.specs.Accepting.{Accepts};
+ghost use Rattle.ux_lexical_tables.specs.Accepting.{Accepts};
 ghost use Rattle.ux_mask_table.specs.MaskedTexts.{HasTable};
 ghost use Rattle.ux_net.specs.Masks.{masks_of};
 ghost use Rattle.ux_net.specs.Nets.{net_grammar};

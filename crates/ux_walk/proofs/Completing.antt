@@ -4,7 +4,7 @@ use Rattle.std.specs.Prelude.{Contains}
 use Rattle.std.proofs.lemmas.List.{reverse-reverse}
 use Rattle.ux_alphabet.specs.Letters.{Letters}
 use Rattle.ux_tokens.specs.Tokens.{Token}
-use Rattle.ux_apply.specs.Tables.{Tables}
+use Rattle.ux_lexical_tables.specs.Tables.{Tables}
 use Rattle.ux_net.specs.declared.net_graph.NetGraph.{NetGraph}
 use Rattle.ux_net.specs.Measured.{IsMeasured, must, bound_of, rank_of}
 use Rattle.ux_outputs.specs.declared.event.Event.{Event}

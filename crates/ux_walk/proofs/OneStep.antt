@@ -4,7 +4,7 @@ use Rattle.std.specs.Prelude.{Some, slice_get, Contains, map}
 use Rattle.std.proofs.lemmas.List.{reverse-append, reverse-reverse}
 use Rattle.ux_alphabet.specs.Letters.{Letters}
 use Rattle.ux_tokens.specs.Tokens.{Token}
-use Rattle.ux_apply.specs.Tables.{Tables}
+use Rattle.ux_lexical_tables.specs.Tables.{Tables}
 use Rattle.ux_grf.specs.declared.item.Piece.{Piece}
 use Rattle.ux_grf.specs.declared.item.Piece.TheVariants.{Chars, Value}
 use Rattle.ux_net.specs.declared.label.Label.{Label}
@@ -20,7 +20,7 @@ use Rattle.ux_meaning.specs.Contexts.{Holds}
 use Rattle.ux_meaning.specs.Meaning.{Seq, done, takes, stays, calls, holds, refused, Stays, DerBy, RefusesBy}
 use Rattle.ux_meaning.specs.Texts.{Takes}
 use Rattle.ux_walk.specs.Settings.{applied_text}
-use Rattle.ux_apply.specs.Accepting.{Accepts}
+use Rattle.ux_lexical_tables.specs.Accepting.{Accepts}
 use Rattle.ux_walk.specs.declared.config.Frame.{Frame}
 use Rattle.ux_walk.specs.Contexts.{Applying, ApplyAsMeant, Opens}
 use Rattle.ux_walk.specs.Courses.{Course, GoesOn, Passes, TakesPlainly, passing, put_event, put_events}

@@ -7,8 +7,8 @@ use Rattle.ux_tokens.specs.Tokens.{Token}
 use Rattle.ux_tokens.specs.declared.kind.Kind.{Kind}
 use Rattle.ux_tokens.specs.declared.kind.Kind.TheVariants as kind
 use Rattle.ux_masks.specs.declared.mask.Mask.{Mask}
-use Rattle.ux_apply.specs.Accepting.{Accepts}
-use Rattle.ux_apply.specs.Tables.{Tables}
+use Rattle.ux_lexical_tables.specs.Accepting.{Accepts}
+use Rattle.ux_lexical_tables.specs.Tables.{Tables}
 use Rattle.ux_net.specs.declared.label.Label.{Label}
 use Rattle.ux_net.specs.declared.label.Label.TheVariants as label
 use Rattle.ux_net.specs.declared.net_graph.NetGraph.{NetGraph}

@@ -6,8 +6,8 @@ use Rattle.ux_net.specs.declared.net_graph.NetGraph.{NetGraph}
 use Rattle.ux_net.specs.Nets.{net_grammar}
 use Rattle.ux_mask_table.specs.declared.masked_text.MaskedText.{MaskedText}
 use Rattle.ux_outputs.specs.declared.event.Event.{Event}
-use Rattle.ux_apply.specs.Accepting.{Accepts}
-use Rattle.ux_apply.specs.Tables.{Tables}
+use Rattle.ux_lexical_tables.specs.Accepting.{Accepts}
+use Rattle.ux_lexical_tables.specs.Tables.{Tables}
 use Rattle.ux_meaning.specs.Inputs.{Input}
 use Rattle.ux_meaning.specs.Texts.{text_input}
 use Rattle.ux_meaning.specs.Meaning.{Der}

@@ -2,7 +2,7 @@
 
 ghost use Rattle.std.specs.Prelude.{◌≡◌, ◌<◌, ◌≤◌, ◌↔◌, ℕ, List, [], ◌∷◌, ◌++◌, Contains, IfOk, IfSome, IsTrue, OnOk, length, option_copied, reverse, slice_get, Some};
 ghost use Rattle.ux_alphabet.specs.Letters.{Letters};
-ghost use Rattle.ux_apply.specs.Tables.{Tables};
+ghost use Rattle.ux_lexical_tables.specs.Tables.{Tables};
 ghost use Rattle.ux_mask_table.specs.MaskedTexts.{AreEdgesKnown, HasTable, IsKnown};
 ghost use Rattle.ux_net.specs.declared.net_graph.NetGraph.{NetGraph};
 ghost use Rattle.ux_net.specs.Nets.{states_of};

@@ -4,8 +4,8 @@ use Rattle.std.specs.Prelude.{◌↔◌, Contains}
 use Rattle.std.specs.List.Sorted.{IsStrictlyIncreasing}
 use Rattle.ux_net.specs.Measured.{IsMeasured}
 use Rattle.ux_net.specs.Nets.{ArePlain}
-use Rattle.ux_apply.specs.Belonging.{Belongs}
-use Rattle.ux_apply.proofs.OneTokenLaws.{accepts_forward}
+use Rattle.ux_lexical_tables.specs.Belonging.{Belongs}
+use Rattle.ux_lexical_tables.proofs.OneTokenLaws.{accepts_forward}
 use Rattle.ux_walk.specs.Ends.{AreEnds}
 use Rattle.ux_walk.specs.Leads.{LeadsTo, main_stack}
 use Rattle.ux_walk.specs.Settings.{Setting}

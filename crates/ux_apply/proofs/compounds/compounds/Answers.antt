@@ -1,7 +1,7 @@
 use Rattle.std.proofs.Common.{ℕ, arith, subst}
 use Rattle.ux_apply.specs.Applying.{contents}
 use Rattle.ux_apply.specs.Kept.{AreRowsUpTo, AreSoundMembers}
-use Rattle.ux_apply.specs.Tables.{IsCompoundRow}
+use Rattle.ux_apply.specs.Applied.{IsCompoundRow}
 use Rattle.ux_apply.proofs.RowLemmas.{rows-more, rows-start}
 use Rattle.ux_apply.proofs.compounds.compounds.Goals as goal
 

@@ -1,6 +1,6 @@
 use Rattle.ux_apply.specs.Applying.{contents}
 use Rattle.ux_apply.specs.Kept.{AreRowsUpTo, AreSoundMembers}
-use Rattle.ux_apply.specs.Tables.{IsCompoundRow}
+use Rattle.ux_apply.specs.Applied.{IsCompoundRow}
 use Rattle.ux_apply.proofs.compounds.compounds.Given as goal
 
 -- the rows are those of the tokens so far, which are sound

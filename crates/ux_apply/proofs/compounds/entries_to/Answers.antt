@@ -5,10 +5,10 @@ use Rattle.std.proofs.lemmas.Result.{IfOk-weaker}
 use Rattle.ux_alphabet.specs.Letters.{Letters}
 use Rattle.ux_dela.specs.Sound.{IsSound}
 use Rattle.ux_dela.specs.declared.entry.Entry.{Entry}
+use Rattle.ux_lexical_tables.specs.Spans.{text_of}
 use Rattle.ux_apply.specs.declared.priority.Priority.{Priority}
 use Rattle.ux_apply.specs.Cursors.{AreReachedBy}
-use Rattle.ux_apply.specs.Spans.{text_of}
-use Rattle.ux_apply.specs.Tables.{AreOfSpan}
+use Rattle.ux_apply.specs.Applied.{AreOfSpan}
 use Rattle.ux_apply.proofs.SpanLemmas.{none-here, of_span, span-front}
 use Rattle.ux_apply.proofs.compounds.entries_to.Goals as goal
 

@@ -2,8 +2,8 @@ use Rattle.std.proofs.Common.{◌≡◌, ◌++◌, ◌+◌, ◌∙◌, List, ℕ
 use Rattle.std.specs.Prelude.{slice_range}
 use Rattle.std.proofs.lemmas.Result.{IfOk-weaker}
 use Rattle.ux_tokens.specs.Tokens.{joined}
+use Rattle.ux_lexical_tables.specs.Spans.{text_of}
 use Rattle.ux_apply.specs.Cursors.{AreReachedBy}
-use Rattle.ux_apply.specs.Spans.{text_of}
 use Rattle.ux_apply.proofs.SpanLemmas.{joined-on}
 use Rattle.ux_apply.proofs.compounds.go_on_to.Goals as goal
 

@@ -1,8 +1,8 @@
 use Rattle.std.proofs.Common.{List, ℕ, arith, subst, sym, [], ◌+◌}
 use Rattle.ux_dela.specs.declared.entry.Entry.{Entry}
+use Rattle.ux_lexical_tables.specs.Spans.{MayBound}
 use Rattle.ux_apply.specs.Applying.{contents}
-use Rattle.ux_apply.specs.Spans.{MayBound}
-use Rattle.ux_apply.specs.Tables.{IsCompoundRow}
+use Rattle.ux_apply.specs.Applied.{IsCompoundRow}
 use Rattle.ux_apply.proofs.OwnLemmas.{own-row, start-other}
 use Rattle.ux_apply.proofs.SpanLemmas.{has_kind, none-unbounded, row-whole}
 use Rattle.ux_apply.proofs.StartLemmas.{none-over}

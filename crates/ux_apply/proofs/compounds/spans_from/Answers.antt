@@ -4,13 +4,13 @@ use Rattle.ux_dela.specs.declared.entry.Entry.{Entry}
 use Rattle.std.proofs.lemmas.List.Elements.{All-nil}
 use Rattle.ux_alphabet.specs.Letters.{Letters}
 use Rattle.ux_tokens.specs.Tokens.{Token, joined}
+use Rattle.ux_lexical_tables.specs.Spans.{text_of}
 use Rattle.ux_apply.specs.declared.priority.Priority.{Priority}
 use Rattle.ux_apply.specs.declared.cursors.Cursor.{Cursor}
 use Rattle.ux_apply.specs.Applying.{contents}
 use Rattle.ux_apply.specs.Cursors.{AreReachedBy}
 use Rattle.ux_apply.specs.Kept.{AreSoundMembers}
-use Rattle.ux_apply.specs.Spans.{text_of}
-use Rattle.ux_apply.specs.Tables.{AreCompoundUpTo}
+use Rattle.ux_apply.specs.Applied.{AreCompoundUpTo}
 use Rattle.ux_apply.proofs.CompoundLemmas.{row-more}
 use Rattle.ux_apply.proofs.SpanLemmas.{front-more, joined-none, none-begins, none-past, row-whole}
 use Rattle.ux_apply.proofs.StartLemmas.{front-nearest, nearest-within, row-start}

@@ -4,7 +4,7 @@ use Rattle.ux_tokens.specs.Tokens.{joined}
 use Rattle.ux_apply.specs.Applying.{contents}
 use Rattle.ux_apply.specs.Cursors.{AreReachedBy}
 use Rattle.ux_apply.specs.Kept.{AreSoundMembers, IsFront}
-use Rattle.ux_apply.specs.Tables.{AreCompoundUpTo}
+use Rattle.ux_apply.specs.Applied.{AreCompoundUpTo}
 use Rattle.ux_apply.proofs.compounds.spans_from.Given as goal
 
 -- the row has the entries of the spans so far, the tokens so far may be in a longer one, and the

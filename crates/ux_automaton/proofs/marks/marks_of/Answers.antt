@@ -1,7 +1,7 @@
 use Rattle.std.proofs.Common.{arith, ◌≡◌, ◌∙◌, List, Bool, false, inl, inr, not, sym, subst}
 use Rattle.std.specs.Prelude.{Some, slice_get}
 use Rattle.std.proofs.lemmas.Bool.{not-false}
-use Rattle.ux_apply.specs.Accepting.{IsAlone}
+use Rattle.ux_lexical_tables.specs.Accepting.{IsAlone}
 use Rattle.ux_walk.proofs.LinksLemmas.{get_pushed}
 use Rattle.ux_automaton.proofs.marks.marks_of.Goals as goal
 

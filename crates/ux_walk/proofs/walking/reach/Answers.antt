@@ -1,5 +1,5 @@
 use Rattle.std.proofs.Common.{sym}
-use Rattle.ux_apply.proofs.OneTokenLaws.{accepts_forward}
+use Rattle.ux_lexical_tables.proofs.OneTokenLaws.{accepts_forward}
 use Rattle.ux_net.specs.Nets.{net_grammar}
 use Rattle.ux_meaning.proofs.Levels.{in_the_end}
 use Rattle.ux_walk.specs.Settings.{applied_text}

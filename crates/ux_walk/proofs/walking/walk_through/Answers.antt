@@ -1,4 +1,4 @@
-use Rattle.ux_apply.proofs.OneTokenLaws.{accepts_forward}
+use Rattle.ux_lexical_tables.proofs.OneTokenLaws.{accepts_forward}
 use Rattle.ux_net.specs.Nets.{net_grammar}
 use Rattle.ux_walk.specs.Configurations.{main_visit}
 use Rattle.ux_walk.proofs.FollowingLemmas.{derivation_follows}

@@ -1,6 +1,6 @@
 use Rattle.std.proofs.Common.{arith, inl, inr, refl, subst}
 use Rattle.std.proofs.lemmas.Bool.{not-true}
-use Rattle.ux_apply.specs.Accepting.{IsAlone}
+use Rattle.ux_lexical_tables.specs.Accepting.{IsAlone}
 use Rattle.ux_automaton.specs.Fronts.{HoldsIn}
 use Rattle.ux_automaton.specs.Kept.{store_of}
 use Rattle.ux_walk.specs.Settings.{masked_setting}

@@ -1,5 +1,5 @@
 use Rattle.std.proofs.Common.{arith}
-use Rattle.ux_apply.proofs.OneTokenLaws.{accepts_forward}
+use Rattle.ux_lexical_tables.proofs.OneTokenLaws.{accepts_forward}
 use Rattle.ux_mask_table.specs.MaskedTexts.{accepts_in}
 use Rattle.ux_mask_table.proofs.MaskedTextLemmas.{some_test}
 use Rattle.ux_mask_table.proofs.masked_text.MaskedText.accepts_some.Goals as goal

@@ -1,6 +1,6 @@
 use Rattle.std.proofs.Common.{arith, ◌≡◌, ℕ, ◌++◌, ◌∙◌, List, ap, get_or, map, take}
 use Rattle.std.proofs.lemmas.List.{take_all}
-use Rattle.ux_apply.proofs.OneTokenLaws.{accepts_forward}
+use Rattle.ux_lexical_tables.proofs.OneTokenLaws.{accepts_forward}
 use Rattle.ux_mask_table.specs.MaskedTexts.{accepts_in}
 use Rattle.ux_mask_table.proofs.MaskedTextLemmas.{adds_none, moved, moved_all, told_at}
 use Rattle.ux_mask_table.proofs.masked_text.MaskedText.add_mask_ends.Goals as goal

@@ -1,5 +1,5 @@
 use Rattle.std.proofs.Common.{◌∙◌, arith, subst}
-use Rattle.ux_apply.specs.Belonging.{Belongs}
+use Rattle.ux_lexical_tables.specs.Belonging.{Belongs}
 use Rattle.ux_net.specs.Measured.{IsMeasured}
 use Rattle.ux_net.specs.Nets.{ArePlain}
 use Rattle.ux_meaning.specs.Texts.{IsSpaceAt}

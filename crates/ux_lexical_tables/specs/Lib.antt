@@ -1,0 +1,7 @@
+pub mod Spans
+pub mod Tables
+pub mod Kept
+pub mod Words
+pub mod Belonging
+pub mod Accepting
+pub mod Ends
