@@ -1,8 +1,8 @@
 //! The program `unitex`: the corpus processor's command line.
 //!
 //! `main` gives the words, a folder of real files, and standard output and standard error to
-//! `ux_run::run`, which does the work, and ends with the number of its status. The tests are the
-//! rows of that call over a folder and sinks in memory.
+//! `ux_run::run`, which does the work, and ends with the number of its status. The rows of that call
+//! are data, which `unitex_rows` runs; the tests here are of what no row shows.
 #![tactic(auto)]
 
 #[cfg(test)]

@@ -1,22 +1,8 @@
-//! Rows of the top call over a folder and sinks in memory.
+//! What no row of `unitex_rows` shows: faults of the folder and of the sinks, files that are made,
+//! and a second computation of the hits.
 
-mod bench;
-mod concordances;
-mod contexts;
-mod dictionaries;
-mod encodings;
 mod fakes;
-mod grammars;
-mod images;
-mod letters;
-mod mask_refusals;
-mod masks;
-mod outputs;
+mod made;
 mod plain;
-mod policies;
-mod refusals;
-mod reports;
-mod requests;
 mod rows;
-mod searches;
 mod stops;

@@ -1,4 +1,4 @@
-//! What alphabet files say, by rows.
+//! What alphabet files say, by rows. Those that are refused are rows of `unitex_rows`.
 
 use crate::comparing::compare;
 use std::alloc::Global;
@@ -14,9 +14,6 @@ type Fit = (&'static str, char, char, bool);
 
 /// A file, a character of a text, and whether no other character of an entry fits it.
 type Alone = (&'static str, char, bool);
-
-/// A name, a file, and its refusal.
-type Refusal = (&'static str, &'static str, Option<AlphabetError>);
 
 fn check_letter(rt: &impl Abort, alloc: Global, row: &Letter) -> Result<(), AlphabetError> {
     let alphabet = Alphabet::read(alloc, row.0)?;
@@ -68,51 +65,6 @@ fn reads_an_alphabet_and_answers(rt: HostRuntime) -> Result<(), Fail> {
     compare(&rt, "none is single", none.single(), false);
     check_none(&rt, &none);
     Ok(())
-}
-
-#[test]
-fn the_first_refused_line_is_named(rt: HostRuntime) {
-    const ROWS: &[Refusal] = &[
-        ("no line", "", None),
-        ("pairs", "Aa\nBb\nZz\n", None),
-        ("carriage returns", "Aa\r\nx\r\n", None),
-        ("blanks alone", " \t \nx", None),
-        ("a range", "#AZ", None),
-        ("a range of one character", "#AA", None),
-        ("the sign alone", "#", None),
-        ("a pair of signs", "##", None),
-        ("a range of signs", "###", None),
-        ("a pair with a blank behind it", "#A ", None),
-        (
-            "a range backwards",
-            "x\n#ZA\n",
-            Some(AlphabetError::EmptyRange { line: 2 }),
-        ),
-        (
-            "three other characters",
-            "\r\n\nabc",
-            Some(AlphabetError::BadLine { line: 3 }),
-        ),
-        (
-            "four characters",
-            "#ABC",
-            Some(AlphabetError::BadLine { line: 1 }),
-        ),
-        (
-            "blanks in front",
-            "  a",
-            Some(AlphabetError::BadLine { line: 1 }),
-        ),
-        (
-            "two refusals",
-            "#ZA\nabc",
-            Some(AlphabetError::EmptyRange { line: 1 }),
-        ),
-    ];
-    for row in ROWS {
-        let refused = Alphabet::read(rt.alloc(), row.1).err();
-        compare(&rt, row.0, refused, row.2);
-    }
 }
 
 #[test]

@@ -1,6 +1,8 @@
-//! Rows of whole files and of contents. A graph is shown box by box: `+` or `-` as it is reached or
-//! not, its lines in parentheses, `/` and its output, and `>` and each target. A literal has a point
-//! behind it, a call a semicolon, the empty word is `E`, characters of an output have `'` around them.
+//! Rows of whole files and of contents; those that are refused are rows of `unitex_rows`.
+//!
+//! A graph is shown box by box: `+` or `-` as it is reached or not, its lines in parentheses, `/` and
+//! its output, and `>` and each target. A literal has a point behind it, a call a semicolon, the
+//! empty word is `E`, characters of an output have `'` around them.
 
 use crate::comparing::compare;
 use std::alloc::{AllocError, Global};
@@ -107,7 +109,6 @@ fn show_target(alloc: Global, all: &mut String, target: u32) -> Result<(), Alloc
 fn shown_content(alloc: Global, content: &str) -> Result<String, AllocError> {
     match read_content(alloc, content) {
         Ok(read) => content_text(alloc, &read),
-        Err(GrfError::BadContent { node: 0, place }) => format!(in alloc; "bad {place}"),
         Err(refusal) => format!(in alloc; "{refusal:?}"),
     }
 }
@@ -154,26 +155,6 @@ fn draws_the_example(rt: HostRuntime) -> Result<(), Fail> {
 #[test]
 fn reads_the_header_and_the_number_of_boxes(rt: HostRuntime) -> Result<(), Fail> {
     const ROWS: &[Row] = &[
-        ("an empty file", "", "NoHeader"),
-        (
-            "another first line",
-            "#Unigraf\n#\n2\n\"\" 0 0 0\n\"\" 0 0 0\n",
-            "NoHeader",
-        ),
-        ("no line `#`", "#Unigraph\nSIZE 1188 840\n", "NoHeader"),
-        ("`#` and more", "#Unigraph\n#x\n2\n", "NoHeader"),
-        ("header lines only", "#Unigraph\nSIZE 1\n#\n", "BadCount"),
-        ("one box", "#Unigraph\n#\n1\n\"\" 0 0 0\n", "BadCount"),
-        ("too many boxes", "#Unigraph\n#\n65536\n", "BadCount"),
-        (
-            "a number past 64 bits",
-            "#Unigraph\n#\n18446744073709551618\n",
-            "BadCount",
-        ),
-        ("no number", "#Unigraph\n#\nx\n", "BadCount"),
-        ("an empty line", "#Unigraph\n#\n\n2\n", "BadCount"),
-        ("a space in front", "#Unigraph\n#\n 2\n", "BadCount"),
-        ("two numbers", "#Unigraph\n#\n2 2\n", "BadCount"),
         (
             "spaces at line ends",
             "#Unigraph  \n#  \n002  \n\"\" 0 0 1 1\n\"\" 0 0 0",
@@ -203,84 +184,9 @@ fn reads_box_lines(rt: HostRuntime) -> Result<(), Fail> {
             "+>2++(the.)>1",
         ),
         (
-            "a space behind the mark",
-            "s \"\" 0 0 0\n\"\" 0 0 0\n\"\" 0 0 0\n",
-            "BadBoxLine { node: 0 }",
-        ),
-        (
-            "no quotation marks",
-            "\"\" 0 0 0\n\"\" 0 0 0\nthe 0 0 0\n",
-            "BadBoxLine { node: 2 }",
-        ),
-        (
-            "no second mark",
-            "\"\" 0 0 0\n\"\" 0 0 0\n\"the 0 0 0\n",
-            "BadBoxLine { node: 2 }",
-        ),
-        (
-            "no space behind it",
-            "\"\" 0 0 0\n\"\"0 0 0\n\"\" 0 0 0\n",
-            "BadBoxLine { node: 1 }",
-        ),
-        (
-            "tabs",
-            "\"\" 0 0 0\n\"\"\t0\t0\t0\n\"\" 0 0 0\n",
-            "BadBoxLine { node: 1 }",
-        ),
-        (
-            "too few targets",
-            "\"\" 0 0 2 1\n\"\" 0 0 0\n\"\" 0 0 0\n",
-            "BadBoxLine { node: 0 }",
-        ),
-        (
-            "too many targets",
-            "\"\" 0 0 0 1\n\"\" 0 0 0\n\"\" 0 0 0\n",
-            "BadBoxLine { node: 0 }",
-        ),
-        (
-            "far too few",
-            "\"\" 0 0 999999999 1\n\"\" 0 0 0\n\"\" 0 0 0\n",
-            "BadBoxLine { node: 0 }",
-        ),
-        (
             "nine digits",
             "\"\" -123456789 0 000000001 1\n\"\" 0 0 0\n\"\" 0 0 0\n",
             "+>1+-",
-        ),
-        (
-            "ten digits",
-            "\"\" 0 0 0000000001 1\n\"\" 0 0 0\n\"\" 0 0 0\n",
-            "BadBoxLine { node: 0 }",
-        ),
-        (
-            "ten in a target",
-            "\"\" 0 0 1 0000000001\n\"\" 0 0 0\n\"\" 0 0 0\n",
-            "BadBoxLine { node: 0 }",
-        ),
-        (
-            "a plus",
-            "\"\" +1 0 0\n\"\" 0 0 0\n\"\" 0 0 0\n",
-            "BadBoxLine { node: 0 }",
-        ),
-        (
-            "no box 3",
-            "\"\" 0 0 0\n\"\" 0 0 0\n\"\" 0 0 1 3\n",
-            "BadTarget { node: 2 }",
-        ),
-        (
-            "the form comes first",
-            "\"\" 0 0 0\n\"\" 0 0 1 9 x\n\"\" 0 0 0\n",
-            "BadBoxLine { node: 1 }",
-        ),
-        (
-            "the first bad line",
-            "\"\" 0 0 0\n\"\" 0 0 1 9\nx\n",
-            "BadTarget { node: 1 }",
-        ),
-        (
-            "no last line",
-            "\"\" 0 0 0\n\"\" 0 0 0\n",
-            "BadBoxLine { node: 2 }",
         ),
         (
             "lines behind the last",
@@ -438,57 +344,6 @@ fn reads_lines_of_one_item(rt: HostRuntime) -> Result<(), Fail> {
 }
 
 #[test]
-fn names_the_first_fault(rt: HostRuntime) -> Result<(), Fail> {
-    // The place counts characters, and two bytes stand before most faults.
-    const ROWS: &[Row] = &[
-        ("an open quote", "\u{e9} \"abc", "bad 2"),
-        (
-            "an open quote, whose end is protected",
-            "\u{e9} \"abc\\\"",
-            "bad 2",
-        ),
-        ("an open mask", "\u{e9}\u{e9}+<N", "bad 3"),
-        (
-            "an open mask, whose end is protected",
-            "\u{e9}\u{e9}+<N\\>",
-            "bad 3",
-        ),
-        ("an open brace", "\u{e9}{a\\}", "bad 1"),
-        ("an empty mask", "a \u{e9}<>b", "bad 3"),
-        ("a call without a name", "\u{e9}+:", "bad 2"),
-        ("an ending without a name", "\u{e9}+ :.grf", "bad 3"),
-        ("a colon in a name", "\u{e9}+:a:b", "bad 2"),
-        ("a backslash in a name", "\u{e9}+:a\\+b", "bad 2"),
-        ("a quotation mark in a name", "\u{e9}+:a\"b\"", "bad 2"),
-        ("a mask in a name", "\u{e9}+:a<b>", "bad 2"),
-        ("a brace in a name", "\u{e9}+:a{b}", "bad 2"),
-        ("a dollar line of no form", "\u{e9}+$x", "bad 2"),
-        ("no name of a variable", "\u{e9}+$(", "bad 2"),
-        ("a dash in a variable", "\u{e9}+$a-b(", "bad 2"),
-        ("two bytes in a variable", "$\u{e9}(", "bad 0"),
-        ("a space before a variable", "$ x(", "bad 0"),
-        ("a bar without a name", "\u{e9}+$|(", "bad 2"),
-        ("a bar and a name alone", "\u{e9}+$|n", "bad 2"),
-        ("a bar before another sign", "\u{e9}+$|n[", "bad 2"),
-        ("two bars", "\u{e9}+$||n)", "bad 2"),
-        ("a bar after the name", "\u{e9}+$n|(", "bad 2"),
-        ("a test of a variable as a line", "\u{e9}+$n.SET(", "bad 2"),
-        ("more behind a context", "\u{e9}+ $[ a", "bad 3"),
-        ("a backslash at the end", "\u{e9}a\\", "bad 2"),
-        ("a backslash behind two", "\u{e9}\\\\\\", "bad 3"),
-        (
-            "a backslash at the output's end",
-            "\u{e9}/\u{e9}\\",
-            "bad 3",
-        ),
-        ("a bad line before an open mask", "\u{e9}+:+<", "bad 2"),
-        ("an open quote before a bad line", "\u{e9}\"+:", "bad 1"),
-        ("a fault before that of the output", "\u{e9}+<>/\\", "bad 2"),
-    ];
-    compare_contents(&rt, rt.alloc(), ROWS)
-}
-
-#[test]
 fn reads_outputs(rt: HostRuntime) -> Result<(), Fail> {
     const ROWS: &[Row] = &[
         ("an output", "a/N", "(a.)/'N'"),
@@ -550,16 +405,6 @@ fn takes_the_protection_of_the_file_off_first(rt: HostRuntime) -> Result<(), Fai
         ("another pair", "a\\+b", "+>2++(a+b.)>1"),
         ("a literal mark", "\\\\\\\"x", "+>2++(\"x.)>1"),
         ("a mask's backslash", "<a\\\\\\\\>", "+>2++(<a\\\\>)>1"),
-        (
-            "a backslash at the end",
-            "\u{e9}\\\\",
-            "BadContent { node: 2, place: 1 }",
-        ),
-        (
-            "a place behind protection",
-            "\\\\\\\\\u{e9}<",
-            "BadContent { node: 2, place: 3 }",
-        ),
     ];
     let before = "#Unigraph\n#\n3\n\"\" 0 0 1 2\n\"\" 0 0 0\n\"";
     compare_files(&rt, rt.alloc(), (before, "\" 0 0 1 1\n"), ROWS)
@@ -569,11 +414,6 @@ fn takes_the_protection_of_the_file_off_first(rt: HostRuntime) -> Result<(), Fai
 fn names_the_first_bad_content(rt: HostRuntime) -> Result<(), Fail> {
     // What stands behind the number of boxes, which is 4.
     const ROWS: &[Row] = &[
-        (
-            "two bad boxes",
-            "\"\" 0 0 1 3\n\"\" 0 0 0\n\"a<>\" 0 0 1 1\n\":\" 0 0 1 2\n",
-            "BadContent { node: 2, place: 1 }",
-        ),
         (
             "a bad box that isn't reached",
             "\"\" 0 0 1 3\n\"\" 0 0 0\n\"a<>\" 0 0 1 1\n\"b :\" 0 0 1 1\n",
@@ -588,11 +428,6 @@ fn names_the_first_bad_content(rt: HostRuntime) -> Result<(), Fail> {
             "the last target",
             "\"\" 0 0 2 2 3\n\"\" 0 0 0\n\"a\" 0 0 1 1\n\"b $]+$\" 0 0 1 1\n",
             "+>2>3++(a.)>1+(b.$].)($.)>1",
-        ),
-        (
-            "a bad line comes first",
-            "\"\" 0 0 1 2\n\"\" 0 0 0\n\"<>\" 0 0 1 1\n\"\" 0 0 1\n",
-            "BadBoxLine { node: 3 }",
         ),
     ];
     compare_files(&rt, rt.alloc(), ("#Unigraph\n#\n4\n", ""), ROWS)

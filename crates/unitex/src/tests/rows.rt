@@ -1,4 +1,4 @@
-//! How the rows of the top call are run and compared.
+//! How the top call is run over files in memory, and what it gives is compared.
 
 use std::alloc::Global;
 use std::process::Abort;

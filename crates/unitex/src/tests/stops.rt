@@ -1,5 +1,4 @@
-//! Each command at each of its files, where the file is absent, can't be read, is too long or is
-//! refused.
+//! Each command at each of its files, where the file can't be read or is too long.
 
 ghost use Rattle.std.specs.Prelude.{◌≤◌, None, IfOk, length};
 ghost use Rattle.ux_base.specs.Outside.{MAX, seen_with};
@@ -13,14 +12,10 @@ use ux_base::{Counts, Folder, FolderError};
 /// What is wrong with a file.
 #[derive(Clone, Copy)]
 enum Wrong {
-    /// It isn't there.
-    Absent,
     /// It can't be read.
     Fault,
     /// It is too long.
     TooLong,
-    /// It holds other bytes.
-    Holds(&'static [u8]),
 }
 
 /// A folder of the usual files, of which one is wrong.
@@ -49,10 +44,8 @@ fn answer(alloc: Global, other: &str, wrong: Wrong, name: &str) -> Result<Vec<u8
         return short_copy(alloc, usual(name).as_bytes());
     }
     match wrong {
-        Wrong::Absent => Err(FolderError::Absent),
         Wrong::Fault => Err(FolderError::Fault),
         Wrong::TooLong => Err(FolderError::TooLong),
-        Wrong::Holds(bytes) => short_copy(alloc, bytes),
     }
 }
 
@@ -66,13 +59,8 @@ fn short_copy(alloc: Global, bytes: &[u8]) -> Result<Vec<u8>, FolderError>
     }
 }
 
-/// The words, one of the files, bytes by which it is refused, and for which reason.
-type Row = (
-    &'static [&'static str],
-    &'static str,
-    &'static [u8],
-    &'static str,
-);
+/// The words, and one of the files.
+type Row = (&'static [&'static str], &'static str);
 
 const SEARCH: &[&str] = &["locate", "m.grf", "t.txt", "a.txt", "d.dic", "e.dic"];
 
@@ -92,23 +80,23 @@ const REPORT: &[&str] = &["dico", "t.txt", "a.txt", "d.dic", "e.dic"];
 
 /// Each command, and each of its files in the order of reading.
 const ROWS: &[Row] = &[
-    (SEARCH, "a.txt", b"abc", "BadLine line=1"),
-    (SEARCH, "m.grf", b"", "NoHeader"),
-    (SEARCH, "g.grf", b"#Unigraph\n#\n1\n", "BadCount"),
-    (SEARCH, "t.txt", b"\xff\xfea", "OddLength"),
-    (SEARCH, "d.dic", b"cat,N", "NoDot line=1 place=5"),
-    (SEARCH, "e.dic", b",cat.N", "EmptyForm line=1 place=0"),
-    (TOKENS, "a.txt", b"#ba", "EmptyRange line=1"),
-    (TOKENS, "t.txt", b"a\xff", "BadUtf8 place=1"),
-    (CHECK, "d.dic", b"abc", "NoComma line=1 place=3"),
-    (CHECK_STEMS, "s.dic", b"abc", "NoComma line=1 place=3"),
-    (CHECK_IMAGE, "d.udi", b"UXUDI\x01\r\n", "Short"),
-    (COMPRESS, "d.dic", b"cat,.N\nabc", "NoComma line=2 place=3"),
-    (COMPRESS_IMAGE, "d.udi", b"UXUDI\x03", "BadMagic"),
-    (REPORT, "a.txt", b"abc", "BadLine line=1"),
-    (REPORT, "t.txt", b"\xff", "BadUtf8 place=0"),
-    (REPORT, "d.dic", b"cat,.N\nabc", "NoComma line=2 place=3"),
-    (REPORT, "e.dic", b"\xff", "BadUtf8 place=0"),
+    (SEARCH, "a.txt"),
+    (SEARCH, "m.grf"),
+    (SEARCH, "g.grf"),
+    (SEARCH, "t.txt"),
+    (SEARCH, "d.dic"),
+    (SEARCH, "e.dic"),
+    (TOKENS, "a.txt"),
+    (TOKENS, "t.txt"),
+    (CHECK, "d.dic"),
+    (CHECK_STEMS, "s.dic"),
+    (CHECK_IMAGE, "d.udi"),
+    (COMPRESS, "d.dic"),
+    (COMPRESS_IMAGE, "d.udi"),
+    (REPORT, "a.txt"),
+    (REPORT, "t.txt"),
+    (REPORT, "d.dic"),
+    (REPORT, "e.dic"),
 ];
 
 /// Gives the row's words where its file is wrong, and compares the line on `err` and the status.
@@ -132,15 +120,11 @@ fn compare_stop<R: Abort + AllocGlobal>(
 #[test]
 fn names_the_file_that_stops_a_command(rt: HostRuntime) -> Result<(), Fail> {
     for row in ROWS {
-        let (name, reason) = (row.1, row.3);
-        let absent = format!(in rt.alloc(); "absent: {name}\n")?;
-        compare_stop(&rt, row, Wrong::Absent, (absent.as_str(), 2))?;
+        let name = row.1;
         let fault = format!(in rt.alloc(); "read fault: {name}\n")?;
         compare_stop(&rt, row, Wrong::Fault, (fault.as_str(), 4))?;
         let long = format!(in rt.alloc(); "too large: {name}\n")?;
         compare_stop(&rt, row, Wrong::TooLong, (long.as_str(), 6))?;
-        let refused = format!(in rt.alloc(); "refused: {name}: {reason}\n")?;
-        compare_stop(&rt, row, Wrong::Holds(row.2), (refused.as_str(), 3))?;
     }
     Ok(())
 }
