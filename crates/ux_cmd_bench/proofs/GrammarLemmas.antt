@@ -3,7 +3,7 @@ use Rattle.std.proofs.Common.{ℕ, List, [], ◌∷◌}
 use Rattle.ux_base.specs.declared.settings.Mode.TheVariants.{Ignore}
 use Rattle.ux_base.specs.declared.settings.NoVar.TheVariants.{Nothing}
 use Rattle.ux_alphabet.specs.Letters.{Letters}
-use Rattle.ux_apply.specs.Tables.{Tables}
+use Rattle.ux_lexical_tables.specs.Tables.{Tables}
 use Rattle.ux_apply.specs.declared.priority.Priority.TheVariants.{Normal}
 use Rattle.ux_dela.specs.declared.entry.Entry.{Entry}
 use Rattle.ux_dict.specs.FileContent.{IsFileContent}

@@ -6,7 +6,8 @@ use Rattle.ux_base.specs.declared.settings.NoVar.TheVariants.{Nothing}
 use Rattle.ux_alphabet.specs.Letters.{Letters}
 use Rattle.ux_dela.specs.declared.entry.Entry.{Entry}
 use Rattle.ux_tokens.specs.Tokens.{AreTokens, Token}
-use Rattle.ux_apply.specs.Tables.{AreApplied, Tables}
+use Rattle.ux_apply.specs.Applied.{AreApplied}
+use Rattle.ux_lexical_tables.specs.Tables.{Tables}
 use Rattle.ux_apply.specs.declared.priority.Priority.{Priority}
 use Rattle.ux_net.specs.Words.{Grammar}
 use Rattle.ux_outputs.specs.declared.hit.Hit.{Hit}

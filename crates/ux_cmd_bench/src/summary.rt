@@ -4,7 +4,7 @@ ghost use Rattle.std.specs.Prelude.{◌≡◌, ◌<◌, ◌≤◌, ◌++◌, All
 ghost use Rattle.ux_base.specs.declared.settings.Mode.TheVariants.{Ignore};
 ghost use Rattle.ux_base.specs.declared.settings.NoVar.TheVariants.{Nothing};
 ghost use Rattle.ux_apply.specs.Applying.{contents};
-ghost use Rattle.ux_apply.specs.Belonging.{Belongs};
+ghost use Rattle.ux_lexical_tables.specs.Belonging.{Belongs};
 ghost use Rattle.ux_net.specs.Nets.{net_grammar};
 ghost use Rattle.ux_tokens.specs.Tokens.{AreTokens};
 ghost use Rattle.ux_locate.specs.Hits.{IsHit};
@@ -20,9 +20,10 @@ use std::alloc::{AllocError, Global};
 use std::marker::Brand;
 use std::sync::ledger::{Blank, Ledger};
 use ux_alphabet::Alphabet;
-use ux_apply::{Applied, Priority};
+use ux_apply::{Priority, apply};
 use ux_base::{Mem, Mode, NoMemory, NoVar, Policy, Steps};
 use ux_dict::ListLexicon;
+use ux_lexical_tables::LexicalTables;
 use ux_locate::{locate, locate_spans};
 use ux_net::Net;
 use ux_outputs::{Hit, Span};
@@ -41,7 +42,7 @@ pub(crate) fn summary(
         summary.items) }
 {
     let text = text_of(alloc, n, alphabet)?;
-    let applied = Applied::of(alloc, &text, alphabet, dics)?;
+    let applied = apply(alloc, &text, alphabet, dics)?;
     let blank = Blank::new(1);
     let (hits, longest) = counts::<Brand>(alloc, net, &text, alphabet, &applied, blank)?;
     lines(alloc, n as usize, text.len(), hits, longest)
@@ -65,7 +66,7 @@ fn counts<L: Ledger>(
     net: &Net,
     text: &Text,
     alphabet: &Alphabet,
-    applied: &Applied,
+    applied: &LexicalTables,
     blank: Blank,
 ) -> Mem<(usize, usize)>
     requires name { blank.name ≡ L.name }

@@ -1,2 +1,4 @@
 pub mod Check
+pub mod Counting
 pub mod Entries
+pub mod Laws

@@ -2,18 +2,19 @@
 
 ghost use Rattle.std.specs.Prelude.{IfErr, IfOk};
 ghost use Rattle.ux_base.specs.Outside.{IsLater};
-ghost use Rattle.ux_plan.specs.Plans.{Answers, Halts, Reads, StopsFile};
-ghost use Rattle.ux_cmd_check.specs.Check.{IsCountOf, check_entries as check_entries_command, check_stems as check_stems_command, entries_format, stems_format, text_format};
-ghost use Rattle.ux_cmd_check.specs.declared.reason.Reason.TheVariants.{Image};
+ghost use Rattle.ux_plan.specs.Commands.{Answers};
+ghost use Rattle.ux_plan.specs.Plans.{Halts, Reads, StopsFile};
+ghost use Rattle.ux_cmd_check.specs.Check.{check_entries as check_entries_command, check_stems as check_stems_command};
+ghost use Rattle.ux_cmd_check.specs.Counting.{IsCountOf, entries_format, stems_format, text_format};
 ghost use Rattle.ux_image_files.specs.ImageFiles.{image_format, made};
 
 use crate::printing::entries_line;
-use crate::reason::Reason;
 use std::alloc::Global;
 use ux_base::Folder;
 use ux_dela::{DelaError, count_delaf, count_delas};
 use ux_image_files::{is_image, read_lexicon};
 use ux_plan::{Stop, read_decoded, refused};
+use ux_reasons::Reason;
 
 /// Reads a dictionary of forms, and tells the number of its entries.
 #[tactic(auto, using(ux_plan::proofs::PlanSteps::plan_steps))]
@@ -73,8 +74,8 @@ fn count_entries<F: Folder>(
 fn count_imaged<F: Folder>(alloc: Global, name: &str, folder: &mut F) -> Result<usize, Stop<Reason>>
     ensures later { IsLater (F.seen folder.old) (F.seen folder.new) }
     ensures ok { IfOk result
-        (Reads (made (image_format Image) IsCountOf) name.now (F.seen folder.old).files) }
-    ensures err { IfErr result (StopsFile (made (image_format Image) IsCountOf) name.now
+        (Reads (made image_format IsCountOf) name.now (F.seen folder.old).files) }
+    ensures err { IfErr result (StopsFile (made image_format IsCountOf) name.now
         (F.seen folder.old) (F.seen folder.new)) }
 {
     let lexicon = read_lexicon(alloc, name, folder)?;

@@ -12,7 +12,5 @@
 
 pub mod checking;
 mod printing;
-pub mod reason;
 
 pub use checking::{check_entries, check_stems};
-pub use reason::Reason;

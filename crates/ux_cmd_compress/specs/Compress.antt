@@ -1,27 +1,18 @@
 -- What the command `compress` reads, and what answers it. This file carries the command's meaning.
 use Rattle.std.specs.Prelude.{ℕ, List}
-use Rattle.ux_dela.specs.Files.{Refuses}
 use Rattle.ux_dela.specs.declared.entry.Entry.{Entry}
-use Rattle.ux_dict.specs.Content.{IsContent}
-use Rattle.ux_dict.specs.FileContent.{IsFileContent}
 use Rattle.ux_image.specs.Images.{IsImage}
-use Rattle.ux_image_files.specs.ImageFiles.{either, image_format, is_image, made}
-use Rattle.ux_plan.specs.Plans.{Command, Format, decoded, gives, reads, said_as}
-use Rattle.ux_cmd_compress.specs.declared.reason.Reason.{Reason}
-use Rattle.ux_cmd_compress.specs.declared.reason.Reason.TheVariants.{Decode, Dela, Image}
-
--- files of forms, of which the content is read
-abbrev pub text_format : Format Reason (List Entry)
-text_format = decoded Decode (said_as Dela IsFileContent Refuses)
-
--- a dictionary, of which the content is read: that of the entries of an image, or of a file of forms
-abbrev pub content_format : (name : List ℕ) → Format Reason (List Entry)
-content_format name = either (is_image name) (made (image_format Image) IsContent) text_format
+use Rattle.ux_plan.specs.Commands.{Command}
+use Rattle.ux_plan.specs.Plans.{gives, reads}
+use Rattle.ux_reasons.specs.declared.reason.Reason.{Reason}
+use Rattle.ux_cmd_compress.specs.Contents.{content_format}
+use Rattle.ux_cmd_compress.specs.Laws.{content_sound}
 
 -- the image of the content of a dictionary
 abbrev pub compress : (dic : List ℕ) → Command Reason
 compress dic = record {
   Read = List Entry;
   plan = reads dic (content_format dic) (λ content. gives content);
+  laws = (content_sound dic, λ content. tt);
   Answers = IsImage;
 }

@@ -1,1 +1,3 @@
 pub mod Compress
+pub mod Contents
+pub mod Laws

@@ -5,12 +5,12 @@ ghost use Rattle.ux_base.specs.Outside.{IsLater};
 ghost use Rattle.ux_dict.specs.Content.{IsContent};
 ghost use Rattle.ux_image.specs.Contents.{IsContent as IsImageable};
 ghost use Rattle.ux_image_files.specs.ImageFiles.{image_format, made};
-ghost use Rattle.ux_plan.specs.Plans.{Answers, Halts, Reads, StopsFile};
-ghost use Rattle.ux_cmd_compress.specs.Compress.{compress as compress_command, content_format, text_format};
-ghost use Rattle.ux_cmd_compress.specs.declared.reason.Reason.TheVariants.{Image};
+ghost use Rattle.ux_plan.specs.Commands.{Answers};
+ghost use Rattle.ux_plan.specs.Plans.{Halts, Reads, StopsFile};
+ghost use Rattle.ux_cmd_compress.specs.Compress.{compress as compress_command};
+ghost use Rattle.ux_cmd_compress.specs.Contents.{content_format, text_format};
 
 use crate::content::{content_in, content_of};
-use crate::reason::Reason;
 use std::alloc::Global;
 use ux_base::Folder;
 use ux_dela::DelaError;
@@ -18,6 +18,7 @@ use ux_dict::Stored;
 use ux_image::image_of;
 use ux_image_files::{is_image, read_image};
 use ux_plan::{Stop, read_decoded, refused};
+use ux_reasons::Reason;
 
 /// Reads a dictionary, and gives the image of its content.
 #[tactic(auto, using(ux_plan::proofs::PlanSteps::plan_steps))]
@@ -64,10 +65,10 @@ fn read_imaged<F: Folder>(
     folder: &mut F,
 ) -> Result<Vec<Stored>, Stop<Reason>>
     ensures later { IsLater (F.seen folder.old) (F.seen folder.new) }
-    ensures ok { IfOk result (λ content. Reads (made (image_format Image) IsContent) name.now
+    ensures ok { IfOk result (λ content. Reads (made image_format IsContent) name.now
         (F.seen folder.old).files content.items) }
     ensures ordered { IfOk result (λ content. IsImageable content.items) }
-    ensures err { IfErr result (StopsFile (made (image_format Image) IsContent) name.now
+    ensures err { IfErr result (StopsFile (made image_format IsContent) name.now
         (F.seen folder.old) (F.seen folder.new)) }
 {
     let entries = read_image(alloc, name, folder)?;

@@ -11,7 +11,5 @@
 
 pub mod compressing;
 mod content;
-pub mod reason;
 
 pub use compressing::compress;
-pub use reason::Reason;

@@ -10,11 +10,11 @@ use Rattle.ux_net.specs.Nets.{net_grammar}
 use Rattle.ux_net.specs.declared.net_graph.NetGraph.{NetGraph}
 use Rattle.ux_walk.specs.Settings.{applied_text}
 use Rattle.ux_meaning.proofs.Renaming.{same_meaning}
-use Rattle.ux_plan.specs.Plans.{Answers}
+use Rattle.ux_plan.specs.Commands.{Answers}
 use Rattle.ux_alphabet.specs.Letters.{Letters}
 use Rattle.ux_apply.specs.declared.priority.Priority.{Priority}
 use Rattle.ux_dela.specs.declared.entry.Entry.{Entry}
-use Rattle.ux_cmd_locate.specs.Locate.{AreFiles, search_plan}
+use Rattle.ux_cmd_locate.specs.Reading.{AreFiles, search_plan}
 use Rattle.ux_cmd_locate.proofs.Answering.{listing_alike}
 use Rattle.ux_cmd_concord.specs.Applied.{IsAppliedConcordance}
 use Rattle.ux_cmd_concord.specs.Concord.{concord}

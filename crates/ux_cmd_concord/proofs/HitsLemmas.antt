@@ -8,8 +8,8 @@ use Rattle.ux_base.specs.declared.settings.Policy.{Policy}
 use Rattle.ux_base.specs.declared.settings.Policy.TheVariants.{Shortest, Longest, All as Every}
 use Rattle.ux_alphabet.specs.Letters.{Letters}
 use Rattle.ux_tokens.specs.Tokens.{Token}
-use Rattle.ux_apply.specs.Belonging.{Belongs}
-use Rattle.ux_apply.specs.Tables.{Tables}
+use Rattle.ux_lexical_tables.specs.Belonging.{Belongs}
+use Rattle.ux_lexical_tables.specs.Tables.{Tables}
 use Rattle.ux_net.specs.Nets.{net_grammar}
 use Rattle.ux_net.specs.declared.net_graph.NetGraph.{NetGraph}
 use Rattle.ux_outputs.specs.declared.hit.Hit.{Hit}

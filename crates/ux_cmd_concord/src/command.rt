@@ -3,7 +3,8 @@
 ghost use Rattle.std.specs.Prelude.{IfErr, IfOk};
 ghost use Rattle.ux_base.specs.Outside.{IsLater};
 ghost use Rattle.ux_net.specs.Nets.{net_grammar};
-ghost use Rattle.ux_plan.specs.Plans.{Answers, Halts};
+ghost use Rattle.ux_plan.specs.Commands.{Answers};
+ghost use Rattle.ux_plan.specs.Plans.{Halts};
 ghost use Rattle.ux_dictionaries.specs.Dictionaries.{contents_of};
 ghost use Rattle.ux_locate.specs.Searchable.{IsSearchable};
 ghost use Rattle.ux_cmd_concord.specs.Applied.{IsAppliedConcordance};
@@ -14,11 +15,13 @@ use crate::layout::Layout;
 use std::alloc::Global;
 use std::marker::Brand;
 use std::sync::ledger::Blank;
-use ux_apply::Applied;
+use ux_apply::apply;
 use ux_base::{Folder, Mem, Mode, NoVar, Policy, Txt};
-use ux_cmd_locate::{Files, Reason, read_files};
+use ux_cmd_locate::{Files, read_files};
 use ux_concordance::concord as concord_hits;
+use ux_lexical_tables::LexicalTables;
 use ux_plan::Stop;
+use ux_reasons::Reason;
 
 /// The concordance of what the policy keeps of the grammar's hits in the text, to which the entries of
 /// the dictionaries are applied, or what stops the search. The hits are rendered in the mode. `chars` says that each letter
@@ -70,7 +73,7 @@ fn concordance_of(
         text,
         dics,
     } = files;
-    let applied = Applied::of(alloc, &text, &alphabet, &dics)?;
+    let applied = apply(alloc, &text, &alphabet, &dics)?;
     drop(dics);
     let blank = Blank::new(1);
     let hits = hits_of::<Brand>(

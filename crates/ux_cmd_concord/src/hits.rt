@@ -5,7 +5,7 @@
 
 ghost use Rattle.std.specs.Prelude.{◌≡◌, ◌<◌, All, IfOk, map};
 ghost use Rattle.ux_net.specs.Nets.{net_grammar};
-ghost use Rattle.ux_apply.specs.Belonging.{Belongs};
+ghost use Rattle.ux_lexical_tables.specs.Belonging.{Belongs};
 ghost use Rattle.ux_locate.specs.Hits.{IsHit};
 ghost use Rattle.ux_locate.specs.Index.{IsKeptListing};
 ghost use Rattle.ux_locate.specs.Searchable.{IsSearchable};
@@ -14,8 +14,8 @@ ghost use Rattle.ux_locate.specs.Spans.{LiesIn, hit_at};
 use std::alloc::Global;
 use std::sync::ledger::{Blank, Ledger};
 use ux_alphabet::Alphabet;
-use ux_apply::Applied;
 use ux_base::{Mem, Mode, NoVar, Policy, Steps, Txt};
+use ux_lexical_tables::LexicalTables;
 use ux_locate::{locate, locate_spans};
 use ux_net::Net;
 use ux_outputs::{Hit, Span};
@@ -27,7 +27,7 @@ pub(crate) fn hits_of<L: Ledger>(
     net: &Net,
     text: &Text,
     alphabet: &Alphabet,
-    applied: &Applied,
+    applied: &LexicalTables,
     mode: Mode,
     policy: Policy,
     novar: NoVar,

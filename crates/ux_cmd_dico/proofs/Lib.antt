@@ -1,1 +1,1 @@
-pub mod DicoLaws
+pub mod DicoSteps

@@ -1,1 +1,3 @@
 pub mod Dico
+pub mod Laws
+pub mod Reading

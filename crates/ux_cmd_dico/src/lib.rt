@@ -9,8 +9,6 @@
 //! ```
 #![tactic(auto)]
 
-pub mod reason;
 pub mod reporting;
 
-pub use reason::Reason;
 pub use reporting::dico;

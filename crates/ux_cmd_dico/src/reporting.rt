@@ -2,18 +2,19 @@
 
 ghost use Rattle.std.specs.Prelude.{IfErr, IfOk, string_bytes};
 ghost use Rattle.ux_base.specs.Outside.{IsLater};
-ghost use Rattle.ux_plan.specs.Plans.{Answers, Halts};
+ghost use Rattle.ux_plan.specs.Commands.{Answers};
+ghost use Rattle.ux_plan.specs.Plans.{Halts};
 ghost use Rattle.ux_dictionaries.specs.Dictionaries.{contents_of};
 ghost use Rattle.ux_cmd_dico.specs.Dico.{IsReportOf, dico as dico_command};
 
-use crate::reason::Reason;
 use std::alloc::Global;
 use ux_alphabet::Alphabet;
-use ux_apply::{Applied, Priority};
+use ux_apply::{Priority, apply};
 use ux_base::{Folder, Mem, Txt};
 use ux_dictionaries::read_dictionaries;
 use ux_lexicon::AnyLexicon;
 use ux_plan::Stop;
+use ux_reasons::Reason;
 use ux_report::report;
 use ux_texts::read_letters_and_text;
 use ux_tokens::Text;
@@ -52,7 +53,7 @@ fn applied_report(
     ensures { IfOk result (λ report.
         IsReportOf alphabet.now text.now (contents_of dics.items) (string_bytes report)) }
 {
-    let applied = Applied::of(alloc, text, alphabet, &dics)?;
+    let applied = apply(alloc, text, alphabet, &dics)?;
     drop(dics);
     report(alloc, text, &applied)
 }

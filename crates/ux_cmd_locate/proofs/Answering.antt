@@ -15,14 +15,15 @@ use Rattle.ux_outputs.specs.declared.hit.Hit.{Hit}
 use Rattle.ux_meaning.specs.Meaning.{Der}
 use Rattle.ux_walk.specs.Settings.{applied_text}
 use Rattle.ux_meaning.proofs.Renaming.{same_meaning}
-use Rattle.ux_plan.specs.Plans.{Answers}
+use Rattle.ux_plan.specs.Commands.{Answers}
 use Rattle.ux_alphabet.specs.Letters.{Letters}
 use Rattle.ux_locate.specs.Hits.{IsHit}
 use Rattle.ux_locate.specs.Index.{IsIndex, IsKeptListing}
 use Rattle.ux_locate.specs.Policies.{Keeps}
 use Rattle.ux_cmd_locate.specs.Indexes.{IsAppliedIndex}
-use Rattle.ux_cmd_locate.specs.Locate.{AreFiles, locate, search_plan}
-use Rattle.ux_apply.specs.Tables.{Tables}
+use Rattle.ux_cmd_locate.specs.Locate.{locate}
+use Rattle.ux_cmd_locate.specs.Reading.{AreFiles, search_plan}
+use Rattle.ux_lexical_tables.specs.Tables.{Tables}
 use Rattle.ux_apply.specs.declared.priority.Priority.{Priority}
 use Rattle.ux_dela.specs.declared.entry.Entry.{Entry}
 

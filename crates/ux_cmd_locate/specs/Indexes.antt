@@ -1,11 +1,12 @@
--- The index that a search answers. Inner: the crate's own functions alone speak of it.
+-- The index that a search answers. Public, through `Locate`.
 use Rattle.std.specs.Prelude.{ℕ, List}
 use Rattle.ux_base.specs.declared.settings.Mode.{Mode}
 use Rattle.ux_base.specs.declared.settings.NoVar.{NoVar}
 use Rattle.ux_base.specs.declared.settings.Policy.{Policy}
 use Rattle.ux_alphabet.specs.Letters.{Letters}
 use Rattle.ux_tokens.specs.Tokens.{Token}
-use Rattle.ux_apply.specs.Tables.{AreApplied, Tables}
+use Rattle.ux_apply.specs.Applied.{AreApplied}
+use Rattle.ux_lexical_tables.specs.Tables.{Tables}
 use Rattle.ux_apply.specs.declared.priority.Priority.{Priority}
 use Rattle.ux_dela.specs.declared.entry.Entry.{Entry}
 use Rattle.ux_net.specs.Words.{Grammar}

@@ -1,2 +1,4 @@
-pub mod Locate
 pub mod Indexes
+pub mod Laws
+pub mod Locate
+pub mod Reading

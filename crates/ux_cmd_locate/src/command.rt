@@ -3,8 +3,9 @@
 ghost use Rattle.std.specs.Prelude.{◌≡◌, ◌<◌, IfErr, IfOk, string_bytes};
 ghost use Rattle.ux_base.specs.Outside.{IsLater};
 ghost use Rattle.ux_net.specs.Nets.{net_grammar};
-ghost use Rattle.ux_plan.specs.Plans.{Answers, Halts};
-ghost use Rattle.ux_apply.specs.Belonging.{Belongs};
+ghost use Rattle.ux_plan.specs.Commands.{Answers};
+ghost use Rattle.ux_plan.specs.Plans.{Halts};
+ghost use Rattle.ux_lexical_tables.specs.Belonging.{Belongs};
 ghost use Rattle.ux_dictionaries.specs.Dictionaries.{contents_of};
 ghost use Rattle.ux_locate.specs.Hits.{IsHit};
 ghost use Rattle.ux_locate.specs.Index.{IsIndex};
@@ -13,16 +14,17 @@ ghost use Rattle.ux_cmd_locate.specs.Indexes.{IsAppliedIndex};
 ghost use Rattle.ux_cmd_locate.specs.Locate.{locate as locate_command};
 
 use crate::files::{Files, read_files};
-use crate::reason::Reason;
 use std::alloc::Global;
 use std::marker::Brand;
 use std::sync::ledger::{Blank, Ledger};
 use ux_alphabet::Alphabet;
-use ux_apply::Applied;
+use ux_apply::apply;
 use ux_base::{Folder, Mem, Mode, NoVar, Policy, Steps, Txt};
+use ux_lexical_tables::LexicalTables;
 use ux_locate::{index_text, locate as locate_hits, locate_spans, span_index};
 use ux_net::Net;
 use ux_plan::Stop;
+use ux_reasons::Reason;
 use ux_tokens::Text;
 
 /// The index of the grammar's hits in the text, to which the entries of the dictionaries are
@@ -66,7 +68,7 @@ fn index_of(alloc: Global, files: Files, mode: Mode, policy: Policy, novar: NoVa
         text,
         dics,
     } = files;
-    let applied = Applied::of(alloc, &text, &alphabet, &dics)?;
+    let applied = apply(alloc, &text, &alphabet, &dics)?;
     drop(dics);
     let blank = Blank::new(1);
     let index = hits_index::<Brand>(
@@ -82,7 +84,7 @@ fn hits_index<L: Ledger>(
     net: &Net,
     text: &Text,
     alphabet: &Alphabet,
-    applied: &Applied,
+    applied: &LexicalTables,
     mode: Mode,
     policy: Policy,
     novar: NoVar,

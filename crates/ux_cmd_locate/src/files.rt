@@ -8,9 +8,8 @@ ghost use Rattle.std.specs.Prelude.{IfErr, IfOk};
 ghost use Rattle.ux_base.specs.Outside.{IsLater};
 ghost use Rattle.ux_plan.specs.Plans.{Halts};
 ghost use Rattle.ux_dictionaries.specs.Dictionaries.{contents_of};
-ghost use Rattle.ux_cmd_locate.specs.Locate.{AreFiles, search_plan};
+ghost use Rattle.ux_cmd_locate.specs.Reading.{AreFiles, search_plan};
 
-use crate::reason::Reason;
 use std::alloc::Global;
 use ux_alphabet::Alphabet;
 use ux_apply::Priority;
@@ -20,6 +19,7 @@ use ux_grammars::read_net;
 use ux_lexicon::AnyLexicon;
 use ux_net::Net;
 use ux_plan::Stop;
+use ux_reasons::Reason;
 use ux_texts::{read_alphabet, read_text};
 use ux_tokens::Text;
 

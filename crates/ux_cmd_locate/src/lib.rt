@@ -17,8 +17,6 @@
 
 mod command;
 mod files;
-mod reason;
 
 pub use command::locate;
 pub use files::{Files, read_files};
-pub use reason::Reason;

@@ -9,8 +9,6 @@
 //! ```
 #![tactic(auto)]
 
-pub mod reason;
 pub mod tokenizing;
 
-pub use reason::Reason;
 pub use tokenizing::tokenize;

@@ -2,13 +2,14 @@
 
 ghost use Rattle.std.specs.Prelude.{IfErr, IfOk};
 ghost use Rattle.ux_base.specs.Outside.{IsLater};
-ghost use Rattle.ux_plan.specs.Plans.{Answers, Halts};
+ghost use Rattle.ux_plan.specs.Commands.{Answers};
+ghost use Rattle.ux_plan.specs.Plans.{Halts};
 ghost use Rattle.ux_cmd_tokenize.specs.Tokenize.{tokenize as tokenize_command};
 
-use crate::reason::Reason;
 use std::alloc::Global;
 use ux_base::Folder;
 use ux_plan::Stop;
+use ux_reasons::Reason;
 use ux_texts::{read_alphabet, read_token_file};
 
 /// Reads an alphabet and a text in its letters, and gives the token file of the text. With `chars`

@@ -1,13 +1,11 @@
 -- What is read of the bytes that spell characters: those characters, and no more where the rest begins
 -- with none.
 use Rattle.std.proofs.Common.{arith, ◌≡◌, ℕ, ◌<◌, ◌≤◌, ◌+◌, ◌-◌, ◌*◌, ◌/◌, ◌%◌, true, List, [], ◌∷◌, ◌++◌, refl, sym, ap, ◌∙◌, inl, inr, append_assoc, Some, ◌⊎◌}
-use Rattle.std.proofs.lemmas.Bool.{cases_lt}
+use Rattle.std.proofs.lemmas.Bool.{and_parts, cases_lt, le-leb, le-ltb, lt-leb, lt-ltb}
 use Rattle.std.proofs.lemmas.Str.{utf16_chars-nil, utf16_chars_lone, utf16_chars_pair}
-use Rattle.std.proofs.str.Laws.{both}
-use Rattle.std.proofs.str.Utf16.{one_unit, two_units, lone_unit_char_low, lone_unit_char_high}
 use Rattle.std.specs.Char.{IsScalar}
 use Rattle.std.specs.Char.Escape.{encode_utf16}
-use Rattle.std.specs.Char.Utf16.{utf16_chars, surrogate_pair_char}
+use Rattle.std.specs.Char.Utf16.{lone_unit_char, utf16_chars, surrogate_pair_char}
 use Rattle.std.specs.List.{flat_map}
 use Rattle.std.specs.Option.{some_prefix}
 use Rattle.std.specs.Str.{all_scalars}
@@ -36,6 +34,21 @@ units_of-units order (unit ∷ units) more =
     ap (units_of order) (append_assoc (unit_bytes order unit) later more)
     ∙ units_of-unit order unit (later ++ more)
     ∙ ap (λ us. unit ∷ us) (units_of-units order units more)
+
+-- The units of a character, and the character of a unit. (std has these lemmas too, in a module from which
+-- no definition that a clause cites may come.)
+one_unit : (c : ℕ) → c < 0x1_0000 → encode_utf16 c ≡ c ∷ []
+one_unit c below = rw (lt-ltb c 0x1_0000 below) refl
+
+two_units : (c : ℕ) → 0x1_0000 ≤ c →
+    encode_utf16 c ≡ (0xD800 + (c - 0x1_0000) / 0x400) ∷ (0xDC00 + (c - 0x1_0000) % 0x400) ∷ []
+two_units c from = rw (le-ltb c 0x1_0000 from) refl
+
+lone_unit_char_low : (u : ℕ) → u < 0xD800 → lone_unit_char u ≡ Some u
+lone_unit_char_low u below = rw (lt-leb 0xD800 u below) refl
+
+lone_unit_char_high : (u : ℕ) → 0xE000 ≤ u → lone_unit_char u ≡ Some u
+lone_unit_char_high u from = rw (le-leb 0xD800 u (omega (arith, from)), le-ltb u 0xE000 from) refl
 
 -- a unit that is no surrogate is its own character
 utf16_chars-one : (c : ℕ) (more : List ℕ) → (c < 0xD800) ⊎ (0xE000 ≤ c) → c < 0x1_0000 →
@@ -82,7 +95,7 @@ pub front_of-spelled : (order : Order) (cs rest : List ℕ) → all_scalars cs �
 front_of-spelled order [] rest are none = none
 front_of-spelled order (c ∷ cs) rest are none =
     let bytes = flat_map (char_bytes order) cs in
-    let each = both (scalar c) (scalars cs) are in
+    let each = and_parts (scalar c) (scalars cs) are in
     let units = units_of order (bytes ++ rest) in
     ap (front_of order) (append_assoc (char_bytes order c) bytes rest)
     ∙ ap (λ us. some_prefix (utf16_chars us)) (units_of-units order (encode_utf16 c) (bytes ++ rest))

@@ -3,18 +3,17 @@ use Rattle.std.specs.Prelude.{ℕ, List}
 use Rattle.ux_apply.specs.Applying.{contents}
 use Rattle.ux_apply.specs.Names.{IsPriorityOf}
 use Rattle.ux_apply.specs.declared.priority.Priority.{Priority}
-use Rattle.ux_decode.specs.declared.error.DecodeError.{DecodeError}
 use Rattle.ux_dela.specs.Files.{Refuses}
 use Rattle.ux_dela.specs.declared.entry.Entry.{Entry}
-use Rattle.ux_dela.specs.declared.error.DelaError.{DelaError}
 use Rattle.ux_dict.specs.Content.{IsContent}
 use Rattle.ux_dict.specs.FileContent.{IsFileContent}
 use Rattle.ux_image_files.specs.ImageFiles.{either, image_format, is_image, made}
-use Rattle.ux_image_reader.specs.declared.error.ImageError.{ImageError}
 use Rattle.ux_lexicon.specs.Any.{content_of}
 use Rattle.ux_lexicon.specs.declared.any_lexicon.AnyLexicon.{AnyLexicon}
 use Rattle.ux_plan.specs.FileNames.{base_of}
 use Rattle.ux_plan.specs.Plans.{Format, decoded, said_as}
+use Rattle.ux_reasons.specs.declared.reason.Reason.{Reason}
+use Rattle.ux_reasons.specs.declared.reason.Reason.TheVariants.{Decode, Dela}
 
 -- the text is a dictionary of this content, to which the file's name without its folder gives this
 -- priority
@@ -23,10 +22,8 @@ pub record IsDictionary (name text : List ℕ) (dic : Priority × List Entry) : 
   pub content : IsFileContent text dic.1
 
 -- the text of a file of this name, of which the dictionary is read
-abbrev pub text_format : {R : Type 0} → (DecodeError → R) → (DelaError → R) →
-    (name : List ℕ) → Format R (Priority × List Entry)
-text_format decode_as dela_as name =
-    decoded decode_as (said_as dela_as (IsDictionary name) Refuses)
+abbrev pub text_format : (name : List ℕ) → Format Reason (Priority × List Entry)
+text_format name = decoded Decode (said_as Dela (IsDictionary name) Refuses)
 
 -- the entries that an image tells are a dictionary of this content, with the priority of its name
 pub record IsDictionaryOf (name : List ℕ) (entries : List Entry) (dic : Priority × List Entry) :
@@ -35,15 +32,12 @@ pub record IsDictionaryOf (name : List ℕ) (entries : List Entry) (dic : Priori
   pub content : IsContent entries dic.1
 
 -- an image of this name, of which the dictionary is read
-abbrev pub imaged_format : {R : Type 0} → (ImageError → R) →
-    (name : List ℕ) → Format R (Priority × List Entry)
-imaged_format image_as name = made (image_format image_as) (IsDictionaryOf name)
+abbrev pub imaged_format : (name : List ℕ) → Format Reason (Priority × List Entry)
+imaged_format name = made image_format (IsDictionaryOf name)
 
 -- the dictionary in the file of this name: an image, or a file of forms
-abbrev pub dictionary_format : {R : Type 0} → (DecodeError → R) → (DelaError → R) →
-    (ImageError → R) → (name : List ℕ) → Format R (Priority × List Entry)
-dictionary_format decode_as dela_as image_as name =
-    either (is_image name) (imaged_format image_as name) (text_format decode_as dela_as name)
+abbrev pub dictionary_format : (name : List ℕ) → Format Reason (Priority × List Entry)
+dictionary_format name = either (is_image name) (imaged_format name) (text_format name)
 
 -- a dictionary of either kind, as its priority and its content
 abbrev pub seen_as : Priority × AnyLexicon → Priority × List Entry

@@ -9,34 +9,22 @@ use std::alloc::Global;
 use ux_apply::Priority;
 use ux_base::{Folder, Txt};
 use ux_dela::DelaError;
-use ux_image_files::{OfImage, is_image, read_lexicon};
+use ux_image_files::{is_image, read_lexicon};
 use ux_lexicon::{AnyLexicon, read_dictionary as read_forms};
-use ux_plan::{OfDecode, Stop, base_of, read_decoded, refused};
-
-/// A command's reasons, where refused dictionaries have one among them.
-pub trait OfDela: Drop {
-    ghost use Rattle.std.specs.Prelude.{◌≡◌};
-    ghost use Rattle.ux_dela.specs.declared.error.DelaError.{DelaError};
-
-    /// The reason of a refused dictionary.
-    ghost dela_as: { DelaError → Self };
-
-    /// The same.
-    fn of_dela(error: DelaError) -> Self
-        ensures { result ≡ dela_as error };
-}
+use ux_plan::{Stop, base_of, read_decoded, refused};
+use ux_reasons::Reason;
 
 /// Reads the dictionaries of these names.
 #[tactic(auto, using(ux_plan::proofs::PlanSteps::plan_steps))]
-pub fn read_dictionaries<F: Folder, R: OfDecode + OfDela + OfImage>(
+pub fn read_dictionaries<F: Folder>(
     alloc: Global,
     names: &[Txt],
     folder: &mut F,
-) -> Result<Vec<(Priority, AnyLexicon)>, Stop<R>>
+) -> Result<Vec<(Priority, AnyLexicon)>, Stop<Reason>>
     ensures later { IsLater (F.seen folder.old) (F.seen folder.new) }
-    ensures ok { IfOk result (λ dics. Comes (each (dictionary_format R.decode_as R.dela_as R.image_as) names.now)
+    ensures ok { IfOk result (λ dics. Comes (each dictionary_format names.now)
         (F.seen folder.old).files (contents_of dics.items)) }
-    ensures err { IfErr result (Halts (each (dictionary_format R.decode_as R.dela_as R.image_as) names.now)
+    ensures err { IfErr result (Halts (each dictionary_format names.now)
         (F.seen folder.old) (F.seen folder.new)) }
 {
     let mut dics = Vec::new(alloc);
@@ -48,17 +36,17 @@ pub fn read_dictionaries<F: Folder, R: OfDecode + OfDela + OfImage>(
 }
 
 /// Reads a dictionary: an image, or a file of forms. Its name without its folder gives its priority.
-fn read_dictionary<F: Folder, R: OfDecode + OfDela + OfImage>(
+fn read_dictionary<F: Folder>(
     alloc: Global,
     name: &str,
     folder: &mut F,
-) -> Result<(Priority, AnyLexicon), Stop<R>>
+) -> Result<(Priority, AnyLexicon), Stop<Reason>>
     ensures later { IsLater (F.seen folder.old) (F.seen folder.new) }
     ensures ok { IfOk result (λ dic. Reads
-        (dictionary_format R.decode_as R.dela_as R.image_as name.now) name.now
+        (dictionary_format name.now) name.now
         (F.seen folder.old).files (seen_as dic)) }
     ensures err { IfErr result (StopsFile
-        (dictionary_format R.decode_as R.dela_as R.image_as name.now) name.now
+        (dictionary_format name.now) name.now
         (F.seen folder.old) (F.seen folder.new)) }
 {
     if is_image(name) {
@@ -69,15 +57,15 @@ fn read_dictionary<F: Folder, R: OfDecode + OfDela + OfImage>(
 }
 
 /// Reads an image as a dictionary, and makes none of its entries.
-fn read_imaged<F: Folder, R: OfImage>(
+fn read_imaged<F: Folder>(
     alloc: Global,
     name: &str,
     folder: &mut F,
-) -> Result<(Priority, AnyLexicon), Stop<R>>
+) -> Result<(Priority, AnyLexicon), Stop<Reason>>
     ensures later { IsLater (F.seen folder.old) (F.seen folder.new) }
-    ensures ok { IfOk result (λ dic. Reads (imaged_format R.image_as name.now) name.now
+    ensures ok { IfOk result (λ dic. Reads (imaged_format name.now) name.now
         (F.seen folder.old).files (seen_as dic)) }
-    ensures err { IfErr result (StopsFile (imaged_format R.image_as name.now) name.now
+    ensures err { IfErr result (StopsFile (imaged_format name.now) name.now
         (F.seen folder.old) (F.seen folder.new)) }
 {
     let lexicon = read_lexicon(alloc, name, folder)?;
@@ -86,21 +74,21 @@ fn read_imaged<F: Folder, R: OfImage>(
 
 /// Reads a file of forms as a dictionary.
 #[tactic(auto, using(ux_plan::proofs::Decoded::decoding))]
-fn read_text<F: Folder, R: OfDecode + OfDela>(
+fn read_text<F: Folder>(
     alloc: Global,
     name: &str,
     folder: &mut F,
-) -> Result<(Priority, AnyLexicon), Stop<R>>
+) -> Result<(Priority, AnyLexicon), Stop<Reason>>
     ensures later { IsLater (F.seen folder.old) (F.seen folder.new) }
-    ensures ok { IfOk result (λ dic. Reads (text_format R.decode_as R.dela_as name.now) name.now
+    ensures ok { IfOk result (λ dic. Reads (text_format name.now) name.now
         (F.seen folder.old).files (seen_as dic)) }
-    ensures err { IfErr result (StopsFile (text_format R.decode_as R.dela_as name.now)
+    ensures err { IfErr result (StopsFile (text_format name.now)
         name.now (F.seen folder.old) (F.seen folder.new)) }
 {
     let text = read_decoded(alloc, name, folder)?;
     match read_forms(alloc, text.as_str()) {
         Ok(lexicon) => Ok((Priority::of(base_of(name)), lexicon)),
         Err(DelaError::NoMemory) => Err(Stop::NoMemory),
-        Err(error) => Err(refused(alloc, name, R::of_dela(error))),
+        Err(error) => Err(refused(alloc, name, Reason::Dela(error))),
     }
 }

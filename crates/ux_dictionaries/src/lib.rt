@@ -2,18 +2,16 @@
 //!
 //! File names go in, and the dictionaries of those files with their priorities come out, or the stop
 //! that names the first file that isn't accepted. A file of forms mostly becomes an automaton, and an
-//! image stays the one that it is (`AnyLexicon`). A command has reasons of its own, of which one is
-//! that of a file without a text (`OfDecode` of `ux_plan`), one that of a refused dictionary (`OfDela`)
-//! and one that of a refused image (`OfImage` of `ux_image_files`). What such a file is stands in
+//! image stays the one that it is (`AnyLexicon`). What such a file is stands in
 //! `specs/Dictionaries.antt`, and that it is so in one way in `proofs/DictionaryLaws.antt`. Begin with
 //! `dictionaries`.
 //!
 //! ```text
-//! let dics = read_dictionaries(alloc, &names, folder)?;      // each (dictionary_format ..) names
-//! let applied = Applied::of(alloc, &text, &alphabet, &dics)?;
+//! let dics = read_dictionaries(alloc, &names, folder)?;      // each dictionary_format names
+//! let applied = apply(alloc, &text, &alphabet, &dics)?;
 //! ```
 #![tactic(auto)]
 
 pub mod dictionaries;
 
-pub use dictionaries::{OfDela, read_dictionaries};
+pub use dictionaries::read_dictionaries;

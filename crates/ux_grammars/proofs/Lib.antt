@@ -1,7 +1,10 @@
 pub mod CompilingLemmas
 pub mod DrawingLemmas
 pub mod GrammarLaws
+pub mod GrammarRefusedOnce
 pub mod GraphRefusals
+pub mod GraphRefusedOnce
+mod MaskRefusedOnce
 mod NamingExamples
 pub mod ReadingLemmas
 pub mod TableLemmas

@@ -1,8 +1,9 @@
 -- The graphs of a grammar: which files are read in which order, what each must be, and why a grammar
 -- is refused. This file carries the crate's public meaning.
 use Rattle.std.specs.Prelude.{◌≡◌, ◌≢◌, ◌⊎◌, ℕ, ◌<◌, ◌≤◌, List, []}
-use Rattle.ux_decode.specs.declared.error.DecodeError.{DecodeError}
-use Rattle.ux_plan.specs.Plans.{Format, Plan, Tells, decoded, gives, grows, said_as, tests, then}
+use Rattle.ux_plan.specs.Plans.{Format, Plan, Tells, decoded, gives, grows, refusing, said_as, tests, then}
+use Rattle.ux_reasons.specs.declared.reason.Reason.{Reason}
+use Rattle.ux_reasons.specs.declared.reason.Reason.TheVariants.{Decode, Grf, Net, TooManyGraphs}
 use Rattle.ux_grf.specs.File as grf
 use Rattle.ux_grf.specs.declared.error.GrfError.{GrfError}
 use Rattle.ux_grf.specs.declared.error.GrfError.TheVariants as grf_error
@@ -38,42 +39,38 @@ NamesFile word (net_error.LeftRecursion name node) file = file ≡ named_file wo
 NamesFile word (net_error.MissingGraph name) file = ⊥
 NamesFile word net_error.NoMemory file = ⊥
 
--- The reasons are a command's own: of a file that has no text, of a text that draws no graph, and of
--- one graph too many.
-module _ {R : Type 0} (decode_as : DecodeError → R) (grf_as : GrfError → R) where
-  -- files whose text draws a graph
-  abbrev pub drawing_format : Format R Graph
-  drawing_format = decoded decode_as (said_as grf_as grf.IsGraphOf IsNoGraph)
+-- files whose text draws a graph
+abbrev pub drawing_format : Format Reason Graph
+drawing_format = decoded Decode (said_as Grf grf.IsGraphOf IsNoGraph)
 
-  module _ (too_many : R) where
-    -- the file of the graph of this name after so many others: one more than there may be is refused
-    -- whatever it holds
-    abbrev pub graph_format : (count : ℕ) (name : List ℕ) → Format R Drawn
-    graph_format count name = record {
-      Is = λ file graph. (count < MOST_GRAPHS) × (graph.name ≡ name)
-          × drawing_format.Is file (record { boxes = graph.boxes });
-      Refuses = λ file reason. ((count < MOST_GRAPHS) × drawing_format.Refuses file reason)
-          ⊎ ((MOST_GRAPHS ≤ count) × (reason ≡ too_many));
-      IsTooLarge = λ file. ⊥;
-    }
+-- the file of the graph of this name after so many others: one more than there may be is refused
+-- whatever it holds
+abbrev pub graph_format : (count : ℕ) (name : List ℕ) → Format Reason Drawn
+graph_format count name = record {
+  Is = λ file graph. (count < MOST_GRAPHS) × (graph.name ≡ name)
+      × drawing_format.Is file (record { boxes = graph.boxes });
+  Refuses = λ file reason. ((count < MOST_GRAPHS) × drawing_format.Refuses file reason)
+      ⊎ ((MOST_GRAPHS ≤ count) × (reason ≡ TooManyGraphs));
+  IsTooLarge = λ file. ⊥;
+}
 
-    -- the graphs after those that were read
-    abbrev pub graphs_from : (word : List ℕ) → ℕ → List Drawn → Plan R (List Drawn)
-    graphs_from word most graphs = grows (next_name word) (file_of word) graph_format most graphs
+-- the graphs after those that were read
+abbrev pub graphs_from : (word : List ℕ) → ℕ → List Drawn → Plan Reason (List Drawn)
+graphs_from word most graphs = grows (next_name word) (file_of word) graph_format most graphs
 
-    -- the graphs of the grammar whose main graph's file the word names
-    abbrev pub graphs_plan : (word : List ℕ) → Plan R (List Drawn)
-    graphs_plan word = graphs_from word MOST_READS []
+-- the graphs of the grammar whose main graph's file the word names
+abbrev pub graphs_plan : (word : List ℕ) → Plan Reason (List Drawn)
+graphs_plan word = graphs_from word MOST_READS []
 
 -- the graphs are all read, and are not compiled: the file of the graph at fault is named
-abbrev pub RefusesGrammar : {R : Type 0} → (net_as : NetError → R) (word : List ℕ) → Letters →
-    List Drawn → (file : List ℕ) → R → Type 0
-RefusesGrammar net_as word letters graphs file reason =
-    Tells net_as (λ error. net.Refuses letters graphs error × NamesFile word error file) reason
+abbrev pub RefusesGrammar : (word : List ℕ) → Letters → List Drawn → (file : List ℕ) → Reason →
+    Type 0
+RefusesGrammar word letters graphs file reason =
+    Tells Net (λ error. net.Refuses letters graphs error × NamesFile word error file) reason
 
 -- the graphs of a grammar that has a meaning
-abbrev pub grammar_plan : {R : Type 0} → (decode_as : DecodeError → R) (grf_as : GrfError → R)
-    (net_as : NetError → R) (too_many : R) (word : List ℕ) → Letters → Plan R (List Drawn)
-grammar_plan decode_as grf_as net_as too_many word letters =
-    then (graphs_plan decode_as grf_as too_many word) (λ graphs.
-    tests (IsCompilable letters graphs) (RefusesGrammar net_as word letters graphs) (gives graphs))
+abbrev pub grammar_plan : (word : List ℕ) → Letters → Plan Reason (List Drawn)
+grammar_plan word letters =
+    then (graphs_plan word) (λ graphs.
+    tests (IsCompilable letters graphs) (refusing (RefusesGrammar word letters graphs))
+    (gives graphs))

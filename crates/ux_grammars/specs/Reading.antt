@@ -4,6 +4,7 @@ use Rattle.std.specs.Prelude.{◌≡◌, ◌≢◌, ⊤, ℕ, ◌<◌, ◌≤◌
 use Rattle.std.specs.declared.alloc.Global.{Global}
 use Rattle.ux_base.specs.Outside.{Files}
 use Rattle.ux_plan.specs.Plans.{Comes, Plan}
+use Rattle.ux_reasons.specs.declared.reason.Reason.{Reason}
 use Rattle.ux_grf.specs.Size.{size_of}
 use Rattle.ux_grf.specs.WellFormed.{IsWellFormed}
 use Rattle.ux_grf.specs.declared.graph.Graph.{Graph}
@@ -66,7 +67,7 @@ pub record Compiles (letters : Letters) (graphs : List Drawn) (net : List NetGra
   pub told : TellsClosings net
 
 -- the net is that of the graphs to which the plan of a grammar comes
-pub record HasNet {R : Type 0} (plan : Plan R (List Drawn)) (told : Option Files)
+pub record HasNet (plan : Plan Reason (List Drawn)) (told : Option Files)
     (letters : Letters) (net : List NetGraph) : Type 0 where
   pub graphs : List Drawn
   pub comes : Comes plan told graphs

@@ -2,35 +2,35 @@
 
 ghost use Rattle.std.specs.Prelude.{◌≡◌, ◌⊎◌, ℕ, List, IfErr, IfOk, OnOk};
 ghost use Rattle.ux_base.specs.Outside.{IsLater};
-ghost use Rattle.ux_plan.specs.Plans.{Halts, StopsTest};
+ghost use Rattle.ux_plan.specs.Plans.{Halts, StopsTest, refusing};
 ghost use Rattle.ux_net.specs.Refusing.{drawn, IsCompilable};
 ghost use Rattle.ux_grammars.specs.Graphs.{NamesFile, RefusesGrammar, grammar_plan};
 ghost use Rattle.ux_grammars.specs.Reading.{AreWholeGraphs, Compiles, HasNet, IsPlaced};
 
 use crate::graphs::read_graphs;
 use crate::naming::named_file;
-use crate::reasons::OfGrammar;
 use std::alloc::Global;
 use ux_alphabet::Alphabet;
 use ux_base::{Folder, Txt};
 use ux_grf::Graph;
 use ux_net::{Net, NetError};
-use ux_plan::{OfDecode, Stop};
+use ux_plan::Stop;
+use ux_reasons::Reason;
 
 /// Reads the graphs of the grammar whose main graph's file the word names, and compiles them.
 #[tactic(auto, using(ux_plan::proofs::PlanSteps::plan_steps))]
-pub fn read_net<F: Folder, R: OfDecode + OfGrammar>(
+pub fn read_net<F: Folder>(
     alloc: Global,
     word: &str,
     alphabet: &Alphabet,
     folder: &mut F,
-) -> Result<Net, Stop<R>>
+) -> Result<Net, Stop<Reason>>
     ensures later { IsLater (F.seen folder.old) (F.seen folder.new) }
     ensures ok { IfOk result
-        (HasNet (grammar_plan R.decode_as R.grf_as R.net_as R.too_many word.now alphabet.now)
+        (HasNet (grammar_plan word.now alphabet.now)
         (F.seen folder.old).files alphabet.now) }
     ensures err { IfErr result
-        (Halts (grammar_plan R.decode_as R.grf_as R.net_as R.too_many word.now alphabet.now)
+        (Halts (grammar_plan word.now alphabet.now)
         (F.seen folder.old) (F.seen folder.new)) }
 {
     let graphs = read_graphs(alloc, word, folder)?;
@@ -39,17 +39,17 @@ pub fn read_net<F: Folder, R: OfDecode + OfGrammar>(
 }
 
 /// Compiles the graphs of a grammar, which calls none that is not there.
-fn compile<R: OfGrammar>(
+fn compile(
     alloc: Global,
     word: &str,
     alphabet: &Alphabet,
     graphs: Vec<(String, Graph)>,
-) -> Result<Net, Stop<R>>
+) -> Result<Net, Stop<Reason>>
     requires { AreWholeGraphs graphs.items }
     ensures compilable { OnOk result (IsCompilable alphabet.now (drawn graphs.items)) }
     ensures compiles { IfOk result (λ net. Compiles alphabet.now (drawn graphs.items) net) }
-    ensures err { IfErr result (StopsTest
-        (RefusesGrammar R.net_as word.now alphabet.now (drawn graphs.items))) }
+    ensures err { IfErr result (StopsTest (refusing
+        (RefusesGrammar word.now alphabet.now (drawn graphs.items)))) }
 {
     match Net::compile(alloc, graphs, alphabet) {
         Ok(net) => Ok(net),
@@ -58,10 +58,10 @@ fn compile<R: OfGrammar>(
 }
 
 /// The stop that names the file of the graph that is refused.
-fn refused_net<R: OfGrammar>(alloc: Global, word: &str, error: NetError) -> Stop<R>
+fn refused_net(alloc: Global, word: &str, error: NetError) -> Stop<Reason>
     requires { IsPlaced error }
     ensures { (result ≡ Stop.NoMemory) ⊎ ((file : List ℕ) × NamesFile word.now error file
-        × (result ≡ Stop.Refused file (R.net_as error))) }
+        × (result ≡ Stop.Refused file (Reason.Net error))) }
 {
     let file = match &error {
         NetError::BadMask { graph, .. }
@@ -76,7 +76,7 @@ fn refused_net<R: OfGrammar>(alloc: Global, word: &str, error: NetError) -> Stop
     match file {
         Ok(file) => Stop::Refused {
             name: Txt::new(file),
-            reason: R::of_net(error),
+            reason: Reason::Net(error),
         },
         Err(_) => Stop::NoMemory,
     }

@@ -5,7 +5,7 @@
 
 ghost use Rattle.std.specs.Prelude.{◌≡◌, ◌<◌, ◌≤◌, ◌∷◌, ℕ, List, [], All, IfErr, IfOk, OnOk, length, slice_get, Some, string_bytes};
 ghost use Rattle.ux_base.specs.Outside.{IsLater, MAX};
-ghost use Rattle.ux_plan.specs.Plans.{Comes, Halts, Reads, ReadsNext, StopsFile, StopsNext, StopsTest};
+ghost use Rattle.ux_plan.specs.Plans.{Comes, Halts, Reads, ReadsNext, StopsFile, StopsNext, StopsTest, refusing};
 ghost use Rattle.ux_grf.specs.Needs.{calls_of};
 ghost use Rattle.ux_grf.specs.WellFormed.{IsWellFormed};
 ghost use Rattle.ux_base.specs.Distinct.{GrowsBy, with_text};
@@ -15,29 +15,29 @@ ghost use Rattle.ux_grammars.specs.Naming.{file_of as file_of_graph, main_name a
 ghost use Rattle.ux_grammars.specs.Reading.{AreWholeGraphs, IsGiven, IsGivenGraph, IsReading};
 
 use crate::naming::{file_of, main_name};
-use crate::reasons::OfGrammar;
 use indexmap::IndexSet;
 use std::alloc::Global;
 use ux_base::{Folder, Mem, Txt};
 use ux_grf::{Graph, GrfError, needs, read_grf};
-use ux_plan::{OfDecode, Stop, decode_file, read_bytes, refused};
+use ux_plan::{Stop, decode_file, read_bytes, refused};
+use ux_reasons::Reason;
 
 /// The most graphs that a grammar may have.
 const MAX_GRAPHS: usize = 65_535;
 
 /// Reads the graphs of the grammar whose main graph's file the word names, each once.
 #[tactic(auto, using(ux_plan::proofs::PlanSteps::plan_steps))]
-pub fn read_graphs<F: Folder, R: OfDecode + OfGrammar>(
+pub fn read_graphs<F: Folder>(
     alloc: Global,
     word: &str,
     folder: &mut F,
-) -> Result<Vec<(String, Graph)>, Stop<R>>
+) -> Result<Vec<(String, Graph)>, Stop<Reason>>
     ensures later { IsLater (F.seen folder.old) (F.seen folder.new) }
     ensures ok { IfOk result (λ graphs. Comes
-        (graphs_plan R.decode_as R.grf_as R.too_many word.now) (F.seen folder.old).files
+        (graphs_plan word.now) (F.seen folder.old).files
         (drawn graphs.items)) }
     ensures whole { IfOk result (λ graphs. AreWholeGraphs graphs.items) }
-    ensures err { IfErr result (Halts (graphs_plan R.decode_as R.grf_as R.too_many word.now)
+    ensures err { IfErr result (Halts (graphs_plan word.now)
         (F.seen folder.old) (F.seen folder.new)) }
 {
     let mut names = IndexSet::new(alloc);
@@ -60,23 +60,23 @@ fn add_main(alloc: Global, word: &str, names: &mut IndexSet<Txt>) -> Mem<()>
 
 /// Reads the graph after those that were read, and adds the names that it calls.
 #[tactic(auto, using(crate::proofs::ReadingLemmas::memory_next))]
-fn read_next<F: Folder, R: OfDecode + OfGrammar>(
+fn read_next<F: Folder>(
     alloc: Global,
     word: &str,
     names: &mut IndexSet<Txt>,
     graphs: &mut Vec<(String, Graph)>,
     folder: &mut F,
-) -> Result<(), Stop<R>>
+) -> Result<(), Stop<Reason>>
     requires reading { IsReading word.now names.now.keys graphs.now.items }
     requires left { length graphs.now.items < length names.now.keys }
     ensures later { IsLater (F.seen folder.old) (F.seen folder.new) }
     ensures reading { OnOk result (IsReading word.now names.new.keys graphs.new.items) }
     ensures few { OnOk result (length graphs.old.items < MOST_GRAPHS) }
     ensures ok { OnOk result (ReadsNext (next_name word.now) (file_of_graph word.now)
-        (graph_format R.decode_as R.grf_as R.too_many) (F.seen folder.old).files
+        graph_format (F.seen folder.old).files
         (drawn graphs.old.items) (drawn graphs.new.items)) }
     ensures err { IfErr result (StopsNext (next_name word.now) (file_of_graph word.now)
-        (graph_format R.decode_as R.grf_as R.too_many) (drawn graphs.old.items)
+        graph_format (drawn graphs.old.items)
         (F.seen folder.old) (F.seen folder.new)) }
 {
     let count = graphs.len();
@@ -101,49 +101,45 @@ fn name_at(names: &IndexSet<Txt>, place: usize) -> Mem<String>
 
 /// Reads the file of the graph of this name after so many others.
 #[tactic(auto, using(crate::proofs::DrawingLemmas::drawings))]
-fn read_graph<F: Folder, R: OfDecode + OfGrammar>(
+fn read_graph<F: Folder>(
     alloc: Global,
     file: &str,
     count: usize,
     name: String,
     folder: &mut F,
-) -> Result<(String, Graph), Stop<R>>
+) -> Result<(String, Graph), Stop<Reason>>
     ensures later { IsLater (F.seen folder.old) (F.seen folder.new) }
     ensures few { OnOk result (count < MOST_GRAPHS) }
     ensures named { IfOk result (λ graph. string_bytes graph.0 ≡ string_bytes name) }
     ensures ok { IfOk result (λ graph. Reads
-        (graph_format R.decode_as R.grf_as R.too_many count (string_bytes name)) file.now
+        (graph_format count (string_bytes name)) file.now
         (F.seen folder.old).files (drawn_of graph)) }
     ensures given { IfOk result IsGiven }
     ensures err { IfErr result (StopsFile
-        (graph_format R.decode_as R.grf_as R.too_many count (string_bytes name)) file.now
+        (graph_format count (string_bytes name)) file.now
         (F.seen folder.old) (F.seen folder.new)) }
 {
     let bytes = read_bytes(alloc, file, folder)?;
     if count >= MAX_GRAPHS {
-        return Err(refused(alloc, file, R::too_many_graphs()));
+        return Err(refused(alloc, file, Reason::TooManyGraphs));
     }
     let graph = drawn_graph(alloc, file, bytes)?;
     Ok((name, graph))
 }
 
 /// The graph that the bytes of the file of this name draw.
-fn drawn_graph<R: OfDecode + OfGrammar>(
-    alloc: Global,
-    file: &str,
-    bytes: Vec<u8>,
-) -> Result<Graph, Stop<R>>
+fn drawn_graph(alloc: Global, file: &str, bytes: Vec<u8>) -> Result<Graph, Stop<Reason>>
     requires { length bytes.items ≤ MAX }
-    ensures ok { IfOk result ((drawing_format R.decode_as R.grf_as).Is bytes.items) }
+    ensures ok { IfOk result (drawing_format.Is bytes.items) }
     ensures given { IfOk result IsGivenGraph }
-    ensures err { IfErr result (StopsTest (λ named reason. (named ≡ file.now)
-        × (drawing_format R.decode_as R.grf_as).Refuses bytes.items reason)) }
+    ensures err { IfErr result (StopsTest (refusing (λ named reason. (named ≡ file.now)
+        × drawing_format.Refuses bytes.items reason))) }
 {
     let text = decode_file(alloc, file, bytes)?;
     match read_grf(alloc, text.as_str()) {
         Ok(graph) => Ok(graph),
         Err(GrfError::NoMemory) => Err(Stop::NoMemory),
-        Err(error) => Err(refused(alloc, file, R::of_grf(error))),
+        Err(error) => Err(refused(alloc, file, Reason::Grf(error))),
     }
 }
 

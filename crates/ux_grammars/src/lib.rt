@@ -5,8 +5,7 @@
 //! `read_net` the net of a grammar that has a meaning.
 //!
 //! Begin with `specs/Graphs.antt`: which files are read in which order, and what each must be. A
-//! grammar is `grammar_plan` there, which a command's plan takes in. Its reasons are the command's
-//! own, by `OfGrammar`.
+//! grammar is `grammar_plan` there, which a command's plan takes in.
 //!
 //! ```text
 //! let alphabet = read_alphabet(alloc, alphabet, false, folder)?;
@@ -17,8 +16,6 @@
 mod compiling;
 mod graphs;
 mod naming;
-mod reasons;
 
 pub use compiling::read_net;
 pub use graphs::read_graphs;
-pub use reasons::OfGrammar;

@@ -5,6 +5,8 @@ use Rattle.ux_image_content.specs.Files.{RefusesImage}
 use Rattle.ux_image_files.specs.ImageFiles.{either, image_format, made}
 use Rattle.ux_image_reader.specs.declared.error.ImageError.{ImageError}
 use Rattle.ux_image_reader.specs.declared.error.ImageError.TheVariants as image_error
+use Rattle.ux_reasons.specs.declared.reason.Reason.{Reason}
+use Rattle.ux_reasons.specs.declared.reason.Reason.TheVariants.{Image}
 use Rattle.ux_plan.specs.Plans.{Format, HasFile, IsLong, Reads, StopsFile, bytes_format}
 use Rattle.ux_plan.specs.declared.stop.Stop.{Stop}
 use Rattle.ux_plan.specs.declared.stop.Stop.TheVariants.{Absent, NoMemory, ReadFault, Refused, TooLarge}
@@ -79,17 +81,16 @@ module _ {R V W : Type 0} (format : Format R V) (IsOf : V → W → Type 0) (nam
 -- A REFUSED IMAGE
 
 -- an image that is refused stops the reading, unless memory ran out
-pub image_refused : {R : Type 0} (image_as : ImageError → R) (name : List ℕ) (old new : Seen)
-    (file : List ℕ) (error : ImageError) (stop : Stop R) → HasFile old.files name file →
+pub image_refused : (name : List ℕ) (old new : Seen) (file : List ℕ) (error : ImageError)
+    (stop : Stop Reason) → HasFile old.files name file →
     (error ≡ image_error.NoMemory) ⊎ RefusesImage file error →
-    (stop ≡ NoMemory)
-    ⊎ ((error ≢ image_error.NoMemory) × (stop ≡ Refused name (image_as error))) →
-    StopsFile (image_format image_as) name old new stop
-image_refused image_as name old new file error stop has why (inl memory) =
-    subst (StopsFile (image_format image_as) name old new) (sym memory) tt
-image_refused image_as name old new file error stop has (inl memory) (inr (other, is)) =
+    (stop ≡ NoMemory) ⊎ ((error ≢ image_error.NoMemory) × (stop ≡ Refused name (Image error))) →
+    StopsFile image_format name old new stop
+image_refused name old new file error stop has why (inl memory) =
+    subst (StopsFile image_format name old new) (sym memory) tt
+image_refused name old new file error stop has (inl memory) (inr (other, is)) =
     absurd (other memory)
-image_refused image_as name old new file error stop has (inr refuses) (inr (other, is)) =
-    subst (StopsFile (image_format image_as) name old new) (sym is)
-    (bytes_refused (image_format image_as) name old new file (image_as error) has
+image_refused name old new file error stop has (inr refuses) (inr (other, is)) =
+    subst (StopsFile image_format name old new) (sym is)
+    (bytes_refused image_format name old new file (Image error) has
     (record { error = error; refuses = refuses; is = refl }))

@@ -15,19 +15,7 @@ use ux_image_content::read_content;
 use ux_image_lexicon::{ImageLexicon, read_image as read_automaton};
 use ux_image_reader::ImageError;
 use ux_plan::{Stop, read_bytes, refused};
-
-/// A command's reasons, where refused images have one among them.
-pub trait OfImage: Drop {
-    ghost use Rattle.std.specs.Prelude.{◌≡◌};
-    ghost use Rattle.ux_image_reader.specs.declared.error.ImageError.{ImageError};
-
-    /// The reason of a refused image.
-    ghost image_as: { ImageError → Self };
-
-    /// The same.
-    fn of_image(error: ImageError) -> Self
-        ensures { result ≡ image_as error };
-}
+use ux_reasons::Reason;
 
 /// Whether the name is that of an image.
 pub fn is_image(name: &str) -> bool
@@ -38,16 +26,16 @@ pub fn is_image(name: &str) -> bool
 
 /// Reads an image, and gives the entries that it tells, each once.
 #[tactic(auto, using(crate::proofs::ByteSteps::byte_steps))]
-pub fn read_image<F: Folder, R: OfImage>(
+pub fn read_image<F: Folder>(
     alloc: Global,
     name: &str,
     folder: &mut F,
-) -> Result<Vec<Entry>, Stop<R>>
+) -> Result<Vec<Entry>, Stop<Reason>>
     ensures later { IsLater (F.seen folder.old) (F.seen folder.new) }
     ensures ok { IfOk result (λ entries.
-        Reads (image_format R.image_as) name.now (F.seen folder.old).files entries.items) }
+        Reads image_format name.now (F.seen folder.old).files entries.items) }
     ensures sound { IfOk result (λ entries. All IsSound entries.items) }
-    ensures err { IfErr result (StopsFile (image_format R.image_as) name.now
+    ensures err { IfErr result (StopsFile image_format name.now
         (F.seen folder.old) (F.seen folder.new)) }
 {
     let bytes = read_bytes(alloc, name, folder)?;
@@ -60,15 +48,15 @@ pub fn read_image<F: Folder, R: OfImage>(
 /// Reads an image as the dictionary that it is, and makes none of its entries. Its content is sound,
 /// in order of form, and has each entry once.
 #[tactic(auto, using(crate::proofs::ByteSteps::byte_steps))]
-pub fn read_lexicon<F: Folder, R: OfImage>(
+pub fn read_lexicon<F: Folder>(
     alloc: Global,
     name: &str,
     folder: &mut F,
-) -> Result<ImageLexicon, Stop<R>>
+) -> Result<ImageLexicon, Stop<Reason>>
     ensures later { IsLater (F.seen folder.old) (F.seen folder.new) }
-    ensures ok { IfOk result (Reads (image_format R.image_as) name.now (F.seen folder.old).files) }
+    ensures ok { IfOk result (Reads image_format name.now (F.seen folder.old).files) }
     ensures kept { IfOk result IsDictionary }
-    ensures err { IfErr result (StopsFile (image_format R.image_as) name.now
+    ensures err { IfErr result (StopsFile image_format name.now
         (F.seen folder.old) (F.seen folder.new)) }
 {
     let bytes = read_bytes(alloc, name, folder)?;
@@ -79,12 +67,12 @@ pub fn read_lexicon<F: Folder, R: OfImage>(
 }
 
 /// What stops a command at an image that isn't read.
-fn stop_of<R: OfImage>(alloc: Global, name: &str, error: ImageError) -> Stop<R>
+fn stop_of(alloc: Global, name: &str, error: ImageError) -> Stop<Reason>
     ensures { (result ≡ Stop.NoMemory)
-        ⊎ ((error ≢ NoMemory) × (result ≡ Stop.Refused name.now (R.image_as error))) }
+        ⊎ ((error ≢ NoMemory) × (result ≡ Stop.Refused name.now (Reason.Image error))) }
 {
     match error {
         ImageError::NoMemory => Stop::NoMemory,
-        error => refused(alloc, name, R::of_image(error)),
+        error => refused(alloc, name, Reason::Image(error)),
     }
 }

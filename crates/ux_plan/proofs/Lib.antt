@@ -1,5 +1,7 @@
 pub mod Decoded
-mod FileNameLemmas
+pub mod FileNameLemmas
 pub mod Growing
+pub mod InTurn
+pub mod OneStop
 pub mod PlanLaws
 pub mod PlanSteps

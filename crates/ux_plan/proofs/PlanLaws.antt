@@ -1,14 +1,14 @@
 -- The laws of plans, each proved once for all of them.
-use Rattle.std.proofs.Common.{arith, ◌≡◌, ◌⊎◌, inl, inr, ℕ, zero, suc, ◌<◌, ◌≤◌, List, [], ◌∷◌, ◌++◌, length, Option, Some, None, refl, sym, ◌∙◌, subst}
-use Rattle.std.specs.Prelude.{⊤, IsSomeAnd, IfSome, slice_get}
-use Rattle.std.proofs.lemmas.Option.{none-some, same_Some}
+use Rattle.std.proofs.Common.{arith, ◌≡◌, ◌⊎◌, inl, inr, ℕ, zero, suc, ◌<◌, ◌≤◌, List, [], ◌∷◌, ◌++◌, length, Option, Some, None, sym, ap, ◌∙◌, subst}
+use Rattle.std.specs.Prelude.{IsSomeAnd, IfSome, slice_get}
 use Rattle.ux_base.specs.Outside.{Files, Seen, IsLater, file_named, MAX, Rose}
 use Rattle.ux_plan.specs.declared.stop.Stop.{Stop}
 use Rattle.ux_plan.specs.declared.stop.Stop.TheVariants.{Absent, ReadFault, TooLarge, Refused, NoMemory}
 use Rattle.ux_decode.specs.Decoding.{IsTextOf}
 use Rattle.ux_decode.specs.declared.error.DecodeError.{DecodeError}
-use Rattle.ux_decode.proofs.UniqueLemmas.{no_refusal, one_text}
-use Rattle.ux_plan.specs.Plans.{Format, Plan, gives, reads, tests, then, asks, decoded, grows, each, said_as, Tells, IsNoText, HasBytes, HasFile, Reads, IsLong, StopsFile, StopsTest, IsMemory, Comes, Halts}
+use Rattle.ux_decode.proofs.UniqueLemmas.{no_refusal, one_refusal, one_text}
+use Rattle.ux_plan.specs.Laws.{IsSound, IsSoundTest, Laws}
+use Rattle.ux_plan.specs.Plans.{refusing, Format, Plan, gives, reads, tests, then, all, asks, decoded, grows, each, said_as, Tells, IsNoText, HasFile, Reads, IsLong, StopsFile, IsMemory, Comes, Halts}
 
 -- MEMORY
 
@@ -17,7 +17,7 @@ pub memory : {R A : Type 0} (plan : Plan R A) (old new : Seen) → Halts plan ol
 unfolding Comes Halts
 memory (gives a) old new = tt
 memory (reads name format rest) old new = inl tt
-memory (tests Holds Refuses rest) old new = inl tt
+memory (tests Holds Stops rest) old new = inl tt
 
 -- COUNTS
 
@@ -76,8 +76,8 @@ earlier (reads name format rest) old mid new stop later (inr (v, has, stops)) =
       reads_earlier format name old mid new later v has,
       earlier (rest v) old mid new stop later stops,
     )
-earlier (tests Holds Refuses rest) old mid new stop later (inl stops) = inl stops
-earlier (tests Holds Refuses rest) old mid new stop later (inr (holds, stops)) =
+earlier (tests Holds Stops rest) old mid new stop later (inl stops) = inl stops
+earlier (tests Holds Stops rest) old mid new stop later (inr (holds, stops)) =
     inr (holds, earlier rest old mid new stop later stops)
 
 -- ONE PLAN AND THEN ANOTHER
@@ -90,7 +90,7 @@ module _ {R A B : Type 0} (rest : A → Plan R B) where
       subst (λ (y : A). Comes (rest y) told b) first second
   gives_then (reads name format later) told a b (v, has, first) second =
       (v, has, gives_then (later v) told a b first second)
-  gives_then (tests Holds Refuses later) told a b (holds, first) second =
+  gives_then (tests Holds Stops later) told a b (holds, first) second =
       (holds, gives_then later told a b first second)
 
   only_memory_stops : (x : A) (old new : Seen) (stop : Stop R) → IsMemory stop →
@@ -109,18 +109,18 @@ module _ {R A B : Type 0} (rest : A → Plan R B) where
   stops_first (reads name format later) old new stop (inl stops) = inl stops
   stops_first (reads name format later) old new stop (inr (v, has, stops)) =
       inr (v, has, stops_first (later v) old new stop stops)
-  stops_first (tests Holds Refuses later) old new stop (inl stops) = inl stops
-  stops_first (tests Holds Refuses later) old new stop (inr (holds, stops)) =
+  stops_first (tests Holds Stops later) old new stop (inl stops) = inl stops
+  stops_first (tests Holds Stops later) old new stop (inr (holds, stops)) =
       inr (holds, stops_first later old new stop stops)
 
-  stops_then : (plan : Plan R A) (a : A) (old new : Seen) (stop : Stop R) →
+  pub stops_then : (plan : Plan R A) (a : A) (old new : Seen) (stop : Stop R) →
       Comes plan old.files a → Halts (rest a) old new stop → Halts (then plan rest) old new stop
   unfolding Comes Halts
   stops_then (gives x) a old new stop first stops =
       subst (λ (y : A). Halts (rest y) old new stop) first stops
   stops_then (reads name format later) a old new stop (v, has, first) stops =
       inr (v, has, stops_then (later v) a old new stop first stops)
-  stops_then (tests Holds Refuses later) a old new stop (holds, first) stops =
+  stops_then (tests Holds Stops later) a old new stop (holds, first) stops =
       inr (holds, stops_then later a old new stop first stops)
 
   -- after a plan that was carried out, what stops the next stops the whole
@@ -141,113 +141,14 @@ unfolding Comes Halts
 stops_after format name rest old mid new stop v has later stops =
     inr (v, has, earlier (rest v) old mid new stop later stops)
 
--- COMPLETENESS
-
--- a format whose values are not refused, nor too large, and are the only ones
-pub record IsSound {R V : Type 0} (format : Format R V) : Type 0 where
-  pub excluded : (file : List ℕ) (v : V) (reason : R) → format.Is file v →
-      format.Refuses file reason → ⊥
-  pub small : (file : List ℕ) (v : V) → format.Is file v → format.IsTooLarge file → ⊥
-  pub one : (file : List ℕ) (v w : V) → format.Is file v → format.Is file w → v ≡ w
-
--- each format of a plan is sound, and what holds together is not refused
-abbrev pub Laws : {R A : Type 0} → Plan R A → Type 0
-Laws (gives a) = ⊤
-Laws (reads {V} name format rest) = IsSound format × ((v : V) → Laws (rest v))
-Laws {R} (tests Holds Refuses rest) =
-    ((name : List ℕ) (reason : R) → Holds → Refuses name reason → ⊥) × Laws rest
-
-memory_only : {R : Type 0} (stop : Stop R) → IsMemory stop → stop ≡ NoMemory
-memory_only (Absent named) is = absurd is
-memory_only (ReadFault named) is = absurd is
-memory_only (TooLarge named) is = absurd is
-memory_only (Refused named reason) is = absurd is
-memory_only NoMemory is = refl
-
-test_only : {R : Type 0} (Refuses : List ℕ → R → Type 0) →
-    ((name : List ℕ) (reason : R) → Refuses name reason → ⊥) → (stop : Stop R) →
-    StopsTest Refuses stop → stop ≡ NoMemory
-test_only Refuses holds (Absent named) is = absurd is
-test_only Refuses holds (ReadFault named) is = absurd is
-test_only Refuses holds (TooLarge named) is = absurd is
-test_only Refuses holds (Refused named reason) is = absurd (holds named reason is)
-test_only Refuses holds NoMemory is = refl
-
-module _ (files : Files) (old : Seen) (tells : old.files ≡ Some files) where
-  named : (name file : List ℕ) → HasFile old.files name file → file_named name files ≡ Some file
-  named name file has = subst (λ (t : Option Files). HasBytes t name file) tells has.bytes
-
-  module _ {R V : Type 0} (format : Format R V) (sound : IsSound format) (name : List ℕ) (v : V)
-      (has : Reads format name old.files v) where
-    same_file : (other : List ℕ) → HasFile old.files name other → other ≡ has.file
-    same_file other found =
-        same_Some other has.file (sym (named name other found) ∙ named name has.file has.has)
-
-    same_value : (w : V) → Reads format name old.files w → w ≡ v
-    same_value w other =
-        sound.one has.file w v
-        (subst (λ (f : List ℕ). format.Is f w) (same_file other.file other.has) other.is) has.is
-
-    not_long : (new : Seen) → IsLong format name old new → ⊥
-    not_long new (inl long) =
-        let there = subst (λ (t : Option Files). IfSome t (λ fs. IsSomeAnd (file_named name fs)
-        (λ t. MAX < length t))) tells long.1 in
-        let more : MAX < length has.file =
-        subst (λ (o : Option (List ℕ)). IsSomeAnd o (λ t. MAX < length t))
-        (named name has.file has.has) there in
-        omega (arith, more, has.has.short)
-    not_long new (inr more) =
-        sound.small has.file v has.is (subst format.IsTooLarge (same_file more.0 more.1) more.2)
-
-    only_memory : (new : Seen) → (Rose old.faults new.faults → ⊥) → (stop : Stop R) →
-        StopsFile format name old new stop → stop ≡ NoMemory
-    only_memory new unfaulted (Absent other) stops =
-        let none : file_named name files ≡ None =
-        subst (λ (t : Option Files). IfSome t (λ fs. file_named name fs ≡ None)) tells stops.2 in
-        absurd (none-some has.file (sym none ∙ named name has.file has.has))
-    only_memory new unfaulted (ReadFault other) stops = absurd (unfaulted stops.1)
-    only_memory new unfaulted (TooLarge other) stops = absurd (not_long new stops.1)
-    only_memory new unfaulted (Refused other reason) stops =
-        absurd (sound.excluded has.file v reason has.is (subst (λ (t : List ℕ).
-        format.Refuses t reason) (same_file stops.1.0 stops.1.1) stops.1.2))
-    only_memory new unfaulted NoMemory stops = refl
-
-  -- no folder's files both give a value and stop: where no read failed, memory ran out
-  pub never_both : {R A : Type 0} (plan : Plan R A) (a : A) (new : Seen) (stop : Stop R) →
-      Laws plan → Comes plan old.files a → (Rose old.faults new.faults → ⊥) →
-      Halts plan old new stop → stop ≡ NoMemory
-  unfolding Comes Halts
-  never_both (gives x) a new stop laws given unfaulted stops = memory_only stop stops
-  never_both (reads name format rest) a new stop laws (v, has, given) unfaulted (inl stops) =
-      only_memory format laws.0 name v has new unfaulted stop stops
-  never_both {R} {A} (reads {V} name format rest) a new stop laws (v, has, given) unfaulted
-      (inr (w, other, stops)) =
-      never_both (rest v) a new stop (laws.1 v) given unfaulted
-      (subst (λ (u : V). Halts (rest u) old new stop)
-      (same_value format laws.0 name v has w other) stops)
-  never_both (tests Holds Refuses rest) a new stop laws (holds, given) unfaulted (inl stops) =
-      test_only Refuses (λ name reason refused. laws.0 name reason holds refused) stop stops
-  never_both (tests Holds Refuses rest) a new stop laws (holds, given) unfaulted
-      (inr (also, stops)) =
-      never_both rest a new stop laws.1 given unfaulted stops
-
-  -- a folder's files give one value
-  pub one_value : {R A : Type 0} (plan : Plan R A) (a b : A) → Laws plan →
-      Comes plan old.files a → Comes plan old.files b → a ≡ b
-  unfolding Comes Halts
-  one_value (gives x) a b laws first second = first ∙ sym second
-  one_value {R} {A} (reads {V} name format rest) a b laws (v, has, first) (w, other, second) =
-      one_value (rest v) a b (laws.1 v) first (subst (λ (u : V). Comes (rest u) old.files b)
-      (same_value format laws.0 name v has w other) second)
-  one_value (tests Holds Refuses rest) a b laws first second =
-      one_value rest a b laws.1 first.1 second.1
+-- LAWS
 
 -- the laws of plans that are put together
 module _ {R A B : Type 0} (rest : A → Plan R B) (after : (a : A) → Laws (rest a)) where
   pub laws_then : (plan : Plan R A) → Laws plan → Laws (then plan rest)
   laws_then (gives a) laws = after a
   laws_then (reads name format later) laws = (laws.0, λ v. laws_then (later v) (laws.1 v))
-  laws_then (tests Holds Refuses later) laws = (laws.0, laws_then later laws.1)
+  laws_then (tests Holds Stops later) laws = (laws.0, laws_then later laws.1)
 
 laws_asks : {R A N : Type 0} (asked : Option N) (none : Plan R A) (more : N → Plan R A) →
     Laws none → ((name : N) → Laws (more name)) → Laws (asks asked none more)
@@ -271,18 +172,66 @@ laws_each format sound names =
     laws_grows (λ read. slice_get names (length read)) (λ place name. name)
     (λ place name. format name) (λ place name. sound name) (length names) []
 
+pub laws_all : {R V N : Type 0} (plan : N → Plan R V) → ((name : N) → Laws (plan name)) →
+    (names : List N) → Laws (all plan names)
+unfolding all
+laws_all plan laws [] = tt
+laws_all plan laws (one ∷ others) =
+    laws_then (λ v. then (all plan others) (λ values. gives (v ∷ values)))
+    (λ v. laws_then (λ values. gives (v ∷ values)) (λ values. tt) (all plan others)
+    (laws_all plan laws others)) (plan one) (laws one)
+
+-- TESTS
+
+-- a test that refuses one file for one reason, and that only where what was read doesn't hold together
+module _ {R : Type 0} (Holds : Type 0) (Refuses : List ℕ → R → Type 0)
+    (never : (file : List ℕ) (reason : R) → Holds → Refuses file reason → ⊥)
+    (once : (file other : List ℕ) (reason also : R) → Refuses file reason → Refuses other also →
+    (file ≡ other) × (reason ≡ also)) where
+  never_refuses : (stop : Stop R) → Holds → refusing Refuses stop → ⊥
+  never_refuses (Absent named) holds is = is
+  never_refuses (ReadFault named) holds is = is
+  never_refuses (TooLarge named) holds is = is
+  never_refuses (Refused named reason) holds is = never named reason holds is
+  never_refuses NoMemory holds is = is
+
+  refuses_once : (stop other : Stop R) → refusing Refuses stop → refusing Refuses other →
+      stop ≡ other
+  refuses_once (Absent named) other a b = absurd a
+  refuses_once (ReadFault named) other a b = absurd a
+  refuses_once (TooLarge named) other a b = absurd a
+  refuses_once NoMemory other a b = absurd a
+  refuses_once (Refused named reason) (Absent also) a b = absurd b
+  refuses_once (Refused named reason) (ReadFault also) a b = absurd b
+  refuses_once (Refused named reason) (TooLarge also) a b = absurd b
+  refuses_once (Refused named reason) NoMemory a b = absurd b
+  refuses_once (Refused named reason) (Refused also why) a b =
+      let same = once named also reason why a b in
+      ap (λ (n : List ℕ). Refused n reason) same.0 ∙ ap (Refused also) same.1
+
+  pub refusing_sound : IsSoundTest Holds (refusing Refuses)
+  refusing_sound = record {
+    excluded = λ stop holds is. never_refuses stop holds is;
+    one_stop = λ stop other a b. refuses_once stop other a b;
+  }
+
 -- FORMATS OF TEXTS
 
--- what says a value is refused by no error, and says no other
+-- what says one value, and isn't refused then, and is refused by one error
 pub said_sound : {R E V : Type 0} (told_as : E → R) (Says : List ℕ → V → Type 0)
     (Refuses : List ℕ → E → Type 0) →
     ((text : List ℕ) (v : V) (error : E) → Says text v → Refuses text error → ⊥) →
     ((text : List ℕ) (v w : V) → Says text v → Says text w → v ≡ w) →
+    ((text : List ℕ) (error other : E) → Refuses text error → Refuses text other →
+    error ≡ other) →
     IsSound (said_as told_as Says Refuses)
-said_sound told_as Says Refuses excluded one = record {
+said_sound told_as Says Refuses excluded one once = record {
   excluded = λ text v reason is refused. excluded text v refused.error is refused.refuses;
   small = λ text v is large. large;
+  refused_small = λ text reason refused large. large;
   one = one;
+  one_reason = λ text reason other a b.
+      a.is ∙ (ap told_as (once text a.error b.error a.refuses b.refuses) ∙ sym b.is);
 }
 
 -- a sound format of texts is one of files
@@ -293,11 +242,17 @@ decoded_sound {R} {V} decode_as format sound = record {
   small = λ file v is large.
       sound.small is.0 v is.2 (subst format.IsTooLarge (one_text file large.0 is.0 large.1 is.1)
       large.2);
+  refused_small = λ file reason refused large. not_large file reason refused large;
   one = λ file v w a b.
       sound.one a.0 v w a.2 (subst (λ (t : List ℕ). format.Is t w)
       (one_text file b.0 a.0 b.1 a.1) b.2);
+  one_reason = λ file reason other a b. same file reason other a b;
 }
   where
+    Refused : List ℕ → R → Type 0
+    Refused file reason = Tells decode_as (IsNoText file) reason
+        ⊎ ((text : List ℕ) × IsTextOf file text × format.Refuses text reason)
+
     apart : (file : List ℕ) (v : V) (reason : R) →
         ((text : List ℕ) × IsTextOf file text × format.Is text v) →
         (Tells decode_as (IsNoText file) reason
@@ -307,3 +262,24 @@ decoded_sound {R} {V} decode_as format sound = record {
     apart file v reason is (inr refused) =
         sound.excluded is.0 v reason is.2 (subst (λ (t : List ℕ). format.Refuses t reason)
         (one_text file refused.0 is.0 refused.1 is.1) refused.2)
+
+    not_large : (file : List ℕ) (reason : R) → Refused file reason →
+        ((text : List ℕ) × IsTextOf file text × format.IsTooLarge text) → ⊥
+    not_large file reason (inl none) large =
+        none.refuses.not_memory (no_refusal file large.0 none.error large.1 none.refuses.refuses)
+    not_large file reason (inr refused) large =
+        sound.refused_small refused.0 reason refused.2 (subst format.IsTooLarge
+        (one_text file large.0 refused.0 large.1 refused.1) large.2)
+
+    same : (file : List ℕ) (reason other : R) → Refused file reason → Refused file other →
+        reason ≡ other
+    same file reason other (inl a) (inl b) =
+        a.is ∙ (ap decode_as (one_refusal file a.error b.error a.refuses.not_memory
+        b.refuses.not_memory a.refuses.refuses b.refuses.refuses) ∙ sym b.is)
+    same file reason other (inl a) (inr b) =
+        absurd (a.refuses.not_memory (no_refusal file b.0 a.error b.1 a.refuses.refuses))
+    same file reason other (inr a) (inl b) =
+        absurd (b.refuses.not_memory (no_refusal file a.0 b.error a.1 b.refuses.refuses))
+    same file reason other (inr a) (inr b) =
+        sound.one_reason a.0 reason other a.2 (subst (λ (t : List ℕ). format.Refuses t other)
+        (one_text file b.0 a.0 b.1 a.1) b.2)

@@ -1,10 +1,10 @@
 -- The steps by which code carries out a plan.
-use Rattle.std.proofs.Common.{◌≡◌, inl, inr, ℕ, List, Option, Some, refl}
-use Rattle.ux_base.specs.Outside.{Files, Seen, IsLater, Rose}
+use Rattle.std.proofs.Common.{inl, inr, ℕ, List, Option, refl}
+use Rattle.ux_base.specs.Outside.{Files, Seen, IsLater}
 use Rattle.ux_plan.specs.declared.stop.Stop.{Stop}
 use Rattle.ux_plan.specs.declared.stop.Stop.TheVariants.{NoMemory}
 use Rattle.ux_plan.specs.Plans.{Comes, Format, Halts, Plan, Reads, StopsFile, StopsTest, gives, reads, tests, then}
-use Rattle.ux_plan.proofs.PlanLaws.{Laws, gives_then, memory, never_both, stops_after, stops_first, stops_second}
+use Rattle.ux_plan.proofs.PlanLaws.{gives_then, memory, stops_after, stops_first, stops_second}
 
 pub comes_gives : (R : Type 0) {A : Type 0} (a : A) (told : Option Files) →
     Comes {R = R} (gives a) told a
@@ -18,11 +18,11 @@ module _ {R A : Type 0} where
   unfolding Comes
   comes_read format name rest told v a has later = (v, has, later)
 
-  pub comes_test : (Holds : Type 0) (Refuses : List ℕ → R → Type 0) (rest : Plan R A)
+  pub comes_test : (Holds : Type 0) (Stops : Stop R → Type 0) (rest : Plan R A)
       (told : Option Files) (a : A) → Holds → Comes rest told a →
-      Comes (tests Holds Refuses rest) told a
+      Comes (tests Holds Stops rest) told a
   unfolding Comes
-  comes_test Holds Refuses rest told a holds later = (holds, later)
+  comes_test Holds Stops rest told a holds later = (holds, later)
 
   pub comes_then : {B : Type 0} (plan : Plan R A) (rest : A → Plan R B) (told : Option Files) (a : A)
       (b : B) → Comes plan told a → Comes (rest a) told b → Comes (then plan rest) told b
@@ -46,17 +46,17 @@ module _ {R A : Type 0} where
   halts_later format name rest old mid new stop v has later stops =
       stops_after format name rest old mid new stop v has later stops
 
-  pub halts_test : (Holds : Type 0) (Refuses : List ℕ → R → Type 0) (rest : Plan R A)
-      (old new : Seen) (stop : Stop R) → StopsTest Refuses stop →
-      Halts (tests Holds Refuses rest) old new stop
+  pub halts_test : (Holds : Type 0) (Stops : Stop R → Type 0) (rest : Plan R A)
+      (old new : Seen) (stop : Stop R) → StopsTest Stops stop →
+      Halts (tests Holds Stops rest) old new stop
   unfolding Halts
-  halts_test Holds Refuses rest old new stop stops = inl stops
+  halts_test Holds Stops rest old new stop stops = inl stops
 
-  pub halts_tested : (Holds : Type 0) (Refuses : List ℕ → R → Type 0) (rest : Plan R A)
+  pub halts_tested : (Holds : Type 0) (Stops : Stop R → Type 0) (rest : Plan R A)
       (old new : Seen) (stop : Stop R) → Holds → Halts rest old new stop →
-      Halts (tests Holds Refuses rest) old new stop
+      Halts (tests Holds Stops rest) old new stop
   unfolding Halts
-  halts_tested Holds Refuses rest old new stop holds stops = inr (holds, stops)
+  halts_tested Holds Stops rest old new stop holds stops = inr (holds, stops)
 
   pub halts_first : {B : Type 0} (plan : Plan R A) (rest : A → Plan R B) (old new : Seen)
       (stop : Stop R) → Halts plan old new stop → Halts (then plan rest) old new stop
@@ -71,12 +71,3 @@ module _ {R A : Type 0} where
       stops_second rest plan a old mid new stop first later stops
 
 pub ruleset plan_steps = (comes_gives, comes_read, comes_test, comes_then, halts_memory, halts_at, halts_later, halts_test, halts_tested, halts_first, halts_second)
-
--- where the folder tells its files, a plan that comes to something stops for out of memory alone,
--- unless a read failed
-pub complete : {R A : Type 0} (plan : Plan R A) (a : A) (files : Files) (old new : Seen)
-    (stop : Stop R) → Laws plan → old.files ≡ Some files → Comes plan old.files a →
-    (Rose old.faults new.faults → ⊥) → Halts plan old new stop → stop ≡ NoMemory
-unfolding Comes Halts
-complete plan a files old new stop laws tells given unfaulted stops =
-    never_both files old tells plan a new stop laws given unfaulted stops

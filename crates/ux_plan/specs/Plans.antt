@@ -62,20 +62,22 @@ pub data Plan (R A : Type 0) : Type 1 where
   gives : A → Plan R A
   -- the value of the file of this name, and what is then read
   reads : {V : Type 0} → (name : List ℕ) → Format R V → (V → Plan R A) → Plan R A
-  -- what was read holds together, or else this file is refused for this reason
-  tests : (Holds : Type 0) → (Refuses : List ℕ → R → Type 0) → Plan R A → Plan R A
-
--- a command: what it reads, and what answers what was read
-pub record Command (R : Type 0) : Type 1 where
-  pub Read : Type 0
-  pub plan : Plan R Read
-  pub Answers : Read → List ℕ → Type 0
+  -- what was read holds together, or else this stops it
+  tests : (Holds : Type 0) → (Stops : Stop R → Type 0) → Plan R A → Plan R A
 
 -- one plan, and then another
 abbrev pub then : {R A B : Type 0} → Plan R A → (A → Plan R B) → Plan R B
 then (gives a) rest = rest a
 then (reads name format later) rest = reads name format (λ v. then (later v) rest)
-then (tests Holds Refuses later) rest = tests Holds Refuses (then later rest)
+then (tests Holds Stops later) rest = tests Holds Stops (then later rest)
+
+-- these plans in their order, and the list of what they come to
+unfoldable pub all : {R V N : Type 0} → (N → Plan R V) → List N → Plan R (List V)
+all plan [] = gives []
+all plan (one ∷ others) =
+    then (plan one) (λ v.
+    then (all plan others) (λ values.
+    gives (v ∷ values)))
 
 -- this plan where nothing is asked for, and else that of what is
 abbrev pub asks : {R A N : Type 0} → Option N → Plan R A → (N → Plan R A) → Plan R A
@@ -138,11 +140,15 @@ StopsFile format name old new (Refused named reason) =
     (named ≡ name) × ((file : List ℕ) × HasFile old.files name file × format.Refuses file reason)
 StopsFile format name old new NoMemory = ⊤
 
--- why a test stops
-abbrev pub StopsTest : {R : Type 0} → (List ℕ → R → Type 0) → Stop R → Type 0
-StopsTest Refuses (Refused name reason) = Refuses name reason
-StopsTest Refuses NoMemory = ⊤
-StopsTest Refuses stop = ⊥
+-- a file is refused for a reason
+abbrev pub refusing : {R : Type 0} → (List ℕ → R → Type 0) → Stop R → Type 0
+refusing Refuses (Refused name reason) = Refuses name reason
+refusing Refuses stop = ⊥
+
+-- why a test stops: by what it says, or since memory ran out
+abbrev pub StopsTest : {R : Type 0} → (Stop R → Type 0) → Stop R → Type 0
+StopsTest Stops NoMemory = ⊤
+StopsTest Stops stop = Stops stop
 
 -- after the last file memory alone may run out
 abbrev pub IsMemory : {R : Type 0} → Stop R → Type 0
@@ -156,7 +162,7 @@ unfoldable pub Comes : {R A : Type 0} → Plan R A → Option Files → A → Ty
 Comes (gives a) told answer = answer ≡ a
 Comes (reads {V} name format rest) told answer =
     (v : V) × Reads format name told v × Comes (rest v) told answer
-Comes (tests Holds Refuses rest) told answer = Holds × Comes rest told answer
+Comes (tests Holds Stops rest) told answer = Holds × Comes rest told answer
 
 -- the first file in the order of the plan that is not accepted stops it, by this cause
 unfoldable pub Halts : {R A : Type 0} → Plan R A → Seen → Seen → Stop R → Type 0
@@ -164,8 +170,8 @@ Halts (gives a) old new stop = IsMemory stop
 Halts (reads {V} name format rest) old new stop =
     StopsFile format name old new stop
     ⊎ ((v : V) × Reads format name old.files v × Halts (rest v) old new stop)
-Halts (tests Holds Refuses rest) old new stop =
-    StopsTest Refuses stop ⊎ (Holds × Halts rest old new stop)
+Halts (tests Holds Stops rest) old new stop =
+    StopsTest Stops stop ⊎ (Holds × Halts rest old new stop)
 
 -- A growing list of files, and what it asks for next.
 module _ {R V N : Type 0} (next : List V → Option N) (file : ℕ → N → List ℕ)
@@ -183,10 +189,3 @@ module _ {R V N : Type 0} (next : List V → Option N) (file : ℕ → N → Lis
     pub name : N
     pub asked : next read ≡ Some name
     pub stops : StopsFile (format (length read) name) (file (length read) name) old new stop
-
--- what answers a command
-pub record Answers {R : Type 0} (command : Command R) (told : Option Files) (answer : List ℕ) :
-    Type 0 where
-  pub read : command.Read
-  pub comes : Comes command.plan told read
-  pub answers : command.Answers read answer

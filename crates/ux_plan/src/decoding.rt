@@ -3,7 +3,7 @@
 ghost use Rattle.std.specs.Prelude.{◌≡◌, ◌≤◌, ◌*◌, IfOk, IfErr, length, string_bytes};
 ghost use Rattle.ux_base.specs.Outside.{IsLater};
 ghost use Rattle.ux_decode.specs.Decoding.{IsTextOf};
-ghost use Rattle.ux_plan.specs.Plans.{IsNoText, Reads, StopsFile, StopsTest, Tells, bytes_format, decoded};
+ghost use Rattle.ux_plan.specs.Plans.{IsNoText, Reads, StopsFile, StopsTest, Tells, bytes_format, decoded, refusing};
 
 use crate::reading::{read_bytes, refused};
 use crate::stop::Stop;
@@ -48,8 +48,8 @@ pub fn decode_file<R: OfDecode>(
 ) -> Result<String, Stop<R>>
     ensures ok { IfOk result (λ text. IsTextOf bytes.items (string_bytes text)) }
     ensures size { IfOk result (λ text. 2 * length (string_bytes text) ≤ 3 * length bytes.items) }
-    ensures err { IfErr result (StopsTest (λ file reason.
-        (file ≡ name.now) × Tells R.decode_as (IsNoText bytes.items) reason)) }
+    ensures err { IfErr result (StopsTest (refusing (λ file reason.
+        (file ≡ name.now) × Tells R.decode_as (IsNoText bytes.items) reason))) }
 {
     match decode(alloc, bytes) {
         Ok(text) => Ok(text),

@@ -5,10 +5,10 @@ use Rattle.ux_plan.specs.declared.stop.Stop.{Stop}
 use Rattle.ux_plan.specs.declared.stop.Stop.TheVariants as stop
 use Rattle.ux_plan.specs.Plans.{Halts, IsMemory}
 use Rattle.ux_command_line.specs.declared.request.Request.TheVariants.{Bench}
-use Rattle.ux_status.specs.declared.status.Reason.{Reason}
+use Rattle.ux_reasons.specs.declared.reason.Reason.{Reason}
 use Rattle.ux_status.specs.declared.status.Status.{Status}
 use Rattle.ux_status.specs.declared.status.Status.TheVariants.{NoMemory}
-use Rattle.ux_run.specs.Running.{Denies, IsAsked, asked_by, asked_of, same_told, status_of}
+use Rattle.ux_run.specs.Running.{Denies, IsAsked, asked_by, asked_of, status_of}
 
 -- a compiled graph is not searched by yet
 compiled_graph :
@@ -72,7 +72,7 @@ stopped_by_memory : (n : ℕ) (old new : Seen) (status : Status) →
 unfolding Halts
 stopped_by_memory n old new status denies = by denies.by denies.halts denies.is
   where
-    by : (why : Stop Reason) → IsMemory why → status ≡ status_of same_told why → status ≡ NoMemory
+    by : (why : Stop Reason) → IsMemory why → status ≡ status_of why → status ≡ NoMemory
     by (stop.Absent name) memory is = absurd memory
     by (stop.ReadFault name) memory is = absurd memory
     by (stop.TooLarge name) memory is = absurd memory

@@ -1,3 +1,2 @@
-pub mod Reasons
 pub mod Requests
 pub mod Running

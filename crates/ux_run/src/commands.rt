@@ -1,15 +1,16 @@
 //! The commands: for each request the crate that answers it.
 
-ghost use Rattle.std.specs.Prelude.{◌≡◌, true, false, IfOk, IfErr, Option};
-ghost use Rattle.ux_base.specs.Outside.{Files, IsLater, Seen};
-ghost use Rattle.ux_command_line.specs.declared.request.Request.TheVariants as request;
+ghost use Rattle.std.specs.Prelude.{◌≡◌, IfOk, IfErr};
+ghost use Rattle.ux_base.specs.Outside.{IsLater};
+ghost use Rattle.ux_plan.specs.Commands.{Answers};
+ghost use Rattle.ux_plan.specs.Plans.{Halts};
 ghost use Rattle.ux_cmd_bench.specs.Bench.{IsSummaryOf};
-ghost use Rattle.ux_run.specs.Running.{Denies, IsAnswer, asked_of};
+ghost use Rattle.ux_run.specs.Running.{Denies, IsAnswer, asked_of, concordance_command, index_command};
 
 use crate::built::is_drawn;
-use crate::stops::with_status;
+use crate::stops::by_command;
 use std::alloc::Global;
-use ux_base::{Folder, Sort, Txt};
+use ux_base::{Folder, Sort};
 use ux_cmd_bench::bench;
 use ux_cmd_check::{check_entries, check_stems};
 use ux_cmd_compress::compress;
@@ -18,6 +19,8 @@ use ux_cmd_dico::dico;
 use ux_cmd_locate::locate;
 use ux_cmd_tokenize::tokenize;
 use ux_command_line::{HELP, Request, Search, VERSION};
+use ux_plan::Stop;
+use ux_reasons::Reason;
 use ux_status::Status;
 
 /// The answer to a request, or how the run ends without one.
@@ -33,31 +36,44 @@ pub fn answer_to<F: Folder>(
         (Denies (asked_of request.now) (F.seen folder.old) (F.seen folder.new)) }
 {
     match request {
-        Request::Locate(search) => search_by(alloc, search, folder),
+        Request::Locate(search) if is_drawn(search.graph.as_str()) => {
+            by_command(index_of(alloc, search, folder))
+        }
         Request::Concord {
             search,
             left,
             right,
             sort,
-        } => concordance_by(alloc, search, *left, *right, *sort, folder),
+        } if is_drawn(search.graph.as_str()) => {
+            by_command(concordance_of(alloc, search, *left, *right, *sort, folder))
+        }
         Request::Tokenize {
             text,
             alphabet,
             chars,
-        } => tokens_of(alloc, text, alphabet, *chars, folder),
-        Request::Check { delas: false, file } => entries_of(alloc, file, folder),
-        Request::Check { delas: true, file } => stems_of(alloc, file, folder),
-        Request::Compress { dic } => image_of(alloc, dic, folder),
+        } => { by_command(tokenize(alloc, text.as_str(), alphabet.as_str(), *chars, folder)) }
+        Request::Check { delas: false, file } => {
+            by_command(check_entries(alloc, file.as_str(), folder))
+        }
+        Request::Check { delas: true, file } => {
+            by_command(check_stems(alloc, file.as_str(), folder))
+        }
+        Request::Compress { dic } => by_command(compress(alloc, dic.as_str(), folder)),
         Request::Dico {
             text,
             alphabet,
             dics,
             chars,
-        } => report_of(alloc, text, alphabet, dics.as_slice(), *chars, folder),
+        } => {
+            let (text, alphabet) = (text.as_str(), alphabet.as_str());
+            by_command(dico(alloc, text, alphabet, dics.as_slice(), *chars, folder))
+        }
         Request::Bench { n } => summary_of(alloc, *n),
         Request::Help => text_of(alloc, HELP),
         Request::Version => text_of(alloc, VERSION),
-        Request::Fst2 { .. }
+        Request::Locate(_)
+        | Request::Concord { .. }
+        | Request::Fst2 { .. }
         | Request::Inflect { .. }
         | Request::Tfst { .. }
         | Request::Elag { .. }
@@ -68,20 +84,20 @@ pub fn answer_to<F: Folder>(
     }
 }
 
-/// `locate`: the index of a search by a graph that is drawn.
-#[tactic(auto, using(crate::proofs::Ending::telling))]
-fn search_by<F: Folder>(alloc: Global, search: &Search, folder: &mut F) -> Result<Vec<u8>, Status>
+/// `locate`: the index of a search.
+fn index_of<F: Folder>(
+    alloc: Global,
+    search: &Search,
+    folder: &mut F,
+) -> Result<Vec<u8>, Stop<Reason>>
     ensures later { IsLater (F.seen folder.old) (F.seen folder.new) }
-    ensures ok { IfOk result (λ answer. IsAnswer (asked_of (request.Locate search.now))
-        (F.seen folder.old).files answer.items) }
-    ensures err { IfErr result (Denies (asked_of (request.Locate search.now))
-        (F.seen folder.old) (F.seen folder.new)) }
+    ensures ok { IfOk result (λ answer.
+        Answers (index_command search.now) (F.seen folder.old).files answer.items) }
+    ensures err { IfErr result
+        (Halts (index_command search.now).plan (F.seen folder.old) (F.seen folder.new)) }
 {
-    if !is_drawn(search.graph.as_str()) {
-        return Err(Status::Usage);
-    }
     let (graph, text) = (search.graph.as_str(), search.text.as_str());
-    with_status(locate(
+    locate(
         alloc,
         graph,
         text,
@@ -92,31 +108,26 @@ fn search_by<F: Folder>(alloc: Global, search: &Search, folder: &mut F) -> Resul
         search.novar,
         search.chars,
         folder,
-    ))
+    )
 }
 
-/// `concord`: the concordance of a search by a graph that is drawn.
-#[tactic(auto, using(crate::proofs::Ending::telling))]
-fn concordance_by<F: Folder>(
+/// `concord`: the concordance of a search.
+fn concordance_of<F: Folder>(
     alloc: Global,
     search: &Search,
     left: u32,
     right: u32,
     sort: Sort,
     folder: &mut F,
-) -> Result<Vec<u8>, Status>
+) -> Result<Vec<u8>, Stop<Reason>>
     ensures later { IsLater (F.seen folder.old) (F.seen folder.new) }
-    ensures ok { IfOk result (λ answer. IsAnswer
-        (asked_of (request.Concord search.now left right sort))
+    ensures ok { IfOk result (λ answer. Answers (concordance_command search.now left right sort)
         (F.seen folder.old).files answer.items) }
-    ensures err { IfErr result (Denies (asked_of (request.Concord search.now left right sort))
+    ensures err { IfErr result (Halts (concordance_command search.now left right sort).plan
         (F.seen folder.old) (F.seen folder.new)) }
 {
-    if !is_drawn(search.graph.as_str()) {
-        return Err(Status::Usage);
-    }
     let dics = search.dics.as_slice();
-    with_status(concord(
+    concord(
         alloc,
         search.graph.as_str(),
         search.text.as_str(),
@@ -128,83 +139,7 @@ fn concordance_by<F: Folder>(
         search.chars,
         Layout { left, right, sort },
         folder,
-    ))
-}
-
-/// `tokenize`: the tokens of a text.
-#[tactic(auto, using(crate::proofs::Ending::telling))]
-fn tokens_of<F: Folder>(
-    alloc: Global,
-    text: &Txt,
-    alphabet: &Txt,
-    chars: bool,
-    folder: &mut F,
-) -> Result<Vec<u8>, Status>
-    ensures later { IsLater (F.seen folder.old) (F.seen folder.new) }
-    ensures ok { IfOk result (λ answer. IsAnswer
-        (asked_of (request.Tokenize text.now alphabet.now chars))
-        (F.seen folder.old).files answer.items) }
-    ensures err { IfErr result (Denies (asked_of (request.Tokenize text.now alphabet.now chars))
-        (F.seen folder.old) (F.seen folder.new)) }
-{
-    with_status(tokenize(alloc, text.as_str(), alphabet.as_str(), chars, folder))
-}
-
-/// `check`: how many entries a dictionary of forms has.
-#[tactic(auto, using(crate::proofs::Ending::telling))]
-fn entries_of<F: Folder>(alloc: Global, file: &Txt, folder: &mut F) -> Result<Vec<u8>, Status>
-    ensures later { IsLater (F.seen folder.old) (F.seen folder.new) }
-    ensures ok { IfOk result (λ answer. IsAnswer (asked_of (request.Check false file.now))
-        (F.seen folder.old).files answer.items) }
-    ensures err { IfErr result (Denies (asked_of (request.Check false file.now))
-        (F.seen folder.old) (F.seen folder.new)) }
-{
-    with_status(check_entries(alloc, file.as_str(), folder))
-}
-
-/// `check --delas`: how many lemmas a dictionary of lemmas has.
-#[tactic(auto, using(crate::proofs::Ending::telling))]
-fn stems_of<F: Folder>(alloc: Global, file: &Txt, folder: &mut F) -> Result<Vec<u8>, Status>
-    ensures later { IsLater (F.seen folder.old) (F.seen folder.new) }
-    ensures ok { IfOk result (λ answer. IsAnswer (asked_of (request.Check true file.now))
-        (F.seen folder.old).files answer.items) }
-    ensures err { IfErr result (Denies (asked_of (request.Check true file.now))
-        (F.seen folder.old) (F.seen folder.new)) }
-{
-    with_status(check_stems(alloc, file.as_str(), folder))
-}
-
-/// `compress`: the image of a dictionary.
-#[tactic(auto, using(crate::proofs::Ending::telling))]
-fn image_of<F: Folder>(alloc: Global, dic: &Txt, folder: &mut F) -> Result<Vec<u8>, Status>
-    ensures later { IsLater (F.seen folder.old) (F.seen folder.new) }
-    ensures ok { IfOk result (λ answer. IsAnswer (asked_of (request.Compress dic.now))
-        (F.seen folder.old).files answer.items) }
-    ensures err { IfErr result (Denies (asked_of (request.Compress dic.now))
-        (F.seen folder.old) (F.seen folder.new)) }
-{
-    with_status(compress(alloc, dic.as_str(), folder))
-}
-
-/// `dico`: the report of dictionaries.
-#[tactic(auto, using(crate::proofs::Ending::telling))]
-fn report_of<F: Folder>(
-    alloc: Global,
-    text: &Txt,
-    alphabet: &Txt,
-    dics: &[Txt],
-    chars: bool,
-    folder: &mut F,
-) -> Result<Vec<u8>, Status>
-    ensures later { IsLater (F.seen folder.old) (F.seen folder.new) }
-    ensures ok { IfOk result (λ answer. IsAnswer
-        (asked_of (request.Dico text.now alphabet.now dics.now chars))
-        (F.seen folder.old).files answer.items) }
-    ensures err { IfErr result (Denies
-        (asked_of (request.Dico text.now alphabet.now dics.now chars))
-        (F.seen folder.old) (F.seen folder.new)) }
-{
-    with_status(dico(alloc, text.as_str(), alphabet.as_str(), dics, chars, folder))
+    )
 }
 
 /// `bench`: what is told of a search in a text that is made up. It reads no file, and nothing that is

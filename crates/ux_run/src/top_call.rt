@@ -3,7 +3,9 @@
 ghost use Rattle.std.specs.Prelude.{◌≡◌, ◌≢◌, ◌⊎◌, ℕ, ◌≤◌, List, IfOk, IfErr, map, string_bytes};
 ghost use Rattle.ux_base.specs.Outside.{Appended, AppendedFront, IsLater, Rose};
 ghost use Rattle.ux_status.specs.Statuses.{line_of};
-ghost use Rattle.ux_run.specs.Running.{asked_by, Denies, EndsBy, IsAnswer, IsAnswerable, IsAsked, WritesNothing};
+ghost use Rattle.ux_plan.specs.declared.stop.Stop.{Stop};
+ghost use Rattle.ux_reasons.specs.declared.reason.Reason.{Reason};
+ghost use Rattle.ux_run.specs.Running.{asked_by, Denies, EndsBy, IsAnswer, IsAnswerable, IsAsked, IsStopped, status_of, WritesNothing};
 
 use crate::commands::answer_to;
 use std::alloc::Global;
@@ -45,7 +47,7 @@ pub fn run<F: Folder, S: Sink, E: Sink>(
         Appended (E.written err.old) (E.written err.new) (line_of result) }
     // Where a write to `err` failed, a prefix of the line of an ending that has its cause.
     ensures cut_line { result ≡ Status.WriteFault →
-        Rose (E.faults err.old) (E.faults err.new) → (status : Status)
+        Rose (E.faults err.old) (E.faults err.new) → (status : Status) × (status ≢ Status.Done)
         × EndsBy (asked_by (map string_bytes words.now)) (F.seen folder.old)
         (F.seen folder.new) (Rose (S.faults out.old) (S.faults out.new)) status
         × AppendedFront (E.written err.old) (E.written err.new) (line_of status) }
@@ -58,6 +60,13 @@ pub fn run<F: Folder, S: Sink, E: Sink>(
         ¬ (Rose (S.faults out.old) (S.faults out.new)
         ⊎ Rose (E.faults err.old) (E.faults err.new)) →
         (result ≡ Status.Done) ⊎ (result ≡ Status.NoMemory) }
+    // A request whose files aren't all accepted tells the first of these in the order of reading, and
+    // its reason, unless a read or a write failed or memory ran out.
+    ensures refused { (stop : Stop Reason) →
+        IsStopped (asked_by (map string_bytes words.now)) (F.seen folder.old) stop →
+        ¬ Rose (F.seen folder.old).faults (F.seen folder.new).faults →
+        ¬ Rose (E.faults err.old) (E.faults err.new) →
+        (result ≡ status_of stop) ⊎ (result ≡ Status.NoMemory) }
 {
     let result = match answer(alloc, words, folder) {
         Ok(result) => result,

@@ -5,7 +5,7 @@ use Rattle.ux_dela.specs.declared.error.DelaError.TheVariants as dela_error
 use Rattle.ux_grf.specs.declared.error.GrfError.TheVariants as grf_error
 use Rattle.ux_image_reader.specs.declared.error.ImageError.TheVariants as image_error
 use Rattle.ux_status.specs.declared.status.Status.TheVariants.{Absent, Refused}
-use Rattle.ux_status.specs.declared.status.Reason.TheVariants.{Dela, Grf, Image}
+use Rattle.ux_reasons.specs.declared.reason.Reason.TheVariants.{Dela, Grf, Image}
 use Rattle.ux_status.specs.Statuses.{line_of, number_of}
 
 -- the line of a graph that is refused

@@ -1,13 +1,7 @@
 //! How the program ends.
 
-use std::alloc::{AllocError, AllocFailed};
-use ux_alphabet::AlphabetError;
-use ux_base::{NoMemory, Txt};
-use ux_decode::DecodeError;
-use ux_dela::DelaError;
-use ux_grf::GrfError;
-use ux_image_reader::ImageError;
-use ux_net::NetError;
+use ux_base::Txt;
+use ux_reasons::Reason;
 
 /// How a run ended.
 #[derive(Drop)]
@@ -28,58 +22,6 @@ pub enum Status {
     TooLarge { file: Txt },
     /// Memory ran out.
     NoMemory,
-}
-
-/// Why a file is refused.
-#[derive(Drop)]
-pub enum Reason {
-    /// Why the file has no text.
-    Decode(DecodeError),
-    /// The alphabet's own reason.
-    Alphabet(AlphabetError),
-    /// The graph's own reason.
-    Grf(GrfError),
-    /// The grammar's own reason.
-    Net(NetError),
-    /// The dictionary's own reason.
-    Dela(DelaError),
-    /// The image's own reason.
-    Image(ImageError),
-    /// The grammar has 65,535 graphs before this one.
-    TooManyGraphs,
-}
-
-impl From<NoMemory> for Status {
-    ghost use Rattle.std.specs.Prelude.{◌≡◌};
-    ghost use Rattle.ux_status.specs.declared.status.Status.TheVariants as status;
-
-    ghost from_gives = { λ _ s. s ≡ status.NoMemory };
-
-    fn from(_error: NoMemory) -> Status {
-        Status::NoMemory
-    }
-}
-
-impl From<AllocError> for Status {
-    ghost use Rattle.std.specs.Prelude.{◌≡◌};
-    ghost use Rattle.ux_status.specs.declared.status.Status.TheVariants as status;
-
-    ghost from_gives = { λ _ s. s ≡ status.NoMemory };
-
-    fn from(_error: AllocError) -> Status {
-        Status::NoMemory
-    }
-}
-
-impl<T: Drop> From<AllocFailed<T>> for Status {
-    ghost use Rattle.std.specs.Prelude.{◌≡◌};
-    ghost use Rattle.ux_status.specs.declared.status.Status.TheVariants as status;
-
-    ghost from_gives = { λ _ s. s ≡ status.NoMemory };
-
-    fn from(_error: AllocFailed<T>) -> Status {
-        Status::NoMemory
-    }
 }
 
 impl Status {

@@ -1,12 +1,13 @@
 -- The formats of alphabets and of texts are sound, so the plan of both keeps the laws.
 use Rattle.std.proofs.Common.{arith, ◌≡◌, ℕ, ◌<◌, Bool, List, ap, length, sym, ◌∙◌, subst}
-use Rattle.ux_decode.specs.declared.error.DecodeError.{DecodeError}
-use Rattle.ux_plan.proofs.PlanLaws.{IsSound, Laws, decoded_sound, said_sound}
+use Rattle.ux_plan.proofs.PlanLaws.{decoded_sound, said_sound}
+use Rattle.ux_plan.specs.Laws.{IsSound, Laws}
+use Rattle.ux_reasons.specs.declared.reason.Reason.TheVariants.{Alphabet, Decode}
 use Rattle.ux_alphabet.specs.File.{Refuses}
 use Rattle.ux_alphabet.specs.Letters.{Letters}
 use Rattle.ux_alphabet.specs.declared.line.Line.{Line}
 use Rattle.ux_alphabet.specs.declared.error.AlphabetError.{AlphabetError}
-use Rattle.ux_alphabet.proofs.FileLemmas.{lines_are_unique, lines_not_refused}
+use Rattle.ux_alphabet.proofs.FileLemmas.{lines_are_unique, lines_not_refused, refused_once}
 use Rattle.ux_tokens.specs.Tokens.{Token}
 use Rattle.ux_tokens.specs.Reading.{HasTooManyTokens}
 use Rattle.ux_tokens.specs.declared.cutting.TheConstants.{MAX_TOKENS}
@@ -40,24 +41,24 @@ not_too_many letters text tokens has more =
     subst (λ (l : List Token). MAX_TOKENS < length l) same more.2 in
     omega (arith, many, has.few)
 
-tokens_sound : {R : Type 0} (letters : Letters) → IsSound {R = R} (tokens_format letters)
+tokens_sound : (letters : Letters) → IsSound (tokens_format letters)
 tokens_sound letters = record {
   excluded = λ text v reason is refused. refused;
   small = λ text v is large. not_too_many letters text v is large;
+  refused_small = λ text reason refused large. refused;
   one = λ text v w a b. tokens_unique letters text v w a.are b.are;
+  one_reason = λ text reason other a b. absurd a;
 }
 
-module _ {R : Type 0} (decode_as : DecodeError → R) where
-  pub alphabet_sound : (alphabet_as : AlphabetError → R) (chars : Bool) →
-      IsSound (alphabet_format decode_as alphabet_as chars)
-  alphabet_sound alphabet_as chars =
-      decoded_sound decode_as _ (said_sound alphabet_as (IsAlphabet chars) Refuses
-      (alphabet_not_refused chars) (one_alphabet chars))
+pub alphabet_sound : (chars : Bool) → IsSound (alphabet_format chars)
+alphabet_sound chars =
+    decoded_sound Decode _ (said_sound Alphabet (IsAlphabet chars) Refuses
+    (alphabet_not_refused chars) (one_alphabet chars) refused_once)
 
-  pub text_sound : (letters : Letters) → IsSound (text_format decode_as letters)
-  text_sound letters = decoded_sound decode_as (tokens_format letters) (tokens_sound letters)
+pub text_sound : (letters : Letters) → IsSound (text_format letters)
+text_sound letters = decoded_sound Decode (tokens_format letters) (tokens_sound letters)
 
-  pub letters_and_text_laws : (alphabet_as : AlphabetError → R) (text alphabet : List ℕ)
-      (chars : Bool) → Laws (letters_and_text decode_as alphabet_as text alphabet chars)
-  letters_and_text_laws alphabet_as text alphabet chars =
-      (alphabet_sound alphabet_as chars, λ letters. (text_sound letters, λ tokens. tt))
+pub letters_and_text_laws : (text alphabet : List ℕ) (chars : Bool) →
+    Laws (letters_and_text text alphabet chars)
+letters_and_text_laws text alphabet chars =
+    (alphabet_sound chars, λ letters. (text_sound letters, λ tokens. tt))

@@ -8,40 +8,28 @@ ghost use Rattle.ux_texts.specs.Texts.{alphabet_format};
 use std::alloc::Global;
 use ux_alphabet::{Alphabet, AlphabetError};
 use ux_base::Folder;
-use ux_plan::{OfDecode, Stop, read_decoded, refused};
-
-/// A command's reasons, where refused alphabets have one among them.
-pub trait OfAlphabet: Drop {
-    ghost use Rattle.std.specs.Prelude.{◌≡◌};
-    ghost use Rattle.ux_alphabet.specs.declared.error.AlphabetError.{AlphabetError};
-
-    /// The reason of a refused alphabet.
-    ghost alphabet_as: { AlphabetError → Self };
-
-    /// The same.
-    fn of_alphabet(error: AlphabetError) -> Self
-        ensures { result ≡ alphabet_as error };
-}
+use ux_plan::{Stop, read_decoded, refused};
+use ux_reasons::Reason;
 
 /// Reads a file of letters, each a word of its own exactly where `chars` says so.
 #[tactic(auto, using(ux_plan::proofs::Decoded::decoding))]
-pub fn read_alphabet<F: Folder, R: OfDecode + OfAlphabet>(
+pub fn read_alphabet<F: Folder>(
     alloc: Global,
     name: &str,
     chars: bool,
     folder: &mut F,
-) -> Result<Alphabet, Stop<R>>
+) -> Result<Alphabet, Stop<Reason>>
     ensures later { IsLater (F.seen folder.old) (F.seen folder.new) }
-    ensures ok { IfOk result (Reads (alphabet_format R.decode_as R.alphabet_as chars) name.now
+    ensures ok { IfOk result (Reads (alphabet_format chars) name.now
         (F.seen folder.old).files) }
-    ensures err { IfErr result (StopsFile (alphabet_format R.decode_as R.alphabet_as chars) name.now
+    ensures err { IfErr result (StopsFile (alphabet_format chars) name.now
         (F.seen folder.old) (F.seen folder.new)) }
 {
     let text = read_decoded(alloc, name, folder)?;
     match Alphabet::read(alloc, text.as_str()) {
         Ok(alphabet) => Ok(with_words(alphabet, chars)),
         Err(AlphabetError::NoMemory) => Err(Stop::NoMemory),
-        Err(error) => Err(refused(alloc, name, R::of_alphabet(error))),
+        Err(error) => Err(refused(alloc, name, Reason::Alphabet(error))),
     }
 }
 

@@ -1,9 +1,8 @@
 //! The alphabet of a command, and the text that is cut by its letters.
 //!
 //! File names go in, and what the readers make of the files comes out, or the stop that names the first
-//! file that isn't accepted. A command has reasons of its own, of which one is that of a file without a
-//! text (`OfDecode`) and one that of a refused alphabet (`OfAlphabet`). What the files of each kind are
-//! stands in `specs/Texts.antt`, and that they are sound in `proofs/TextLaws.antt`.
+//! file that isn't accepted. What the files of each kind are stands in `specs/Texts.antt`, and that they
+//! are sound in `proofs/TextLaws.antt`.
 //!
 //! Begin with `alphabets`: `read_alphabet` reads the letters. `texts` has the calls that read a text in
 //! them: `read_text` its tokens, `read_token_file` only what the token file tells of them.
@@ -16,5 +15,5 @@
 pub mod alphabets;
 pub mod texts;
 
-pub use alphabets::{OfAlphabet, read_alphabet};
+pub use alphabets::read_alphabet;
 pub use texts::{read_letters_and_text, read_text, read_token_file};

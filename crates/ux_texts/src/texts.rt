@@ -6,28 +6,29 @@ ghost use Rattle.ux_plan.specs.Plans.{Comes, Halts, Reads, StopsFile};
 ghost use Rattle.ux_tokens.specs.Reading.{Refuses};
 ghost use Rattle.ux_texts.specs.Texts.{ReadsTokenFile, StopsTokens, letters_and_text, text_format};
 
-use crate::alphabets::{OfAlphabet, read_alphabet};
+use crate::alphabets::read_alphabet;
 use std::alloc::Global;
 use ux_alphabet::Alphabet;
 use ux_base::Folder;
-use ux_plan::{OfDecode, Stop, read_decoded, too_large};
+use ux_plan::{Stop, read_decoded, too_large};
+use ux_reasons::Reason;
 use ux_tokens::{Text, TextError, token_file_of};
 
 /// Reads the letters, and then the text in them.
 #[tactic(auto, using(ux_plan::proofs::PlanSteps::plan_steps))]
-pub fn read_letters_and_text<F: Folder, R: OfDecode + OfAlphabet>(
+pub fn read_letters_and_text<F: Folder>(
     alloc: Global,
     text: &str,
     alphabet: &str,
     chars: bool,
     folder: &mut F,
-) -> Result<(Alphabet, Text), Stop<R>>
+) -> Result<(Alphabet, Text), Stop<Reason>>
     ensures later { IsLater (F.seen folder.old) (F.seen folder.new) }
     ensures ok { IfOk result (λ read.
-        Comes (letters_and_text R.decode_as R.alphabet_as text.now alphabet.now chars)
+        Comes (letters_and_text text.now alphabet.now chars)
         (F.seen folder.old).files (read.0, read.1)) }
     ensures err { IfErr result
-        (Halts (letters_and_text R.decode_as R.alphabet_as text.now alphabet.now chars)
+        (Halts (letters_and_text text.now alphabet.now chars)
         (F.seen folder.old) (F.seen folder.new)) }
 {
     let alphabet = read_alphabet(alloc, alphabet, chars, folder)?;
@@ -37,16 +38,16 @@ pub fn read_letters_and_text<F: Folder, R: OfDecode + OfAlphabet>(
 
 /// Reads a text, as the list of its tokens.
 #[tactic(auto, using(ux_plan::proofs::Decoded::decoding))]
-pub fn read_text<F: Folder, R: OfDecode>(
+pub fn read_text<F: Folder>(
     alloc: Global,
     name: &str,
     alphabet: &Alphabet,
     folder: &mut F,
-) -> Result<Text, Stop<R>>
+) -> Result<Text, Stop<Reason>>
     ensures later { IsLater (F.seen folder.old) (F.seen folder.new) }
-    ensures ok { IfOk result (Reads (text_format R.decode_as alphabet.now) name.now
+    ensures ok { IfOk result (Reads (text_format alphabet.now) name.now
         (F.seen folder.old).files) }
-    ensures err { IfErr result (StopsFile (text_format R.decode_as alphabet.now) name.now
+    ensures err { IfErr result (StopsFile (text_format alphabet.now) name.now
         (F.seen folder.old) (F.seen folder.new)) }
 {
     let text = read_decoded(alloc, name, folder)?;
@@ -58,16 +59,16 @@ pub fn read_text<F: Folder, R: OfDecode>(
 
 /// Reads a text, and gives the token file of its tokens, which aren't kept.
 #[tactic(auto, using(ux_plan::proofs::Decoded::decoding))]
-pub fn read_token_file<F: Folder, R: OfDecode>(
+pub fn read_token_file<F: Folder>(
     alloc: Global,
     name: &str,
     alphabet: &Alphabet,
     folder: &mut F,
-) -> Result<String, Stop<R>>
+) -> Result<String, Stop<Reason>>
     ensures later { IsLater (F.seen folder.old) (F.seen folder.new) }
-    ensures ok { IfOk result (λ file. ReadsTokenFile R.decode_as alphabet.now name.now
+    ensures ok { IfOk result (λ file. ReadsTokenFile alphabet.now name.now
         (F.seen folder.old).files (string_bytes file)) }
-    ensures err { IfErr result (StopsFile (text_format R.decode_as alphabet.now) name.now
+    ensures err { IfErr result (StopsFile (text_format alphabet.now) name.now
         (F.seen folder.old) (F.seen folder.new)) }
 {
     let text = read_decoded(alloc, name, folder)?;
@@ -78,7 +79,7 @@ pub fn read_token_file<F: Folder, R: OfDecode>(
 }
 
 /// The stop that names a text with too many tokens, if memory didn't run out.
-fn no_tokens<R>(alloc: Global, name: &str, error: TextError) -> Stop<R>
+fn no_tokens(alloc: Global, name: &str, error: TextError) -> Stop<Reason>
     ensures { StopsTokens name.now error result }
 {
     match error {

@@ -2,7 +2,7 @@ use Rattle.std.proofs.Common.{◌∙◌, List, subst}
 use Rattle.std.proofs.lemmas.List.{map-id}
 use Rattle.std.proofs.lemmas.Result.{IfOk-weaker}
 use Rattle.ux_dela.specs.declared.entry.Entry.{Entry}
-use Rattle.ux_apply.specs.Tables.{AreApplied}
+use Rattle.ux_apply.specs.Applied.{AreApplied}
 use Rattle.ux_apply.specs.declared.priority.Priority.{Priority}
 use Rattle.ux_cmd_bench.proofs.LongestLemmas.{same_summary}
 use Rattle.ux_cmd_bench.proofs.summary.summary.Goals as goal

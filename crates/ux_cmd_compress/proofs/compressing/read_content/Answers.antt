@@ -1,6 +1,5 @@
 use Rattle.std.proofs.Common.{◌≡◌, true, false, sym, ◌∙◌}
-use Rattle.ux_cmd_compress.specs.Compress.{text_format}
-use Rattle.ux_cmd_compress.specs.declared.reason.Reason.TheVariants.{Image}
+use Rattle.ux_cmd_compress.specs.Contents.{text_format}
 use Rattle.ux_dict.specs.Content.{IsContent}
 use Rattle.ux_image_files.specs.ImageFiles.{image_format, is_image, made}
 use Rattle.ux_image_files.proofs.ByteSteps.{image_err, image_ok, other_err, other_ok}
@@ -9,7 +8,7 @@ use Rattle.ux_cmd_compress.proofs.compressing.read_content.Goals as goal
 pub returns-then-is_image-clause-ok : goal.returns-then-is_image-clause-ok
 returns-then-is_image-clause-ok g c =
     let is : is_image c.args.name.now ≡ true = sym c.is_image.ensures ∙ c.if-is_image.true in
-    image_ok (made (image_format Image) IsContent) text_format (λ content. content.items)
+    image_ok (made image_format IsContent) text_format (λ content. content.items)
     c.args.name.now c.read_imaged.result (is_image c.args.name.now) is
     (g.F.Folder.seen c.args.folder.now).files c.read_imaged.ensures.ok
 
@@ -17,14 +16,14 @@ pub returns-then-is_image-clause-err : goal.returns-then-is_image-clause-err
 returns-then-is_image-clause-err g c =
     let seen = g.F.Folder.seen in
     let is : is_image c.args.name.now ≡ true = sym c.is_image.ensures ∙ c.if-is_image.true in
-    image_err (made (image_format Image) IsContent) text_format (λ content. content.items)
+    image_err (made image_format IsContent) text_format (λ content. content.items)
     c.args.name.now c.read_imaged.result (is_image c.args.name.now) is
     (seen c.args.folder.now) (seen c.read_imaged.new.folder) c.read_imaged.ensures.err
 
 pub returns-else-is_image-clause-ok : goal.returns-else-is_image-clause-ok
 returns-else-is_image-clause-ok g c =
     let is : is_image c.args.name.now ≡ false = sym c.is_image.ensures ∙ c.if-is_image.false in
-    other_ok (made (image_format Image) IsContent) text_format (λ content. content.items)
+    other_ok (made image_format IsContent) text_format (λ content. content.items)
     c.args.name.now c.read_text.result (is_image c.args.name.now) is
     (g.F.Folder.seen c.args.folder.now).files c.read_text.ensures.ok
 
@@ -32,6 +31,6 @@ pub returns-else-is_image-clause-err : goal.returns-else-is_image-clause-err
 returns-else-is_image-clause-err g c =
     let seen = g.F.Folder.seen in
     let is : is_image c.args.name.now ≡ false = sym c.is_image.ensures ∙ c.if-is_image.false in
-    other_err (made (image_format Image) IsContent) text_format (λ content. content.items)
+    other_err (made image_format IsContent) text_format (λ content. content.items)
     c.args.name.now c.read_text.result (is_image c.args.name.now) is
     (seen c.args.folder.now) (seen c.read_text.new.folder) c.read_text.ensures.err

@@ -2,7 +2,7 @@ use Rattle.std.proofs.Common.{List, String, Global, string_bytes, ap, subst}
 use Rattle.std.proofs.lemmas.Result.{IfOk-weaker}
 use Rattle.ux_dela.specs.declared.entry.Entry.{Entry}
 use Rattle.ux_apply.specs.declared.priority.Priority.{Priority}
-use Rattle.ux_apply.specs.Tables.{AreApplied}
+use Rattle.ux_apply.specs.Applied.{AreApplied}
 use Rattle.ux_dictionaries.specs.Dictionaries.{contents_of}
 use Rattle.ux_report.specs.Report.{IsReport}
 use Rattle.ux_cmd_dico.specs.Dico.{IsReportOf}

@@ -3,7 +3,7 @@ use Rattle.std.proofs.lemmas.Result.{err_from_is_err_and}
 use Rattle.ux_alphabet.specs.Letters.{Letters}
 use Rattle.ux_tokens.specs.Tokens.{Token}
 use Rattle.ux_dictionaries.specs.Dictionaries.{contents_of}
-use Rattle.ux_cmd_dico.proofs.DicoLaws.{dico_comes, dico_halts, dico_stops}
+use Rattle.ux_cmd_dico.proofs.DicoSteps.{dico_comes, dico_halts, dico_stops}
 use Rattle.ux_cmd_dico.proofs.reporting.dico.Goals as goal
 
 -- the alphabet or the text stops the reading

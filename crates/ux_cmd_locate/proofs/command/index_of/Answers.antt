@@ -1,7 +1,7 @@
 use Rattle.std.proofs.Common.{ℕ, List, Vec, Global, ap, subst, sym}
 use Rattle.ux_dela.specs.declared.entry.Entry.{Entry}
 use Rattle.ux_apply.specs.declared.priority.Priority.{Priority}
-use Rattle.ux_apply.specs.Tables.{AreApplied}
+use Rattle.ux_apply.specs.Applied.{AreApplied}
 use Rattle.ux_dictionaries.specs.Dictionaries.{contents_of}
 use Rattle.ux_net.specs.Nets.{net_grammar}
 use Rattle.ux_locate.specs.Hits.{IsHit}

@@ -2,8 +2,7 @@ use Rattle.std.proofs.lemmas.Result.{err_from_is_err_and}
 use Rattle.ux_plan.proofs.PlanLaws.{reads_earlier}
 use Rattle.ux_plan.proofs.PlanSteps.{comes_gives, comes_read, halts_at, halts_later}
 use Rattle.ux_texts.specs.Texts.{text_format}
-use Rattle.ux_cmd_tokenize.specs.declared.reason.Reason.{Reason}
-use Rattle.ux_cmd_tokenize.specs.declared.reason.Reason.TheVariants.{Decode}
+use Rattle.ux_reasons.specs.declared.reason.Reason.{Reason}
 use Rattle.ux_cmd_tokenize.proofs.tokenizing.tokenize.Goals as goal
 
 -- the letters were read, and the text stops the reading
@@ -22,7 +21,7 @@ returns-clause-ok g c =
     let letters = c.in_ok-alphabet.alphabet in
     let old = g.F.Folder.seen c.args.folder.now in
     let mid = g.F.Folder.seen c.read_alphabet.new.folder in
-    let has = reads_earlier (text_format Decode letters) c.args.text.now old mid mid a.later
+    let has = reads_earlier (text_format letters) c.args.text.now old mid mid a.later
     file.tokens file.has in
     record {
       read = (letters, file.tokens);

@@ -15,7 +15,7 @@ pub returns-in_err-dic-clause-err : goal.returns-in_err-dic-clause-err
 returns-in_err-dic-clause-err g c =
     let p = err_from_is_err_and c.from_residual.result c.from_residual.ensures.1 in
     let seen = g.F.Folder.seen in
-    let format = dictionary_format g.R.OfDecode.decode_as g.R.OfDela.dela_as g.R.OfImage.image_as in
+    let format = dictionary_format in
     let l = c.loop-name in
     let names = c.args.names.now in
     let stops = rw c.as_str.ensures at c.in_err-dic.ensures.err in
@@ -32,7 +32,7 @@ returns-in_err-push-clause-err g c =
     let r = c.from_residual-in_err-push in
     let p = err_from_is_err_and r.result r.ensures.1 in
     let seen = g.F.Folder.seen in
-    let format = dictionary_format g.R.OfDecode.decode_as g.R.OfDela.dela_as g.R.OfImage.image_as in
+    let format = dictionary_format in
     rw (p.1, p.2) (halts_memory (each format c.args.names.now) (seen c.args.folder.now)
     (seen c.read_dictionary.new.folder))
 
@@ -40,7 +40,7 @@ returns-in_err-push-clause-err g c =
 pub loop-name-preserved : goal.loop-name-preserved
 loop-name-preserved g c =
     let seen = g.F.Folder.seen in
-    let format = dictionary_format g.R.OfDecode.decode_as g.R.OfDela.dela_as g.R.OfImage.image_as in
+    let format = dictionary_format in
     let l = c.loop-name in
     let names = c.args.names.now in
     let read = c.in_ok-dic.ensures in
@@ -64,7 +64,7 @@ loop-name-preserved g c =
 -- all were read
 pub returns-clause-ok : goal.returns-clause-ok
 returns-clause-ok g c =
-    let format = dictionary_format g.R.OfDecode.decode_as g.R.OfDela.dela_as g.R.OfImage.image_as in
+    let format = dictionary_format in
     let l = c.loop-name in
     let read = contents_of l.dics.items in
     let all : length read ≡ length c.args.names.now =

@@ -11,6 +11,6 @@ invariant-loop-name g l = record {
   later : IsLater (g.F.Folder.seen l.fn.folder) (g.F.Folder.seen l.folder);
   count : length (contents_of l.dics.items) ≡ l.name-index;
   rest : IsRest (g.F.Folder.seen l.fn.folder).files
-      (each_from (dictionary_format g.R.OfDecode.decode_as g.R.OfDela.dela_as g.R.OfImage.image_as) l.names (contents_of l.dics.items))
-      (each (dictionary_format g.R.OfDecode.decode_as g.R.OfDela.dela_as g.R.OfImage.image_as) l.names);
+      (each_from dictionary_format l.names (contents_of l.dics.items))
+      (each dictionary_format l.names);
 }

@@ -7,8 +7,8 @@ use Rattle.ux_dictionaries.proofs.dictionaries.read_dictionary.Goals as goal
 pub returns-then-is_image-clause-ok : goal.returns-then-is_image-clause-ok
 returns-then-is_image-clause-ok g c =
     let is : is_image c.args.name.now ≡ true = sym c.is_image.ensures ∙ c.if-is_image.true in
-    image_ok (imaged_format g.R.OfImage.image_as c.args.name.now)
-    (text_format g.R.OfDecode.decode_as g.R.OfDela.dela_as c.args.name.now)
+    image_ok (imaged_format c.args.name.now)
+    (text_format c.args.name.now)
     seen_as c.args.name.now c.read_imaged.result (is_image c.args.name.now) is
     (g.F.Folder.seen c.args.folder.now).files c.read_imaged.ensures.ok
 
@@ -16,16 +16,16 @@ pub returns-then-is_image-clause-err : goal.returns-then-is_image-clause-err
 returns-then-is_image-clause-err g c =
     let seen = g.F.Folder.seen in
     let is : is_image c.args.name.now ≡ true = sym c.is_image.ensures ∙ c.if-is_image.true in
-    image_err (imaged_format g.R.OfImage.image_as c.args.name.now)
-    (text_format g.R.OfDecode.decode_as g.R.OfDela.dela_as c.args.name.now)
+    image_err (imaged_format c.args.name.now)
+    (text_format c.args.name.now)
     seen_as c.args.name.now c.read_imaged.result (is_image c.args.name.now) is
     (seen c.args.folder.now) (seen c.read_imaged.new.folder) c.read_imaged.ensures.err
 
 pub returns-else-is_image-clause-ok : goal.returns-else-is_image-clause-ok
 returns-else-is_image-clause-ok g c =
     let is : is_image c.args.name.now ≡ false = sym c.is_image.ensures ∙ c.if-is_image.false in
-    other_ok (imaged_format g.R.OfImage.image_as c.args.name.now)
-    (text_format g.R.OfDecode.decode_as g.R.OfDela.dela_as c.args.name.now)
+    other_ok (imaged_format c.args.name.now)
+    (text_format c.args.name.now)
     seen_as c.args.name.now c.read_text.result (is_image c.args.name.now) is
     (g.F.Folder.seen c.args.folder.now).files c.read_text.ensures.ok
 
@@ -33,7 +33,7 @@ pub returns-else-is_image-clause-err : goal.returns-else-is_image-clause-err
 returns-else-is_image-clause-err g c =
     let seen = g.F.Folder.seen in
     let is : is_image c.args.name.now ≡ false = sym c.is_image.ensures ∙ c.if-is_image.false in
-    other_err (imaged_format g.R.OfImage.image_as c.args.name.now)
-    (text_format g.R.OfDecode.decode_as g.R.OfDela.dela_as c.args.name.now)
+    other_err (imaged_format c.args.name.now)
+    (text_format c.args.name.now)
     seen_as c.args.name.now c.read_text.result (is_image c.args.name.now) is
     (seen c.args.folder.now) (seen c.read_text.new.folder) c.read_text.ensures.err

@@ -15,6 +15,6 @@ returns-clause-ok g c =
       priority = subst (λ (n : List ℕ). IsPriorityOf n c.of.result) c.base_of.ensures c.of.ensures;
       content = IsContent-itself content c.in_ok-lexicon.ensures.kept;
     } in
-    made_reads (image_format g.R.OfImage.image_as) (IsDictionaryOf name) name
+    made_reads image_format (IsDictionaryOf name) name
     (g.F.Folder.seen c.args.folder.now).files content (c.of.result, content)
     c.in_ok-lexicon.ensures.ok dic

@@ -4,6 +4,7 @@ use Rattle.ux_dela.specs.Files.{Refuses}
 use Rattle.ux_dict.specs.FileContent.{IsFileContent}
 use Rattle.ux_lexicon.specs.Any.{content_of}
 use Rattle.ux_plan.specs.Plans.{said_as}
+use Rattle.ux_reasons.specs.declared.reason.Reason.TheVariants.{Decode, Dela}
 use Rattle.ux_plan.proofs.Decoded.{decoded_reads}
 use Rattle.ux_dictionaries.specs.Dictionaries.{IsDictionary}
 use Rattle.ux_dictionaries.proofs.dictionaries.read_text.Goals as goal
@@ -19,7 +20,6 @@ returns-in-Ok-clause-ok g c =
       content = subst (λ (t : List ℕ). IsFileContent t content) c.as_str.ensures.value
           c.in-Ok.ensures.ok;
     } in
-    decoded_reads g.R.OfDecode.decode_as
-    (said_as g.R.OfDela.dela_as (IsDictionary name) Refuses) name
+    decoded_reads Decode (said_as Dela (IsDictionary name) Refuses) name
     (g.F.Folder.seen c.args.folder.now).files (string_bytes c.in_ok-text.text)
     (c.of.result, content) c.in_ok-text.ensures.ok dic

@@ -3,12 +3,12 @@ use Rattle.ux_grammars.proofs.CompilingLemmas.{none_missing}
 use Rattle.ux_grammars.proofs.compiling.compile.Goals as goal
 
 pub refused_net-requires : goal.refused_net-requires
-refused_net-requires g c =
+refused_net-requires c =
     none_missing c.args.alphabet.now (drawn c.args.graphs.items) c.in-Err.error c.requires.whole
     c.in-Err.ensures.err
 
 pub returns-in-Ok-clause-compiles : goal.returns-in-Ok-clause-compiles
-returns-in-Ok-clause-compiles g c = record {
+returns-in-Ok-clause-compiles c = record {
   same = c.in-Ok.ensures.words;
   marked = c.in-Ok.ensures.marked;
   told = c.in-Ok.ensures.told;

@@ -14,9 +14,6 @@ loop-alloc-preserved g c =
     let seen = g.F.Folder.seen in
     let l = c.loop-alloc in
     let read = c.in_ok-read_next.ensures in
-    let decode_as = g.R.OfDecode.decode_as in
-    let grf_as = g.R.OfGrammar.grf_as in
-    let too_many = g.R.OfGrammar.too_many in
     let graphs = drawn l.graphs.items in
     let len = length-map l.graphs.items drawn_of in
     let few : length graphs < MOST_READS = omega (arith, read.few, len) in
@@ -34,8 +31,8 @@ loop-alloc-preserved g c =
         length-append graphs (read.ok.value ∷ []),
       );
       rest = loop_more (next_name c.args.word.now) (file_of c.args.word.now)
-          (graph_format decode_as grf_as too_many) MOST_READS
-          (graphs_plan decode_as grf_as too_many c.args.word.now) (seen c.args.folder.now)
+          graph_format MOST_READS
+          (graphs_plan c.args.word.now) (seen c.args.folder.now)
           (seen l.folder) l.invariant.later graphs few l.invariant.rest (drawn all) read.ok;
     }
 
@@ -49,8 +46,8 @@ returns-in_err-read_next-clause-err g c =
     let len = length-map l.graphs.items drawn_of in
     let few : length graphs < MOST_READS = omega (arith, l.invariant.few, len) in
     rw (p.1, p.2) (loop_stops (next_name c.args.word.now) (file_of c.args.word.now)
-    (graph_format g.R.OfDecode.decode_as g.R.OfGrammar.grf_as g.R.OfGrammar.too_many) MOST_READS
-    (graphs_plan g.R.OfDecode.decode_as g.R.OfGrammar.grf_as g.R.OfGrammar.too_many c.args.word.now)
+    graph_format MOST_READS
+    (graphs_plan c.args.word.now)
     (seen c.args.folder.now) (seen l.folder) l.invariant.later graphs few l.invariant.rest
     (seen c.read_next.new.folder) c.in_err-read_next.field-0.0 c.in_err-read_next.ensures.err)
 
@@ -69,8 +66,8 @@ returns-clause-ok g c =
       l.graphs.ok.0,
     ) in
     loop_ends (next_name c.args.word.now) (file_of c.args.word.now)
-    (graph_format g.R.OfDecode.decode_as g.R.OfGrammar.grf_as g.R.OfGrammar.too_many) MOST_READS
-    (graphs_plan g.R.OfDecode.decode_as g.R.OfGrammar.grf_as g.R.OfGrammar.too_many c.args.word.now)
+    graph_format MOST_READS
+    (graphs_plan c.args.word.now)
     (seen c.args.folder.now) (seen l.folder) l.invariant.later graphs few l.invariant.rest
     (none_left c.args.word.now l.names.keys l.graphs.items l.invariant.reading past)
 

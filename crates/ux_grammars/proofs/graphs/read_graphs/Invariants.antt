@@ -13,9 +13,9 @@ invariant-loop-alloc g l = record {
   reading : IsReading l.word l.names.keys l.graphs.items;
   few : length l.graphs.items ≤ MOST_GRAPHS;
   rest : IsRest (g.F.Folder.seen l.fn.folder).files
-      (graphs_from g.R.OfDecode.decode_as g.R.OfGrammar.grf_as g.R.OfGrammar.too_many l.word
+      (graphs_from l.word
       (MOST_READS - length (drawn l.graphs.items)) (drawn l.graphs.items))
-      (graphs_plan g.R.OfDecode.decode_as g.R.OfGrammar.grf_as g.R.OfGrammar.too_many l.word);
+      (graphs_plan l.word);
 }
 
 -- a grammar has no more graphs than it may have

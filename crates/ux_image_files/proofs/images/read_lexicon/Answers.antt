@@ -12,6 +12,6 @@ returns-clause-err g c =
     let error = c.in-Err.error in
     let why = subst (λ (f : List ℕ). (error ≡ NoMemory) ⊎ RefusesImage f error)
     c.deref.ensures.value c.in-Err.ensures.err in
-    image_refused g.R.OfImage.image_as c.args.name.now (seen c.args.folder.now)
+    image_refused c.args.name.now (seen c.args.folder.now)
     (seen c.read_bytes.new.folder) file error c.stop_of.result c.in_ok-bytes.ensures.ok why
     c.stop_of.ensures

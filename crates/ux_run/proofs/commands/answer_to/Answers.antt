@@ -1,24 +1,30 @@
 use Rattle.std.proofs.Common.{◌≡◌}
 use Rattle.ux_command_line.specs.declared.help.TheConstants.{HELP, VERSION}
 use Rattle.ux_cmd_bench.specs.Bench.{IsSummaryOf}
-use Rattle.ux_run.proofs.Ending.{unread_answers, unread_denies}
+use Rattle.ux_cmd_dico.specs.Dico.{dico}
+use Rattle.ux_run.proofs.Ending.{told_answers, told_denies, unread_answers, unread_denies}
 use Rattle.ux_run.proofs.commands.answer_to.Goals as goal
 
-pub returns-in-Tokenize-clause-ok : goal.returns-in-Tokenize-clause-ok
-returns-in-Tokenize-clause-ok g c = rw c.in-Tokenize.is c.tokens_of.ensures.ok
-
-pub returns-in-Tokenize-clause-err : goal.returns-in-Tokenize-clause-err
-returns-in-Tokenize-clause-err g c = rw c.in-Tokenize.is c.tokens_of.ensures.err
-
+-- the names of the dictionaries are those of the request
 pub returns-in-Dico-clause-ok : goal.returns-in-Dico-clause-ok
 returns-in-Dico-clause-ok g c =
-    let answers = rw c.as_slice.ensures at c.report_of.ensures.ok in
-    rw c.in-Dico.is answers
+    let r = c.in-Dico in
+    let called = c.by_command-in-Dico in
+    let files = (g.F.Folder.seen c.args.folder.now).files in
+    let answers = rw (c.as_str-text.ensures, c.as_str-alphabet.ensures, c.as_slice.ensures) at
+    c.dico.ensures.ok in
+    rw r.is (told_answers (dico r.text r.alphabet r.dics r.chars) c.dico.result called.result
+    called.ensures files answers)
 
 pub returns-in-Dico-clause-err : goal.returns-in-Dico-clause-err
 returns-in-Dico-clause-err g c =
-    let denies = rw c.as_slice.ensures at c.report_of.ensures.err in
-    rw c.in-Dico.is denies
+    let r = c.in-Dico in
+    let called = c.by_command-in-Dico in
+    let seen = g.F.Folder.seen in
+    let halts = rw (c.as_str-text.ensures, c.as_str-alphabet.ensures, c.as_slice.ensures) at
+    c.dico.ensures.err in
+    rw r.is (told_denies (dico r.text r.alphabet r.dics r.chars) c.dico.result called.result
+    called.ensures (seen c.args.folder.now) (seen c.dico.new.folder) halts)
 
 pub returns-in-Help-clause-ok : goal.returns-in-Help-clause-ok
 returns-in-Help-clause-ok g c =

@@ -1,0 +1,102 @@
+-- The line that tells why a file is refused. Public: the crate's public contracts speak of it.
+use Rattle.std.specs.Prelude.{ℕ, List, [], ◌∷◌, ◌++◌, codes}
+use Rattle.std.specs.Fmt.{decimal}
+use Rattle.ux_decode.specs.declared.error.DecodeError.{DecodeError}
+use Rattle.ux_decode.specs.declared.error.DecodeError.TheVariants as decode_error
+use Rattle.ux_alphabet.specs.declared.error.AlphabetError.{AlphabetError}
+use Rattle.ux_alphabet.specs.declared.error.AlphabetError.TheVariants as alphabet_error
+use Rattle.ux_grf.specs.declared.error.GrfError.{GrfError}
+use Rattle.ux_grf.specs.declared.error.GrfError.TheVariants as grf_error
+use Rattle.ux_net.specs.declared.error.NetError.{NetError}
+use Rattle.ux_net.specs.declared.error.NetError.TheVariants as net_error
+use Rattle.ux_dela.specs.declared.error.DelaError.{DelaError}
+use Rattle.ux_dela.specs.declared.error.DelaError.TheVariants as dela_error
+use Rattle.ux_image_reader.specs.declared.error.ImageError.{ImageError}
+use Rattle.ux_image_reader.specs.declared.error.ImageError.TheVariants as image_error
+use Rattle.ux_reasons.specs.declared.reason.Reason.{Reason}
+use Rattle.ux_reasons.specs.declared.reason.Reason.TheVariants.{Decode, Alphabet, Grf, Net, Dela, Image, TooManyGraphs}
+
+-- texts, one after the other
+abbrev pub joined : List (List ℕ) → List ℕ
+joined [] = []
+joined (text ∷ texts) = text ++ joined texts
+
+-- a reason's innermost name, and then its fields
+abbrev pub decode_reason : DecodeError → List (List ℕ)
+decode_reason (decode_error.BadUtf8 place) = codes "BadUtf8 place=" ∷ decimal place ∷ []
+decode_reason (decode_error.LoneSurrogate place) = codes "LoneSurrogate place=" ∷ decimal place ∷ []
+decode_reason decode_error.OddLength = codes "OddLength" ∷ []
+decode_reason decode_error.NoMemory = codes "NoMemory" ∷ []
+
+-- the same of an alphabet
+abbrev pub alphabet_reason : AlphabetError → List (List ℕ)
+alphabet_reason (alphabet_error.BadLine line) = codes "BadLine line=" ∷ decimal line ∷ []
+alphabet_reason (alphabet_error.EmptyRange line) = codes "EmptyRange line=" ∷ decimal line ∷ []
+alphabet_reason alphabet_error.NoMemory = codes "NoMemory" ∷ []
+
+-- a refusal at a place of what has this number
+abbrev pub at_place : (what : List ℕ) (number place : ℕ) → List (List ℕ)
+at_place what number place = what ∷ decimal number ∷ codes " place=" ∷ decimal place ∷ []
+
+-- the same of a graph
+abbrev pub grf_reason : GrfError → List (List ℕ)
+grf_reason grf_error.NoHeader = codes "NoHeader" ∷ []
+grf_reason grf_error.BadCount = codes "BadCount" ∷ []
+grf_reason (grf_error.BadBoxLine node) = codes "BadBoxLine node=" ∷ decimal node ∷ []
+grf_reason (grf_error.BadTarget node) = codes "BadTarget node=" ∷ decimal node ∷ []
+grf_reason (grf_error.BadContent node place) = at_place (codes "BadContent node=") node place
+grf_reason grf_error.NoMemory = codes "NoMemory" ∷ []
+
+-- the same of a dictionary
+abbrev pub dela_reason : DelaError → List (List ℕ)
+dela_reason (dela_error.NoComma line place) = at_place (codes "NoComma line=") line place
+dela_reason (dela_error.NoDot line place) = at_place (codes "NoDot line=") line place
+dela_reason (dela_error.EmptyForm line place) = at_place (codes "EmptyForm line=") line place
+dela_reason (dela_error.EmptyCode line place) = at_place (codes "EmptyCode line=") line place
+dela_reason (dela_error.BadEscape line place) = at_place (codes "BadEscape line=") line place
+dela_reason (dela_error.BadClass line place) = at_place (codes "BadClass line=") line place
+dela_reason dela_error.NoMemory = codes "NoMemory" ∷ []
+
+-- a refusal at a node of a graph
+abbrev pub at_node : (what graph : List ℕ) (node : ℕ) → List (List ℕ)
+at_node what graph node = what ∷ graph ∷ codes " node=" ∷ decimal node ∷ []
+
+-- a mask text that is bad at a place, in a node of a graph
+abbrev pub bad_mask : (graph : List ℕ) (node place : ℕ) → List (List ℕ)
+bad_mask graph node place = codes "BadMask graph=" ∷ graph ∷ codes " node=" ∷ decimal node
+    ∷ codes " place=" ∷ decimal place ∷ []
+
+-- the same of a grammar
+abbrev pub net_reason : NetError → List (List ℕ)
+net_reason (net_error.MissingGraph name) = codes "MissingGraph name=" ∷ name ∷ []
+net_reason (net_error.BadMask graph node place) = bad_mask graph node place
+net_reason (net_error.ContextClose graph node) = at_node (codes "ContextClose graph=") graph node
+net_reason (net_error.NegativeRecursion graph) = codes "NegativeRecursion graph=" ∷ graph ∷ []
+net_reason (net_error.EmptyLoop graph node) = at_node (codes "EmptyLoop graph=") graph node
+net_reason (net_error.LeftRecursion graph node) = at_node (codes "LeftRecursion graph=") graph node
+net_reason net_error.NoMemory = codes "NoMemory" ∷ []
+
+-- the same of an image
+abbrev pub image_reason : ImageError → List (List ℕ)
+image_reason image_error.BadMagic = codes "BadMagic" ∷ []
+image_reason image_error.Short = codes "Short" ∷ []
+image_reason (image_error.BadState offset) = codes "BadState offset=" ∷ decimal offset ∷ []
+image_reason (image_error.BadCode number) = codes "BadCode n=" ∷ decimal number ∷ []
+image_reason image_error.Trailing = codes "Trailing" ∷ []
+image_reason image_error.TooMany = codes "TooMany" ∷ []
+image_reason image_error.NoMemory = codes "NoMemory" ∷ []
+
+-- the same of any file
+abbrev pub reason_of : Reason → List (List ℕ)
+reason_of (Decode error) = decode_reason error
+reason_of (Alphabet error) = alphabet_reason error
+reason_of (Grf error) = grf_reason error
+reason_of (Net error) = net_reason error
+reason_of (Dela error) = dela_reason error
+reason_of (Image error) = image_reason error
+reason_of TooManyGraphs = codes "TooManyGraphs" ∷ []
+
+-- the line of a file that is refused, by its reason
+abbrev pub refusal : (file : List ℕ) → (reason : List (List ℕ)) → List ℕ
+refusal file reason =
+    joined (codes "refused: " ∷ file ∷ codes ": " ∷ (reason ++ codes "\n" ∷ []))

@@ -1,0 +1,38 @@
+//! Why a file is refused.
+
+use ux_alphabet::AlphabetError;
+use ux_decode::DecodeError;
+use ux_dela::DelaError;
+use ux_grf::GrfError;
+use ux_image_reader::ImageError;
+use ux_net::NetError;
+use ux_plan::OfDecode;
+
+/// Why a file is refused.
+#[derive(Drop)]
+pub enum Reason {
+    /// Why the file has no text.
+    Decode(DecodeError),
+    /// The alphabet's own reason.
+    Alphabet(AlphabetError),
+    /// The graph's own reason.
+    Grf(GrfError),
+    /// The grammar's own reason.
+    Net(NetError),
+    /// The dictionary's own reason.
+    Dela(DelaError),
+    /// The image's own reason.
+    Image(ImageError),
+    /// The grammar has 65,535 graphs before this one.
+    TooManyGraphs,
+}
+
+impl OfDecode for Reason {
+    ghost use Rattle.ux_reasons.specs.declared.reason.Reason.TheVariants as reason;
+
+    ghost decode_as = { reason.Decode };
+
+    fn of_decode(error: DecodeError) -> Reason {
+        Reason::Decode(error)
+    }
+}

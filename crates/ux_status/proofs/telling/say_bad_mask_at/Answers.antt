@@ -1,9 +1,0 @@
-use Rattle.std.proofs.Common.{rules}
-use Rattle.ux_status.proofs.telling.say_bad_mask_at.Goals as goal
-
--- by name, so that a wrong body is refused at once
-pub returns-clause-line : goal.returns-clause-line
-returns-clause-line g c = search rules
-
-pub returns-clause-front : goal.returns-clause-front
-returns-clause-front g c = search rules
