@@ -2,21 +2,25 @@
 # nothing is proved.
 # `make build` proves all crates that the program stands on, lowest first, and builds it: crates/unitex/out/unitex.
 # `make tour` runs every example of the documents by the built program, and compares with what they show.
+# `make rows` runs the rows of the top call by the built program over real files, and compares.
 # `make install PREFIX=DIR` puts the built program and its manual page under DIR.
 # `make bench` times searches beside GNU grep, the tokens of a text beside a C program, dictionaries beside wc and
 # grep, and images beside a map of the crate fst, which it compiles from Debian's package of its sources.
 # `make images` changes each byte of two small images, and compares what the built program says with a reading by itself.
+# `make wrong-bodies NAMES="ux_dela ux_dict"` tries the wrong bodies of these crates that the gate leaves out, each of which the
+# prover has to refuse; `make wrong-bodies SINCE=COMMIT` those of each crate whose own files differ from that commit's, and
+# `make wrong-bodies` all of them, which takes hours where little of it was tried before.
 # `make gate` is the merge gate and the test command.
 
 PREFIX ?= /usr/local
 
-.PHONY: example build tour install bench images gate
+.PHONY: example build tour rows install bench images wrong-bodies gate
 
 # A run by `rt try` is given copies of these, since it sees no files but those that it is handed.
 FILES := time.grf part.grf text.txt alphabet.txt
 
-# In the order of crates.txt, which begins with the lowest layer. Crates of rows have tests alone, so no program needs them.
-CRATES := $(filter-out ux_tests_files ux_tests_dictionaries ux_tests_search,$(shell sed -n 's/^\([a-z0-9_]*\).*:.*/\1/p' crates.txt))
+# In the order of crates.txt, which begins with the lowest layer. Those of tests and of rows aren't needed by the program.
+CRATES := $(filter-out ux_tests_files ux_tests_dictionaries ux_tests_search unitex_rows,$(shell sed -n 's/^\([a-z0-9_]*\).*:.*/\1/p' crates.txt))
 
 example:
 	@echo 'unitex locate time.grf text.txt alphabet.txt, unproved: compiling, about a minute'
@@ -35,6 +39,9 @@ build:
 tour:
 	@docs/names.py
 	@docs/tour.py
+
+rows:
+	@.ci/rows.py
 
 install:
 	@test -x crates/unitex/out/unitex || { echo 'build the program first: make build' >&2; exit 1; }
@@ -57,5 +64,8 @@ bench:
 images:
 	@bench/image_bytes.py
 
+wrong-bodies:
+	@.ci/wrong_bodies.py $(if $(SINCE),--since $(SINCE)) $(NAMES)
+
 gate:
-	@rt ci
+	@.ci/run

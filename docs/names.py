@@ -3,6 +3,7 @@
 
 - Each word in a table of docs/DEFINITIONS.md is declared in the file of specs/ that its row or its section names.
 - Each function in a table of docs/PROVED.md is one of its crate, and each clause is one of that crate's contracts.
+- Each wrong body in a table of docs/PROVED.md is an edit that the gate tries.
 - Each definition that a clause of a public function cites stands in docs/DEFINITIONS.md.
 
 A name in italics, as *`this`*, isn't looked for: it is of something that isn't there yet.
@@ -63,16 +64,17 @@ def defined(problems):
 
 
 def lemmas(where, cell, problems):
-    """Looks for lemmas, each in a file of proofs/ that the cell names after it."""
+    """Looks for lemmas, each in a file of proofs/ or specs/ that the cell names after it."""
     crate, names = "", []
     for name in NAME.findall(cell):
         if not name.endswith(".antt"):
             names.append(name)
             continue
         crate = name.split("/")[0] if "/" in name else crate
-        path = os.path.join(CRATES, crate, "proofs", name.split("/")[-1])
+        part = "specs" if "/specs/" in name else "proofs"
+        path = os.path.join(CRATES, crate, part, name.split("/")[-1])
         text = text_of(path) if os.path.exists(path) else ""
-        problems += [f"{where}: {lemma} isn't in {crate}/proofs/{name.split('/')[-1]}"
+        problems += [f"{where}: {lemma} isn't in {crate}/{part}/{name.split('/')[-1]}"
                      for lemma in names or [""] if not re.search(rf"^ *pub {re.escape(lemma)}", text, re.M)]
         names = []
 
@@ -85,11 +87,14 @@ def proved(problems):
             found = re.search(r"`(ux_\w+)`", row)
             crate = found[1] if found else crate
             continue
-        if row[0] in ("Clause of `run`", "Command", "Status", "Crate", "Function", "Law"):
+        if row[0] in ("Clause of `run`", "Command", "Status", "Crate", "Function", "Law", "Wrong program"):
             table = row[0]
         if table == "Law":
             lemmas(f"{page}:{number}", PLANNED.sub("", row[-1]), problems)
-        if table in ("Law", "Command", "Status") or row[0] == table:
+        if table == "Wrong program" and row[0] != table:
+            edits = [os.path.join(NAME.findall(row[1])[0], "must-fail", f"{name}.edit") for name in NAME.findall(row[2])]
+            problems += [f"{page}:{number}: there is no {path}" for path in edits if not os.path.exists(os.path.join(CRATES, path))]
+        if table in ("Law", "Command", "Status", "Wrong program") or row[0] == table:
             continue
         if re.fullmatch(r"`ux_\w+`", row[0]):
             crate, cell = row[0].strip("`"), row[1]
