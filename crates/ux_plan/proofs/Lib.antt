@@ -1,4 +1,5 @@
 pub mod Decoded
+mod Examples
 pub mod FileNameLemmas
 pub mod Growing
 pub mod InTurn

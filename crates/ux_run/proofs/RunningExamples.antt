@@ -1,14 +1,15 @@
 -- What words of the command line ask for, at small values.
-use Rattle.std.proofs.Common.{◌≡◌, ℕ, [], ◌∷◌, codes}
+use Rattle.std.proofs.Common.{◌≡◌, ℕ, [], ◌∷◌, Some, codes, inl, refl}
 use Rattle.ux_base.specs.Outside.{Seen}
 use Rattle.ux_plan.specs.declared.stop.Stop.{Stop}
 use Rattle.ux_plan.specs.declared.stop.Stop.TheVariants as stop
 use Rattle.ux_plan.specs.Plans.{Halts, IsMemory}
+use Rattle.ux_plan.specs.Stopping.{Stopped}
 use Rattle.ux_command_line.specs.declared.request.Request.TheVariants.{Bench}
 use Rattle.ux_reasons.specs.declared.reason.Reason.{Reason}
 use Rattle.ux_status.specs.declared.status.Status.{Status}
 use Rattle.ux_status.specs.declared.status.Status.TheVariants.{NoMemory}
-use Rattle.ux_run.specs.Running.{Denies, IsAsked, asked_by, asked_of, status_of}
+use Rattle.ux_run.specs.Running.{Denies, IsAsked, IsStopped, asked_by, asked_of, status_of}
 
 -- a compiled graph is not searched by yet
 compiled_graph :
@@ -53,6 +54,13 @@ an_image = tt
 -- an image is written of a dictionary of any kind
 a_written_image : IsAsked (asked_by (codes "compress" ∷ codes "d.udi" ∷ []))
 a_written_image = tt
+
+-- a dictionary that isn't there is what is told of it
+a_missing_dictionary : (seen : Seen) → seen.files ≡ Some [] →
+    IsStopped (asked_by (codes "check" ∷ codes "d.dic" ∷ [])) seen (stop.Absent (codes "d.dic"))
+unfolding Stopped
+a_missing_dictionary seen tells =
+    record { files = []; tells = tells; stopped = inl (refl, refl) }
 
 -- lemmas stand in a file of any name
 some_lemmas : IsAsked (asked_by (codes "check" ∷ codes "--delas" ∷ codes "d.udi" ∷ []))
