@@ -1,8 +1,10 @@
 //! Minimal automata of a few forms, with their states as they were found by hand.
+//!
+//! The least states of forms are shown by rows of `unitex_rows`, in the images that `compress`
+//! writes.
 
 use crate::comparing::compare;
 use std::alloc::{AllocError, Global};
-use std::process::Abort;
 use std::test::Fail;
 use ux_base::{Lst, Mem};
 use ux_dawg::{
@@ -12,17 +14,12 @@ use ux_dawg::{
 /// The forms of a row: each with its number.
 type Forms = &'static [(&'static str, u32)];
 
-/// The characters of the text.
-fn letters_of(alloc: Global, text: &str) -> Result<Vec<char>, AllocError> {
-    text.chars().collect(alloc)
-}
-
 /// The forms, as characters.
 fn forms_of(alloc: Global, row: Forms) -> Result<Vec<Form>, AllocError> {
     let mut forms = Vec::new(alloc);
     for (text, code) in row {
         forms.push(Form {
-            letters: Lst::new(letters_of(alloc, text)?),
+            letters: Lst::new(text.chars().collect(alloc)?),
             code: *code,
         })?;
     }
@@ -85,109 +82,53 @@ fn automaton_of_states(alloc: Global, row: States) -> Mem<Option<Dawg>> {
 fn shown(alloc: Global, automaton: Option<Dawg>) -> Mem<String> {
     let mut text = String::new(alloc);
     let Some(automaton) = automaton else {
-        text.push_str("none")?;
         return Ok(text);
     };
     for number in 0..automaton.len() {
-        push_state(alloc, &automaton, number, &mut text)?;
+        match automaton.final_of(number) {
+            Some(code) => text.push_str(format!(in alloc; "{code}")?.as_str())?,
+            None => text.push('-')?,
+        }
+        for edge in automaton.edges(number) {
+            text.push_str(format!(in alloc; "{}{}", edge.letter, edge.target)?.as_str())?;
+        }
+        text.push(' ')?;
     }
     Ok(text)
 }
 
-/// Adds a state.
-fn push_state(alloc: Global, automaton: &Dawg, number: usize, text: &mut String) -> Mem<()> {
-    match automaton.final_of(number) {
-        Some(code) => text.push_str(format!(in alloc; "{code}")?.as_str())?,
-        None => text.push('-')?,
-    }
-    for edge in automaton.edges(number) {
-        text.push(edge.letter)?;
-        text.push_str(format!(in alloc; "{}", edge.target)?.as_str())?;
-    }
-    text.push(' ')?;
-    Ok(())
-}
-
-#[test]
-fn builds_the_least_states(rt: HostRuntime) -> Result<(), Fail> {
-    const ROWS: &[(&str, Forms, &str)] = &[
-        ("no form", &[], "- "),
-        (
-            "the crate's example",
-            &[("cat", 0), ("cats", 1)],
-            "1 0s0 -t1 -a2 -c3 ",
-        ),
-        (
-            "forms that begin each other",
-            &[("a", 0), ("aa", 0), ("aaa", 0)],
-            "0 0a0 0a1 -a2 ",
-        ),
-        (
-            "forms that end apart, of one number",
-            &[("ab", 0), ("ac", 0)],
-            "0 -b0c0 -a1 ",
-        ),
-        (
-            "forms that end apart, of two numbers",
-            &[("ab", 0), ("ac", 1)],
-            "0 1 -b0c1 -a2 ",
-        ),
-        (
-            "one suffix of two numbers",
-            &[("as", 0), ("bs", 1)],
-            "0 -s0 1 -s2 -a1b3 ",
-        ),
-        (
-            "one number after two suffixes",
-            &[("ab", 0), ("c", 0)],
-            "0 -b0 -a1c0 ",
-        ),
-        (
-            "a suffix that is shared",
-            &[("tap", 0), ("taps", 1), ("top", 0), ("tops", 1)],
-            "1 0s0 -p1 -a2o2 -t3 ",
-        ),
-        ("a form twice", &[("a", 0), ("a", 1)], "none"),
-        ("forms out of order", &[("b", 0), ("a", 0)], "none"),
-        ("an empty form", &[("", 0)], "none"),
-        (
-            "by code points",
-            &[("z", 0), ("\u{e9}", 0)],
-            "0 -z0\u{e9}0 ",
-        ),
-    ];
-    for (name, forms, want) in ROWS {
-        let got = shown(rt.alloc(), automaton_of(rt.alloc(), forms)?)?;
-        compare(&rt, name, got.as_str(), want);
-    }
-    Ok(())
-}
-
 #[test]
 fn adds_the_forms_that_may_follow(rt: HostRuntime) -> Result<(), Fail> {
-    const ROWS: &[(&str, Forms, &str)] = &[
-        ("no form", &[], "- "),
+    // Forms, the automaton of all of them, if they are sorted, and that of those that may follow.
+    const ROWS: &[(&str, Forms, &str, &str)] = &[
+        ("no form", &[], "- ", "- "),
         (
             "each may follow",
             &[("cat", 0), ("cats", 1)],
             "1 0s0 -t1 -a2 -c3 ",
+            "1 0s0 -t1 -a2 -c3 ",
         ),
-        ("an empty form", &[("", 0), ("a", 1)], "1 -a0 "),
-        ("a form twice", &[("a", 0), ("a", 1)], "0 -a0 "),
+        ("an empty form alone", &[("", 0)], "", "- "),
+        ("an empty form", &[("", 0), ("a", 1)], "", "1 -a0 "),
+        ("a form twice", &[("a", 0), ("a", 1)], "", "0 -a0 "),
         (
             "a front of the last form",
             &[("ab", 0), ("a", 1)],
+            "",
             "0 -b0 -a1 ",
         ),
         (
             "one that comes too late",
             &[("b", 0), ("a", 1), ("c", 0)],
+            "",
             "0 -b0c0 ",
         ),
     ];
-    for (name, forms, want) in ROWS {
-        let got = shown(rt.alloc(), Some(added(rt.alloc(), forms)?))?;
-        compare(&rt, name, got.as_str(), want);
+    for (name, forms, all, some) in ROWS {
+        let built = shown(rt.alloc(), automaton_of(rt.alloc(), forms)?)?;
+        compare(&rt, name, built.as_str(), *all);
+        let added = shown(rt.alloc(), Some(added(rt.alloc(), forms)?))?;
+        compare(&rt, name, added.as_str(), *some);
     }
     Ok(())
 }
@@ -210,39 +151,60 @@ fn keeps_the_states_that_are_given(rt: HostRuntime) -> Result<(), Fail> {
             &[(None, &[]), (Some(7), &[])],
             "- 7 ",
         ),
-        ("no state", &[], "none"),
-        (
-            "an edge to the state itself",
-            &[(None, &[('a', 0)])],
-            "none",
-        ),
+        ("no state", &[], ""),
+        ("an edge to the state itself", &[(None, &[('a', 0)])], ""),
         (
             "an edge to a higher number",
             &[(None, &[('a', 1)]), (Some(0), &[])],
-            "none",
+            "",
         ),
         (
             "characters that descend",
             &[(Some(0), &[]), (None, &[('b', 0), ('a', 0)])],
-            "none",
+            "",
         ),
         (
             "a character twice",
             &[(Some(0), &[]), (None, &[('a', 0), ('a', 0)])],
-            "none",
+            "",
         ),
     ];
     for (name, states, want) in ROWS {
         let got = shown(rt.alloc(), automaton_of_states(rt.alloc(), states)?)?;
-        compare(&rt, name, got.as_str(), want);
+        compare(&rt, name, got.as_str(), *want);
     }
     Ok(())
 }
 
+/// The number of the form, if it is one, as the steps tell it, and as the automaton does.
+fn found(alloc: Global, automaton: &Dawg, form: &str) -> Mem<(Option<u32>, Option<u32>)> {
+    let mut state = Some(automaton.root());
+    for letter in form.chars() {
+        state = match state {
+            Some(number) => automaton.step(number, letter).map(|next| next as usize),
+            None => None,
+        };
+    }
+    let letters = form.chars().collect::<Vec<_>>(alloc)?;
+    let by_steps = match state {
+        Some(number) => automaton.final_of(number),
+        None => None,
+    };
+    Ok((by_steps, automaton.number_of(&letters)))
+}
+
 #[test]
-fn gives_each_edge_by_its_place(rt: HostRuntime) -> Result<(), Fail> {
+fn finds_the_forms_and_their_edges(rt: HostRuntime) -> Result<(), Fail> {
     // The states of `ab` with 0 and `c` with 1: `0 -b0 1 -a1c2 `.
-    const ROWS: &[(&str, usize, usize, Option<(char, u32)>)] = &[
+    const FORMS: &[(&str, Option<u32>)] = &[
+        ("ab", Some(0)),
+        ("c", Some(1)),
+        ("a", None),
+        ("abc", None),
+        ("b", None),
+        ("", None),
+    ];
+    const EDGES: &[(&str, usize, usize, Option<(char, u32)>)] = &[
         ("the root's first", 3, 0, Some(('a', 1))),
         ("the root's second", 3, 1, Some(('c', 2))),
         ("past the root's last", 3, 2, None),
@@ -250,50 +212,23 @@ fn gives_each_edge_by_its_place(rt: HostRuntime) -> Result<(), Fail> {
         ("of an end", 0, 0, None),
         ("past the root", 4, 0, None),
     ];
-    let automaton = automaton_of(rt.alloc(), &[("ab", 0), ("c", 1)])?;
-    compare(&rt, "built", automaton.is_some(), true);
-    let Some(automaton) = automaton else {
-        return Ok(());
-    };
-    compare(&rt, "states", automaton.len(), 4);
-    compare(&rt, "root", automaton.root(), 3);
-    for (name, number, place, want) in ROWS {
-        let got = automaton.edge(*number, *place);
-        let pair = got.map(|edge| (edge.letter, edge.target));
-        compare(&rt, name, pair, *want);
+    let automaton = added(rt.alloc(), &[("ab", 0), ("c", 1)])?;
+    for (form, want) in FORMS {
+        compare(
+            &rt,
+            form,
+            found(rt.alloc(), &automaton, form)?,
+            (*want, *want),
+        );
     }
-    Ok(())
-}
-
-/// The number of the form, if it is one, as the steps tell it.
-fn found(automaton: &Dawg, form: &str) -> Option<u32> {
-    let mut state = automaton.root();
-    for letter in form.chars() {
-        state = automaton.step(state, letter)? as usize;
-    }
-    automaton.final_of(state)
-}
-
-#[test]
-fn finds_the_forms_and_no_others(rt: HostRuntime) -> Result<(), Fail> {
-    const ROWS: &[(&str, Option<u32>)] = &[
-        ("tap", Some(0)),
-        ("tops", Some(1)),
-        ("ta", None),
-        ("tapss", None),
-        ("s", None),
-        ("", None),
-    ];
-    let forms: Forms = &[("tap", 0), ("taps", 1), ("top", 0), ("tops", 1)];
-    let automaton = automaton_of(rt.alloc(), forms)?;
-    compare(&rt, "built", automaton.is_some(), true);
-    let Some(automaton) = automaton else {
-        return Ok(());
-    };
-    for (form, want) in ROWS {
-        compare(&rt, form, found(&automaton, form), *want);
-        let letters = letters_of(rt.alloc(), form)?;
-        compare(&rt, form, automaton.number_of(&letters), *want);
+    for (name, number, place, want) in EDGES {
+        let edge = automaton.edge(*number, *place);
+        compare(
+            &rt,
+            name,
+            edge.map(|edge| (edge.letter, edge.target)),
+            *want,
+        );
     }
     Ok(())
 }

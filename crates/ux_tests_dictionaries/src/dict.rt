@@ -1,288 +1,184 @@
-//! What dictionaries find, by rows: the list of the entries, their automaton, and their image.
+//! What dictionaries answer: the list of the entries, their automaton, and their image.
+//!
+//! Which entries are found is shown by rows of `unitex_rows`, for dictionaries of each kind.
+//! Whether longer texts may be found, the longest form and the number of entries of one form show
+//! in no command.
 
 use crate::comparing::compare;
-use crate::image_lexicon::image_lexicon;
 use std::alloc::{AllocError, Global};
 use std::process::Abort;
 use std::test::Fail;
 use ux_alphabet::Alphabet;
-use ux_dela::{DelaError, Entry, print_delaf, read_delaf};
+use ux_dela::{Entry, print_delaf, read_delaf};
 use ux_dict::{ListLexicon, Stored, content_in, content_of, different, store_all};
-use ux_image_lexicon::read_text;
+use ux_image::{image_of, is_content};
+use ux_image_lexicon::{read_image, read_text};
 use ux_lexicon::{AnyLexicon, Lexicon, read_dictionary};
 
-/// The pairs of letters in all rows: `X` has none.
-pub(crate) const PAIRS: &str = "Tt\nHh\nEe\nCc\nAa\nÉé\n";
+/// The pairs of letters in all rows.
+const PAIRS: &str = "Tt\nHh\nEe\nCc\nAa\nÉé\n";
 
-/// A name, a dictionary's lines, a text, and the entries whose forms fit it, each between brackets.
-type Fitting = (&'static str, &'static str, &'static str, &'static str);
-
-/// A name, a dictionary's lines, a text, and whether a form may begin with it.
-type Begun = (&'static str, &'static str, &'static str, bool);
-
-/// A name, a dictionary's lines, a form, its number of entries, the longest form's length and the
-/// number of all entries.
-type Counts = (
-    &'static str,
-    &'static str,
-    &'static str,
-    Option<usize>,
-    usize,
-    usize,
-);
-
-/// The dictionaries of the lines: the list of their entries, their automaton, and their image.
-fn lexicons(alloc: Global, lines: &str) -> Result<[AnyLexicon; 3], Fail> {
-    let list = AnyLexicon::List(ListLexicon::read(alloc, lines)?);
-    let automaton = AnyLexicon::Image(read_text(alloc, lines)?);
-    let image = AnyLexicon::Image(image_lexicon(alloc, lines)?);
-    Ok([list, automaton, image])
-}
-
-/// The entries as lines, each between brackets.
-pub(crate) fn printed(alloc: Global, entries: &[Entry]) -> Result<String, Fail> {
+/// The entries as lines, each before a space.
+fn printed(alloc: Global, entries: &[Entry]) -> Result<String, Fail> {
     let mut out = String::new(alloc);
     for entry in entries {
-        let line = print_delaf(alloc, entry)?;
-        out.push_str("[")?;
-        out.push_str(line.as_str())?;
-        out.push_str("]")?;
+        out.push_str(print_delaf(alloc, entry)?.as_str())?;
+        out.push(' ')?;
     }
     Ok(out)
 }
 
-/// The entries whose forms fit the text, over these pairs of letters.
-fn fitting(
-    alloc: Global,
-    lexicon: &AnyLexicon,
-    text: &str,
-    pairs: &str,
-) -> Result<Vec<Entry>, Fail> {
-    let alphabet = Alphabet::read(alloc, pairs)?;
-    Ok(lexicon.fitting(alloc, text, &alphabet)?)
-}
-
-/// The entries of the row that are found, as lines.
-fn found(alloc: Global, lexicon: &AnyLexicon, pairs: &str, row: &Fitting) -> Result<String, Fail> {
-    let entries = fitting(alloc, lexicon, row.2, pairs)?;
-    printed(alloc, &entries)
-}
-
-fn check_fitting(rt: &impl Abort, alloc: Global, pairs: &str, row: &Fitting) -> Result<(), Fail> {
-    for lexicon in &lexicons(alloc, row.1)? {
-        let lines = found(alloc, lexicon, pairs, row)?;
-        compare(rt, row.0, lines.as_str(), row.3);
-    }
-    Ok(())
-}
-
-/// Whether a form may begin with the text.
-fn may_begin(alloc: Global, lexicon: &AnyLexicon, text: &str) -> Result<bool, Fail> {
+/// The entries that fit the text, whether a form may begin with it, how many entries have just this
+/// form, the longest form's length, and how many entries there are.
+fn answers(alloc: Global, lexicon: &AnyLexicon, text: &str) -> Result<String, Fail> {
     let alphabet = Alphabet::read(alloc, PAIRS)?;
-    Ok(lexicon.may_begin(alloc, text, &alphabet)?)
+    let entries = printed(alloc, &lexicon.fitting(alloc, text, &alphabet)?)?;
+    let begins = lexicon.may_begin(alloc, text, &alphabet)?;
+    let exact = lexicon.exact(text).unwrap_or(0);
+    let longest = lexicon.longest();
+    let count = lexicon.count();
+    Ok(format!(in alloc; "{entries}{begins} {exact} {longest} {count}")?)
 }
 
-fn check_begun(rt: &impl Abort, alloc: Global, row: &Begun) -> Result<(), Fail> {
-    for lexicon in &lexicons(alloc, row.1)? {
-        compare(rt, row.0, may_begin(alloc, lexicon, row.2)?, row.3);
+/// The image of the lines, or nothing where their entries aren't a content.
+fn image(alloc: Global, lines: &str) -> Result<Vec<u8>, Fail> {
+    let content = content_in(alloc, lines)?;
+    if !is_content(&content) {
+        return Ok(Vec::new(alloc));
     }
-    Ok(())
+    Ok(image_of(alloc, content)?)
 }
 
-fn check_counts(rt: &impl Abort, alloc: Global, row: &Counts) -> Result<(), Fail> {
-    for lexicon in &lexicons(alloc, row.1)? {
-        compare(rt, row.0, lexicon.exact(row.2), row.3);
-        compare(rt, row.0, lexicon.longest(), row.4);
-        compare(rt, row.0, lexicon.count(), row.5);
+/// The dictionary of the image of the lines.
+fn by_image(alloc: Global, lines: &str) -> Result<AnyLexicon, Fail> {
+    let bytes = image(alloc, lines)?;
+    if bytes.len() >= 1_000_000 {
+        return Ok(read_dictionary(alloc, "")?);
     }
+    Ok(AnyLexicon::Image(read_image(alloc, &bytes)?))
+}
+
+/// The answers of the list of the lines' entries.
+fn answers_of_list(alloc: Global, lines: &str, text: &str) -> Result<String, Fail> {
+    let list = AnyLexicon::List(ListLexicon::read(alloc, lines)?);
+    answers(alloc, &list, text)
+}
+
+/// The answers of the automaton of the lines.
+fn answers_of_automaton(alloc: Global, lines: &str, text: &str) -> Result<String, Fail> {
+    let automaton = AnyLexicon::Image(read_text(alloc, lines)?);
+    answers(alloc, &automaton, text)
+}
+
+/// The answers of the image of the lines.
+fn answers_of_image(alloc: Global, lines: &str, text: &str) -> Result<String, Fail> {
+    let image = by_image(alloc, lines)?;
+    answers(alloc, &image, text)
+}
+
+/// A name, a dictionary's lines, a text, and what is answered.
+type Row = (&'static str, &'static str, &'static str, &'static str);
+
+fn check(rt: &impl Abort, alloc: Global, row: &Row) -> Result<(), Fail> {
+    let list = answers_of_list(alloc, row.1, row.2)?;
+    compare(rt, row.0, list.as_str(), row.3);
+    let automaton = answers_of_automaton(alloc, row.1, row.2)?;
+    compare(rt, row.0, automaton.as_str(), row.3);
+    let image = answers_of_image(alloc, row.1, row.2)?;
+    compare(rt, row.0, image.as_str(), row.3);
     Ok(())
 }
 
 #[test]
-fn entries_of_fitting_forms_are_found(rt: HostRuntime) -> Result<(), Fail> {
-    const CASES: &str = "the,.a\nThe,.b\nTHE,.c";
-    const ALIKE: &str = "internat,.a\ninternatio,.b\ninternation,.c";
-    const ROWS: &[Fitting] = &[
-        ("a lower-case text", CASES, "the", "[the,.a]"),
-        ("a capital", CASES, "The", "[The,.b][the,.a]"),
+fn dictionaries_of_each_kind_answer_the_same(rt: HostRuntime) -> Result<(), Fail> {
+    const LINES: &str = "THE,.c\nThe,.b\nthe,.a\nthe,.d";
+    const ROWS: &[Row] = &[
         (
-            "an upper-case text",
-            CASES,
+            "two entries of a form",
+            LINES,
+            "the",
+            "the,.a the,.d true 2 3 4",
+        ),
+        ("a capital", LINES, "The", "The,.b the,.a the,.d true 1 3 4"),
+        (
+            "capitals",
+            LINES,
             "THE",
-            "[THE,.c][The,.b][the,.a]",
+            "THE,.c The,.b the,.a the,.d true 1 3 4",
         ),
-        ("a capital within", CASES, "tHe", "[the,.a]"),
-        ("an accent", "été,.N", "Été", "[été,.N]"),
-        ("an accented capital", "Été,.N", "été", ""),
+        ("another case", LINES, "tHE", "the,.a the,.d true 0 3 4"),
+        ("a front", LINES, "th", "true 0 3 4"),
         (
-            "a form with a space",
-            "the cat,.N",
-            "The cat",
-            "[the cat,.N]",
+            "an entry twice",
+            "cat,.N\ncat,.N",
+            "cat",
+            "cat,.N true 1 3 1",
         ),
-        ("two capitals", "the cat,.N", "The Cat", "[the cat,.N]"),
-        ("a capital without a pair", "xat,.N", "Xat", ""),
-        ("an entry twice", "cat,.N\ncat,.N", "cat", "[cat,.N]"),
-        ("two entries", "cat,.V\ncat,.N", "cat", "[cat,.V][cat,.N]"),
-        ("a longer form", "cats,.N", "cat", ""),
-        ("a shorter form", "cat,.N", "cats", ""),
-        ("forms alike", ALIKE, "internatio", "[internatio,.b]"),
-        ("no entry", "", "cat", ""),
-        ("no text", "cat,.N", "", ""),
+        (
+            "two entries, as they come",
+            "cat,.V\ncat,.N",
+            "cat",
+            "cat,.V cat,.N true 2 3 2",
+        ),
+        ("an accent", "été,.N\nat,.N", "été", "été,.N true 1 3 2"),
+        ("an accented capital", "Été,.N", "été", "false 0 3 1"),
+        ("the front of a form", "the cat,.N", "The c", "true 0 7 1"),
+        (
+            "a whole form",
+            "the cat,.N",
+            "the cat",
+            "the cat,.N true 1 7 1",
+        ),
+        ("more than a form", "the cat,.N", "the cats", "false 0 7 1"),
+        ("a capital of the form", "The,.N", "the", "false 0 3 1"),
+        ("no text", "cat,.N", "", "true 0 3 1"),
+        ("no entry", "", "", "false 0 0 0"),
     ];
     for row in ROWS {
-        check_fitting(&rt, rt.alloc(), PAIRS, row)?;
+        check(&rt, rt.alloc(), row)?;
     }
     Ok(())
 }
 
-#[test]
-fn what_is_no_letter_may_fit_too(rt: HostRuntime) -> Result<(), Fail> {
-    const SIGNS: &str = " x\n{y\n";
-    const ROWS: &[Fitting] = &[
-        ("a space as x", "axb,.N\na b,.N", "a b", "[a b,.N][axb,.N]"),
-        ("a brace as y", "y,.N", "{", "[y,.N]"),
-        ("an x as no space", "a b,.N", "axb", ""),
-    ];
-    for row in ROWS {
-        check_fitting(&rt, rt.alloc(), SIGNS, row)?;
-    }
-    Ok(())
-}
-
-#[test]
-fn forms_may_begin(rt: HostRuntime) -> Result<(), Fail> {
-    const ROWS: &[Begun] = &[
-        ("the front of a form", "the cat,.N", "The c", true),
-        ("a whole form", "the cat,.N", "the cat", true),
-        ("more than a form", "the cat,.N", "the cats", false),
-        ("a capital of the form", "The,.N", "the", false),
-        ("no text", "cat,.N", "", true),
-        ("no entry", "", "", false),
-    ];
-    for row in ROWS {
-        check_begun(&rt, rt.alloc(), row)?;
-    }
-    Ok(())
-}
-
-#[test]
-fn entries_are_counted(rt: HostRuntime) -> Result<(), Fail> {
-    const LINES: &str = "the,.a\nthe,.b\nThe,.c";
-    const ROWS: &[Counts] = &[
-        ("two entries of a form", LINES, "the", Some(2), 3, 3),
-        ("another case", LINES, "THE", None, 3, 3),
-        ("a front", LINES, "th", None, 3, 3),
-        ("an entry twice", "cat,.N\ncat,.N", "cat", Some(1), 3, 1),
-        ("an accent", "été,.N\nat,.N", "été", Some(1), 3, 2),
-        ("no entry", "", "", None, 0, 0),
-    ];
-    for row in ROWS {
-        check_counts(&rt, rt.alloc(), row)?;
-    }
-    Ok(())
-}
-
-/// The dictionaries of one entry, whose form is 10,000 times `a`.
-fn long_lexicons(alloc: Global) -> Result<[AnyLexicon; 3], Fail> {
-    let mut line = "a".repeat(alloc, 10000)?;
-    line.push_str(",.N")?;
-    lexicons(alloc, line.as_str())
-}
-
-/// The number of entries whose form is 10,000 times the letter.
-fn exact_long(
-    alloc: Global,
-    lexicon: &AnyLexicon,
-    letter: &str,
-) -> Result<Option<usize>, AllocError> {
-    Ok(lexicon.exact(letter.repeat(alloc, 10000)?.as_str()))
-}
-
-/// The number of entries whose forms fit 10,000 times the letter.
-fn fitting_long(alloc: Global, lexicon: &AnyLexicon, letter: &str) -> Result<usize, Fail> {
+/// The entries that an image finds as it is followed by one token after another.
+fn found_by_tokens(alloc: Global, lines: &str, tokens: &[&str]) -> Result<String, Fail> {
     let alphabet = Alphabet::read(alloc, PAIRS)?;
-    let text = letter.repeat(alloc, 10000)?;
-    Ok(lexicon.fitting(alloc, text.as_str(), &alphabet)?.len())
-}
-
-/// The long form is found as it is and in capitals.
-fn check_long(rt: &impl Abort, alloc: Global, lexicon: &AnyLexicon) -> Result<(), Fail> {
-    compare(rt, "the longest", lexicon.longest(), 10000);
-    compare(rt, "itself", exact_long(alloc, lexicon, "a")?, Some(1));
-    compare(rt, "fits itself", fitting_long(alloc, lexicon, "a")?, 1);
-    compare(rt, "fits capitals", fitting_long(alloc, lexicon, "A")?, 1);
-    Ok(())
+    let lexicon = by_image(alloc, lines)?;
+    let mut place = lexicon.begin(alloc)?;
+    let mut text = String::new(alloc);
+    for token in tokens {
+        place = place.go_on(alloc, token, &alphabet)?;
+        text.push_str(token)?;
+    }
+    printed(alloc, &place.ending(alloc, text.as_str())?)
 }
 
 #[test]
-fn a_long_form_is_found(rt: HostRuntime) -> Result<(), Fail> {
-    for lexicon in &long_lexicons(rt.alloc())? {
-        check_long(&rt, rt.alloc(), lexicon)?;
-    }
+fn a_dictionary_is_followed_by_tokens(rt: HostRuntime) -> Result<(), Fail> {
+    let found = found_by_tokens(rt.alloc(), "the cat,.N", &["THE", " ", "Cat"])?;
+    compare(&rt, "a form with a space", found.as_str(), "the cat,.N ");
     Ok(())
 }
 
-/// What a file of forms became.
-fn kind_of(lexicon: &AnyLexicon) -> &'static str {
-    match lexicon {
+/// What a file became of which one form has so many letters, in a line of three bytes more.
+fn kind_of(alloc: Global, letters: usize) -> Result<&'static str, Fail> {
+    let mut lines = "a".repeat(alloc, letters)?;
+    lines.push_str(",.N\n")?;
+    Ok(match read_dictionary(alloc, lines.as_str())? {
         AnyLexicon::List(_) => "a list",
         AnyLexicon::Image(_) => "an automaton",
-    }
-}
-
-/// The dictionary of a file with a form of so many letters `a`, whose line has three bytes more, and two
-/// entries of `b`.
-fn read_with_long_form(alloc: Global, letters: usize) -> Result<AnyLexicon, Fail> {
-    let mut lines = "a".repeat(alloc, letters)?;
-    lines.push_str(",.N\nb,.N\nb,.V\n")?;
-    Ok(read_dictionary(alloc, lines.as_str())?)
+    })
 }
 
 #[test]
 fn a_file_with_a_longer_line_stays_a_list(rt: HostRuntime) -> Result<(), Fail> {
-    for (letters, kind) in [(65_533, "an automaton"), (65_534, "a list")] {
-        let lexicon = read_with_long_form(rt.alloc(), letters)?;
-        compare(&rt, "what it became", kind_of(&lexicon), kind);
-        compare(&rt, "the longest", lexicon.longest(), letters);
-        compare(&rt, "the short form", lexicon.exact("b"), Some(2));
-        compare(&rt, "all entries", lexicon.count(), 3);
-    }
-    Ok(())
-}
-
-#[test]
-fn a_list_makes_the_dictionary_of_its_file(rt: HostRuntime) -> Result<(), Fail> {
-    let entries = read_delaf(rt.alloc(), "b,.N\na,.N\nb,.N")?;
-    let lexicon = ListLexicon::new(rt.alloc(), entries)?;
-    compare(&rt, "all entries", lexicon.count(), 2);
-    compare(&rt, "of one form", lexicon.exact("b"), Some(1));
-    Ok(())
-}
-
-#[test]
-fn the_first_bad_line_of_a_dictionary_is_named(rt: HostRuntime) {
-    const LINES: &str = "a,.N\n\nabc\nabcd";
-    let line_three = DelaError::NoComma { line: 3, place: 3 };
-    let list = ListLexicon::read(rt.alloc(), LINES).err();
-    compare(&rt, "a list", list, Some(line_three));
-    let automaton = read_text(rt.alloc(), LINES).err();
-    compare(&rt, "an automaton", automaton, Some(line_three));
-    let either = read_dictionary(rt.alloc(), LINES).err();
-    compare(&rt, "either", either, Some(line_three));
-}
-
-#[test]
-fn equal_entries_stand_once(rt: HostRuntime) -> Result<(), Fail> {
-    let entries = read_delaf(rt.alloc(), "b,.N\na,.N\nb,.N\nb,.V")?;
-    let once = different(rt.alloc(), entries)?;
-    let lines = printed(rt.alloc(), &once)?;
     compare(
         &rt,
-        "each at its first place",
-        lines.as_str(),
-        "[b,.N][a,.N][b,.V]",
+        "65,536 bytes",
+        kind_of(rt.alloc(), 65_533)?,
+        "an automaton",
     );
+    compare(&rt, "one more", kind_of(rt.alloc(), 65_534)?, "a list");
     Ok(())
 }
 
@@ -298,92 +194,54 @@ fn kept(alloc: Global, entries: &[Stored]) -> Result<String, AllocError> {
     Ok(out)
 }
 
+/// The lines of the lists of entries.
+const LINES: &str = "b,.V\nab,a.N+x:y:z\nb,.V\nb,.N\nab,a.N+x:y:z";
+
+/// Entries in order of form, each once: those of a file, and of a list.
+fn contents(alloc: Global) -> Result<[String; 3], Fail> {
+    let entries = read_delaf(alloc, LINES)?;
+    Ok([
+        kept(alloc, &content_in(alloc, LINES)?)?,
+        kept(alloc, &content_of(alloc, entries)?)?,
+        kept(alloc, &store_all(alloc, read_delaf(alloc, LINES)?)?)?,
+    ])
+}
+
 #[test]
 fn a_content_is_in_order_of_form_and_each_entry_stands_once(rt: HostRuntime) -> Result<(), Fail> {
-    let alloc = rt.alloc();
-    let lines = "b,.V\nab,a.N+x:y:z\nb,.V\nb,.N\nab,a.N+x:y:z";
-    let of_file = content_in(alloc, lines)?;
-    let of_entries = content_of(alloc, read_delaf(alloc, lines)?)?;
-    let all = store_all(alloc, read_delaf(alloc, "b,.V\nab,a.N\nb,.V")?)?;
-    let cases = [
-        ("of a file", &of_file, "[ab a N+x:y:z][b b V][b b N]"),
-        ("of entries", &of_entries, "[ab a N+x:y:z][b b V][b b N]"),
-        (
-            "all entries, in their order",
-            &all,
-            "[b b V][ab a N][b b V]",
-        ),
-    ];
-    for (name, entries, want) in cases {
-        compare(&rt, name, kept(alloc, entries)?.as_str(), want);
-    }
+    let [of_file, of_entries, all] = contents(rt.alloc())?;
+    compare(
+        &rt,
+        "of a file",
+        of_file.as_str(),
+        "[ab a N+x:y:z][b b V][b b N]",
+    );
+    compare(
+        &rt,
+        "of entries",
+        of_entries.as_str(),
+        "[ab a N+x:y:z][b b V][b b N]",
+    );
+    compare(
+        &rt,
+        "all entries, in their order",
+        all.as_str(),
+        "[b b V][ab a N+x:y:z][b b V][b b N][ab a N+x:y:z]",
+    );
     Ok(())
 }
 
-/// A name, a line of forms, and its entries as they are kept.
-type Line = (&'static str, &'static str, &'static str);
-
-#[test]
-fn a_line_says_the_same_with_needless_backslashes(rt: HostRuntime) -> Result<(), Fail> {
-    const ROWS: &[Line] = &[
-        ("as it is printed", "cats,cat.N+x:p", "[cats cat N+x:p]"),
-        ("no lemma", "cats,.N", "[cats cats N]"),
-        ("a comment", "cats,cat.N+x/old", "[cats cat N+x]"),
-        ("in the comment", "cats,cat.N/o\\ld", "[cats cat N]"),
-        ("in the form", "c\\ats,cat.N+x:p", "[cats cat N+x:p]"),
-        ("in the lemma", "cats,c\\at.N+x:p", "[cats cat N+x:p]"),
-        ("in the codes", "cats,cat.N+\\x:p", "[cats cat N+x:p]"),
-        ("one that is needed", "cats,cat.N\\+x", "[cats cat N\\+x]"),
-        ("a mark", "a=b,.N", "[a b a b N][a-b a-b N]"),
-    ];
-    for (name, line, want) in ROWS {
-        let entries = content_in(rt.alloc(), line)?;
-        compare(&rt, name, kept(rt.alloc(), &entries)?.as_str(), want);
-    }
-    Ok(())
-}
-
-/// Three lines of two forms, all of the same codes, whose text has so many bytes; and the entries.
-fn lines_of_codes(alloc: Global, bytes: usize) -> Result<(String, String), AllocError> {
-    let codes = "N".repeat(alloc, bytes)?;
-    let lines = format!(in alloc; "b,.{codes}\na,.{codes}\nb,.{codes}")?;
-    let want = format!(in alloc; "[a a {codes}][b b {codes}]")?;
-    Ok((lines, want))
+/// The different entries of the lines, and how many a list made of all of them has.
+fn once(alloc: Global) -> Result<(String, usize), Fail> {
+    let lines = printed(alloc, &different(alloc, read_delaf(alloc, LINES)?)?)?;
+    let list = ListLexicon::new(alloc, read_delaf(alloc, LINES)?)?;
+    Ok((lines, list.count()))
 }
 
 #[test]
-fn codes_of_any_length_are_kept(rt: HostRuntime) -> Result<(), Fail> {
-    for bytes in [1, 64, 65, 1000] {
-        let (lines, want) = lines_of_codes(rt.alloc(), bytes)?;
-        let entries = content_in(rt.alloc(), lines.as_str())?;
-        let shown = kept(rt.alloc(), &entries)?;
-        compare(&rt, "codes", shown.as_str(), want.as_str());
-    }
-    Ok(())
-}
-
-/// So many lines of one form, and their entries.
-fn lines_of_one_form(alloc: Global, many: usize) -> Result<(String, String), AllocError> {
-    let mut lines = String::new(alloc);
-    let mut want = String::new(alloc);
-    for number in 0..many {
-        lines.push_str(format!(in alloc; "a,.N+{number}\n")?.as_str())?;
-        want.push_str(format!(in alloc; "[a a N+{number}]")?.as_str())?;
-    }
-    Ok((lines, want))
-}
-
-#[test]
-fn entries_of_one_form_stand_once_however_many_differ(rt: HostRuntime) -> Result<(), Fail> {
-    for many in [1, 7, 8, 9, 50] {
-        let (mut lines, want) = lines_of_one_form(rt.alloc(), many)?;
-        let once = content_in(rt.alloc(), lines.as_str())?;
-        let shown = kept(rt.alloc(), &once)?;
-        compare(&rt, "each once", shown.as_str(), want.as_str());
-        lines.push_str("a,.N+0\n")?;
-        let again = content_in(rt.alloc(), lines.as_str())?;
-        let shown = kept(rt.alloc(), &again)?;
-        compare(&rt, "the first once more", shown.as_str(), want.as_str());
-    }
+fn equal_entries_stand_once_at_their_first_place(rt: HostRuntime) -> Result<(), Fail> {
+    let (lines, count) = once(rt.alloc())?;
+    compare(&rt, "the lines", lines.as_str(), "b,.V ab,a.N+x:y:z b,.N ");
+    compare(&rt, "in a list", count, 3);
     Ok(())
 }

@@ -1,25 +1,21 @@
-//! Fronts of images and what stands in them, by rows. Those that are refused are rows of `unitex_rows`.
+//! Fronts of images, and what stands in them. Those that are refused, and images as a whole, are
+//! rows of `unitex_rows`.
 
 use crate::comparing::compare;
 use std::alloc::{AllocError, Global};
-use std::process::Abort;
 use std::test::Fail;
 use ux_image_reader::{Version, read_front};
-
-const MAGIC: &[u8] = b"UXUDI\x02\r\n";
-
-/// A row's name, the numbers behind the magic, and what stands in the front or the refusal.
-type Row = (&'static str, &'static [u32], &'static str);
 
 /// The numbers of `cat,.N:s` and `cats,cat.N:p`: state 4 is the root, state 0 ends `cats`.
 const CATS: &[u32] = &[
     5, 2, 1, 0, 2, 1, 0x73, 0, 0, 1, 0x74, 1, 0, 1, 0x61, 2, 0, 1, 0x63, 3,
 ];
 
-/// The magic and the numbers.
-fn image_of(alloc: Global, numbers: &[u32]) -> Result<Vec<u8>, AllocError> {
+/// A front of this version, with these numbers.
+fn front_of(alloc: Global, version: u8, numbers: &[u32]) -> Result<Vec<u8>, AllocError> {
     let mut bytes = Vec::new(alloc);
-    bytes.extend_from_slice(MAGIC)?;
+    bytes.extend_from_slice(b"UXUDI")?;
+    bytes.extend_from_slice(&[version, b'\r', b'\n'])?;
     for number in numbers {
         bytes.extend_from_slice(&number.to_le_bytes())?;
     }
@@ -43,35 +39,40 @@ fn shown(alloc: Global, bytes: &[u8]) -> Result<String, AllocError> {
     }
 }
 
-fn compare_fronts(rt: &impl Abort, alloc: Global, rows: &[Row]) -> Result<(), Fail> {
-    for (name, numbers, want) in rows {
-        let image = image_of(alloc, numbers)?;
-        let got = shown(alloc, &image)?;
-        compare(rt, name, got.as_str(), *want);
-    }
-    Ok(())
-}
+/// A row's name, the version, the numbers behind the magic, and what stands in the front or the
+/// refusal.
+type Row = (&'static str, u8, &'static [u32], &'static str);
 
 #[test]
 fn reads_fronts(rt: HostRuntime) -> Result<(), Fail> {
     const ROWS: &[Row] = &[
         (
             "no entry",
+            2,
             &[1, 0, 0, 0],
             "version 2, 1 states, 0 lists from byte 24",
         ),
         (
+            "the first version",
+            1,
+            &[1, 0, 0, 0],
+            "version 1, 1 states, 0 lists from byte 24",
+        ),
+        (
             "`cat` and `cats`",
+            2,
             CATS,
             "version 2, 5 states, 2 lists from byte 88",
         ),
         (
             "`a` and `b` with one list",
+            2,
             &[2, 1, 1, 0, 0, 2, 0x61, 0, 0x62, 0],
             "version 2, 2 states, 1 lists from byte 48",
         ),
         (
             "`a`, `ab` and `bb`, where the visit comes back",
+            2,
             &[
                 4, 1, 1, 0, 1, 1, 0x62, 0, 0, 1, 0x62, 0, 0, 2, 0x61, 1, 0x62, 2,
             ],
@@ -79,37 +80,29 @@ fn reads_fronts(rt: HostRuntime) -> Result<(), Fail> {
         ),
         (
             "the last character",
+            2,
             &[2, 1, 1, 0, 0, 1, 0x10_ffff, 0],
             "version 2, 2 states, 1 lists from byte 40",
         ),
         (
             "numbers behind the states, which aren't read",
+            2,
             &[1, 0, 0, 0, 7],
             "version 2, 1 states, 0 lists from byte 24",
         ),
     ];
-    compare_fronts(&rt, rt.alloc(), ROWS)
-}
-
-#[test]
-fn reads_a_front_of_the_first_version(rt: HostRuntime) -> Result<(), Fail> {
-    const FRONT: &[u8] =
-        b"UXUDI\x01\r\n\x01\x00\x00\x00\x00\x00\x00\x00\x00\x00\x00\x00\x00\x00\x00\x00";
-    let got = shown(rt.alloc(), FRONT)?;
-    compare(
-        &rt,
-        "version 1",
-        got.as_str(),
-        "version 1, 1 states, 0 lists from byte 24",
-    );
+    for (name, version, numbers, want) in ROWS {
+        let front = front_of(rt.alloc(), *version, numbers)?;
+        compare(&rt, name, shown(rt.alloc(), &front)?.as_str(), *want);
+    }
     Ok(())
 }
 
 #[test]
-fn refuses_each_front_of_an_image(rt: HostRuntime) -> Result<(), Fail> {
-    let image = image_of(rt.alloc(), CATS)?;
-    for end in 0..image.len() {
-        let got = shown(rt.alloc(), &image.as_slice()[..end])?;
+fn refuses_each_front_of_a_front(rt: HostRuntime) -> Result<(), Fail> {
+    let front = front_of(rt.alloc(), 2, CATS)?;
+    for end in 0..front.len() {
+        let got = shown(rt.alloc(), &front.as_slice()[..end])?;
         compare(&rt, "a front", got.as_str(), "Short");
     }
     Ok(())
@@ -126,8 +119,8 @@ fn steps_along_the_states_of_a_front(rt: HostRuntime) -> Result<(), Fail> {
         ("from a state without edges", 0, 's', None),
         ("from no state", 5, 'c', None),
     ];
-    let image = image_of(rt.alloc(), CATS)?;
-    match read_front(rt.alloc(), &image) {
+    let front = front_of(rt.alloc(), 2, CATS)?;
+    match read_front(rt.alloc(), &front) {
         Ok(front) => {
             for (name, number, letter, want) in ROWS {
                 compare(&rt, name, front.states.step(*number, *letter), *want);

@@ -1,8 +1,9 @@
-//! Rows of dictionary lines, minimal automata, dictionaries and their images: what no clause says of
-//! their public calls.
+//! Tests of dictionary lines, minimal automata, dictionaries and their images: what the top call
+//! can't show.
 //!
-//! They stand apart from the rows of the other readers (`ux_tests_files`), so that both are proved at once.
-//! `comparing` compares a row's answer.
+//! They stand apart from the tests of the other readers (`ux_tests_files`), so that both are proved
+//! at once. What a user sees is shown by rows of `unitex_rows`. `comparing` compares a row's
+//! answer.
 #![tactic(auto)]
 
 #[cfg(test)]
@@ -15,8 +16,6 @@ mod dela;
 mod dict;
 #[cfg(test)]
 mod image;
-#[cfg(test)]
-mod image_lexicon;
 #[cfg(test)]
 mod image_reader;
 #[cfg(test)]

@@ -8,20 +8,8 @@ use std::rt::Files;
 use std::test::Fail;
 use std::{env, fs, io, process};
 use ux_base::{
-    Folder, FolderError, Lst, MemFolder, MemSink, RealFolder, Sink, SinkError, StdSink, Txt, lines,
+    Folder, FolderError, Lst, MemFolder, MemSink, RealFolder, Sink, StdSink, Txt, lines,
 };
-
-fn compare_lines(
-    rt: &impl Abort,
-    alloc: Global,
-    rows: &[(&str, &[&str])],
-) -> Result<(), AllocError> {
-    for (text, want) in rows {
-        let got = lines(text).collect::<Vec<_>>(alloc)?;
-        compare(rt, text, got.as_slice(), *want);
-    }
-    Ok(())
-}
 
 #[test]
 fn lines_lose_one_carriage_return(rt: HostRuntime) -> Result<(), Fail> {
@@ -33,7 +21,10 @@ fn lines_lose_one_carriage_return(rt: HostRuntime) -> Result<(), Fail> {
         ("\n", &[""]),
         ("a\r\r\n", &["a\r"]),
     ];
-    compare_lines(&rt, rt.alloc(), ROWS)?;
+    for (text, want) in ROWS {
+        let got = lines(text).collect::<Vec<_>>(rt.alloc())?;
+        compare(&rt, text, got.as_slice(), *want);
+    }
     Ok(())
 }
 
@@ -57,46 +48,33 @@ fn file(alloc: Global, name: &str, text: &str) -> Result<(String, Vec<u8>), Allo
     ))
 }
 
-/// Files of these names and texts.
-fn files(alloc: Global, rows: &[(&str, &str)]) -> Result<Vec<(String, Vec<u8>)>, AllocError> {
-    let mut files = Vec::new(alloc);
-    for (name, text) in rows {
-        files.push(file(alloc, name, text)?)?;
-    }
-    Ok(files)
-}
-
 /// A folder of three files, whose third read fails.
 fn folder_of_three(alloc: Global) -> Result<MemFolder, AllocError> {
-    let files = files(alloc, &[("a", "1"), ("a", "2"), ("b", "")])?;
+    let files = vec![in alloc;
+        file(alloc, "a", "1")?,
+        file(alloc, "a", "2")?,
+        file(alloc, "b", "")?,
+    ]?;
     Ok(MemFolder::new(files, vec![in alloc; 2]?))
 }
 
-/// A name, the text of its file, and the error.
-type Reading = (&'static str, Option<&'static str>, Option<FolderError>);
-
-/// What a read gave, as the row tells it.
-fn compare_read(rt: &impl Abort, got: &Result<Vec<u8>, FolderError>, row: &Reading) {
-    match got {
-        Ok(bytes) => compare(rt, row.0, Some(bytes.as_slice()), row.1.map(str::as_bytes)),
-        Err(error) => compare(rt, row.0, Some(*error), row.2),
-    }
-}
+/// A name, and how many bytes its file has and the last of them, or the error.
+type Reading = (&'static str, Result<(usize, Option<u8>), FolderError>);
 
 /// Reads file after file.
 fn compare_reads(rt: &impl Abort, alloc: Global, folder: &mut MemFolder, rows: &[Reading]) {
     for row in rows {
-        compare_read(rt, &folder.read(alloc, row.0), row);
+        compare(rt, row.0, ending(alloc, folder, row.0), row.1);
     }
 }
 
 #[test]
 fn a_folder_in_memory_gives_the_first_file_and_fails_as_told(rt: HostRuntime) -> Result<(), Fail> {
     const ROWS: &[Reading] = &[
-        ("a", Some("1"), None),
-        ("c", None, Some(FolderError::Absent)),
-        ("a", None, Some(FolderError::Fault)),
-        ("b", Some(""), None),
+        ("a", Ok((1, Some(b'1')))),
+        ("c", Err(FolderError::Absent)),
+        ("a", Err(FolderError::Fault)),
+        ("b", Ok((0, None))),
     ];
     compare_reads(&rt, rt.alloc(), &mut folder_of_three(rt.alloc())?, ROWS);
     Ok(())
@@ -180,65 +158,41 @@ fn own_path(rt: &HostRuntime) -> Result<String, Fail> {
     Ok(String::from_str(rt.alloc(), place.to_str().unwrap_or(""))?)
 }
 
-/// The error of a read.
-fn fault(alloc: Global, folder: &mut impl Folder, path: &str) -> Option<FolderError> {
-    folder.read(alloc, path).err()
-}
-
-/// Writes the bytes and one more.
-fn check_writes(rt: &impl Abort, sink: &mut impl Sink, bytes: &[u8]) {
-    compare(rt, "all but the last", sink.write_all(bytes), Ok(()));
-    compare(rt, "the last byte", sink.write_all(b"y"), Ok(()));
+/// How many bytes a read gives, and the last one.
+fn ending(
+    alloc: Global,
+    folder: &mut impl Folder,
+    path: &str,
+) -> Result<(usize, Option<u8>), FolderError> {
+    let bytes = folder.read(alloc, path)?;
+    Ok((bytes.len(), bytes.last().copied()))
 }
 
 /// Writes a file that is longer than the first room of a read, so that the buffer grows.
 fn write_long<R: Abort + AllocGlobal + Files>(rt: &R, path: &str) -> Result<(), Fail> {
     let bytes = vec![in rt.alloc(); b'x'; 70_000]?;
-    check_writes(
-        rt,
-        &mut StdSink::new(fs::create(rt, path)?),
-        bytes.as_slice(),
-    );
+    let mut sink = StdSink::new(fs::create(rt, path)?);
+    compare(rt, "all but the last", sink.write_all(&bytes), Ok(()));
+    compare(rt, "the last byte", sink.write_all(b"y"), Ok(()));
     Ok(())
 }
 
-/// Reads the long file.
-fn check_long(
-    rt: &impl Abort,
-    alloc: Global,
-    folder: &mut impl Folder,
-    path: &str,
-) -> Result<(), Fail> {
-    let got = folder.read(alloc, path)?;
-    compare(rt, "the length", got.len(), 70_001);
-    compare(rt, "the last byte", got.last(), Some(&b'y'));
-    Ok(())
-}
-
-/// A file is absent, and gives back its bytes once it is written.
-fn check_file<R: Abort + AllocGlobal + Files>(
+/// A file is absent, and gives back its bytes once it is written. A directory can't be read.
+fn check_folder<R: Abort + AllocGlobal + Files>(
     rt: &R,
     folder: &mut impl Folder,
     path: &str,
 ) -> Result<(), Fail> {
-    let absent = fault(rt.alloc(), folder, path);
-    compare(rt, "no file", absent, Some(FolderError::Absent));
+    let absent = ending(rt.alloc(), folder, path);
+    compare(rt, "no file", absent, Err(FolderError::Absent));
     write_long(rt, path)?;
-    check_long(rt, rt.alloc(), folder, path)?;
+    let written = ending(rt.alloc(), folder, path);
+    compare(rt, "a file", written, Ok((70_001, Some(b'y'))));
     fs::remove_file(rt, path)?;
-    Ok(())
-}
-
-/// A directory can't be read.
-fn check_directory<R: Abort + AllocGlobal + Files>(
-    rt: &R,
-    folder: &mut impl Folder,
-    path: &str,
-) -> Result<(), Fail> {
     fs::create_dir(rt, path)?;
-    let fault = fault(rt.alloc(), folder, path);
+    let fault = ending(rt.alloc(), folder, path);
     fs::remove_dir(rt, path)?;
-    compare(rt, "a directory", fault, Some(FolderError::Fault));
+    compare(rt, "a directory", fault, Err(FolderError::Fault));
     Ok(())
 }
 
@@ -247,6 +201,5 @@ fn the_system_gives_back_what_was_written(rt: HostRuntime) -> Result<(), Fail> {
     let path = own_path(&rt)?;
     fs::remove_file(&rt, path.as_str()).is_ok();
     let mut folder = RealFolder::new(&rt);
-    check_file(&rt, &mut folder, path.as_str())?;
-    check_directory(&rt, &mut folder, path.as_str())
+    check_folder(&rt, &mut folder, path.as_str())
 }

@@ -31,18 +31,13 @@ fn asked(alloc: Global, line: &str) -> Result<String, WordsError> {
     Ok(text?)
 }
 
-/// Words, and what they ask for as it is debugged.
-type Asked = (&'static str, &'static str);
-
-fn check_asked(rt: &impl Abort, alloc: Global, row: &Asked) -> Result<(), Fail> {
-    let got = asked(alloc, row.0)?;
-    compare(rt, row.0, got.as_str(), row.1);
-    Ok(())
-}
+/// Words, and others that ask for the same; none where they are no request.
+type Row = (&'static str, &'static str);
 
 #[test]
 fn reads_each_command(rt: HostRuntime) -> Result<(), Fail> {
-    const ROWS: &[Asked] = &[
+    // Words, and what they ask for as it is debugged.
+    const ROWS: &[Row] = &[
         (
             "locate|g|t|a",
             "Locate(Search { graph: Txt { text: \"g\" }, text: Txt { text: \"t\" }, alphabet: Txt { text: \"a\" }, dics: Lst { items: [] }, mode: Ignore, policy: All, novar: Nothing, chars: false })",
@@ -105,14 +100,11 @@ fn reads_each_command(rt: HostRuntime) -> Result<(), Fail> {
         ("--help", "Help"),
         ("--version", "Version"),
     ];
-    for row in ROWS {
-        check_asked(&rt, rt.alloc(), row)?;
+    for (words, want) in ROWS {
+        compare(&rt, words, asked(rt.alloc(), words)?.as_str(), want);
     }
     Ok(())
 }
-
-/// Words, and others that ask for the same; none where they are no request.
-type Row = (&'static str, &'static str);
 
 fn check<R: Abort + AllocGlobal>(rt: &R, rows: &[Row]) -> Result<(), Fail> {
     for (words, same) in rows {
@@ -128,7 +120,7 @@ fn check<R: Abort + AllocGlobal>(rt: &R, rows: &[Row]) -> Result<(), Fail> {
 }
 
 #[test]
-fn reads_every_form_of_an_option(rt: HostRuntime) -> Result<(), Fail> {
+fn reads_words(rt: HostRuntime) -> Result<(), Fail> {
     const ROWS: &[Row] = &[
         // An option with a value.
         ("locate|--mode=merge|g|t|a", "locate|g|t|a|--mode|merge"),
@@ -151,13 +143,6 @@ fn reads_every_form_of_an_option(rt: HostRuntime) -> Result<(), Fail> {
         ),
         ("bench|000005", "bench|5"),
         ("bench|--|5", "bench|5"),
-    ];
-    check(&rt, ROWS)
-}
-
-#[test]
-fn reads_single_letters(rt: HostRuntime) -> Result<(), Fail> {
-    const ROWS: &[Row] = &[
         ("locate|--chars|g|t|a", "locate|g|t|a|--chars"),
         ("concord|--chars|g|t|a", "concord|g|t|a|--chars"),
         ("tokenize|--chars|t|a", "tokenize|t|a|--chars"),
@@ -173,13 +158,6 @@ fn reads_single_letters(rt: HostRuntime) -> Result<(), Fail> {
         ("flatten|--chars|g|a", ""),
         ("tfind|--chars|g|f|a", ""),
         ("morpho|--chars|g|t|a", ""),
-    ];
-    check(&rt, ROWS)
-}
-
-#[test]
-fn reads_the_steps_of_a_cascade(rt: HostRuntime) -> Result<(), Fail> {
-    const ROWS: &[Row] = &[
         // How often a step is applied.
         ("cascade|t|a|merge:g", "cascade|t|a|merge1:g"),
         ("cascade|t|a|merge01:g", "cascade|t|a|merge:g"),
@@ -219,13 +197,6 @@ fn reads_the_steps_of_a_cascade(rt: HostRuntime) -> Result<(), Fail> {
         ("cascade|--trace=x|t|a|merge:g", ""),
         ("cascade|t|a|merge:g|--|--trace", ""),
         ("cascade|--mode=merge|t|a|merge:g", ""),
-    ];
-    check(&rt, ROWS)
-}
-
-#[test]
-fn reads_the_last_commands(rt: HostRuntime) -> Result<(), Fail> {
-    const ROWS: &[Row] = &[
         // How deep calls are written out.
         ("flatten|g|a|--depth=10", "flatten|g|a"),
         ("flatten|--depth|010|g|a", "flatten|--|g|a"),
@@ -259,13 +230,6 @@ fn reads_the_last_commands(rt: HostRuntime) -> Result<(), Fail> {
         ("morpho|g.fst2.grf|t|a", "morpho|--|g.fst2.grf|t|a"),
         ("morpho|g|t.fst2|a", "morpho|--|g|t.fst2|a"),
         ("morpho|--trace|g|t|a", ""),
-    ];
-    check(&rt, ROWS)
-}
-
-#[test]
-fn reads_names_of_files(rt: HostRuntime) -> Result<(), Fail> {
-    const ROWS: &[Row] = &[
         // `--`, `-` and the empty word.
         ("locate|--|g|t|a", "locate|g|t|a"),
         ("locate|g|--|t|a", "locate|g|t|a"),
@@ -283,13 +247,6 @@ fn reads_names_of_files(rt: HostRuntime) -> Result<(), Fail> {
         ("txt2tfst|t", ""),
         ("inflect|s|t", ""),
         ("elag|f", ""),
-    ];
-    check(&rt, ROWS)
-}
-
-#[test]
-fn takes_no_option_where_a_command_has_none(rt: HostRuntime) -> Result<(), Fail> {
-    const ROWS: &[Row] = &[
         ("fst2|--policy|all|g|a", ""),
         ("inflect|--delas|s", ""),
         ("txt2tfst|--sort=TO|t|a", ""),

@@ -1,11 +1,10 @@
-//! Rows of nets, walks, walkers and hits: what no clause says of their public calls.
+//! Tests of masks, nets, walks, walkers and hits: what the top call can't show.
 //!
-//! They stand apart from the rows of the other libraries (`ux_tests_files`), since these can be proved before
-//! the search is. `comparing` compares a row's answer, and `graphs` makes small grammars.
+//! They stand apart from the tests of the other libraries (`ux_tests_files`), since these can be
+//! proved before the search is. What a user sees is shown by rows of `unitex_rows`. `comparing`
+//! compares a row's answer, and `graphs` makes small grammars.
 #![tactic(auto)]
 
-#[cfg(test)]
-mod applied;
 #[cfg(test)]
 mod comparing;
 #[cfg(test)]
@@ -17,10 +16,6 @@ mod masks;
 #[cfg(test)]
 mod net;
 #[cfg(test)]
-mod net_masks;
-#[cfg(test)]
 mod outputs;
 #[cfg(test)]
 mod walk;
-#[cfg(test)]
-mod walker;

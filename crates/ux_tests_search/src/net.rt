@@ -1,8 +1,12 @@
-//! Rows of small grammars, compiled from the files of their graphs.
+//! The states of small grammars, compiled from the files of their graphs, and how many masks they
+//! have.
 //!
-//! The states of a net are shown as `t` where they are final, else `:`, and then as label and target
-//! of each edge, with a space between graphs. A label is shown as in the notation of `graphs`, and what
-//! an edge puts out after a `/`.
+//! No command that is built shows states. Which grammars are refused is shown by rows of
+//! `unitex_rows`, and so is what each finds.
+//!
+//! The states of a net are shown as `t` where they are final, else `:`, and then as label and
+//! target of each edge, with a space between graphs. A label is shown as in the notation of
+//! `graphs`, and what an edge puts out after a `/`.
 
 use crate::comparing::compare;
 use crate::graphs::compiled;
@@ -88,35 +92,10 @@ fn show_net(alloc: Global, net: &Net) -> Result<String, AllocError> {
     Ok(all)
 }
 
-/// The refusal, with its graph and node.
-fn told(alloc: Global, refusal: &NetError) -> Result<String, AllocError> {
-    match refusal {
-        NetError::MissingGraph { name } => format!(in alloc; "missing {}", name.as_str()),
-        NetError::BadMask { graph, node, place } => {
-            format!(in alloc; "bad mask {} {node} {place}", graph.as_str())
-        },
-        NetError::ContextClose { graph, node } => {
-            format!(in alloc; "context {} {node}", graph.as_str())
-        },
-        NetError::NegativeRecursion { graph } => {
-            format!(in alloc; "negative recursion {}", graph.as_str())
-        },
-        NetError::EmptyLoop { graph, node } => {
-            format!(in alloc; "loop {} {node}", graph.as_str())
-        },
-        NetError::LeftRecursion { graph, node } => {
-            format!(in alloc; "recursion {} {node}", graph.as_str())
-        },
-        NetError::NoMemory => String::from_str(alloc, "no memory"),
-    }
-}
-
-/// The states of the graphs, or the refusal.
-fn shown(alloc: Global, graphs: &[&str], alphabet: &Alphabet) -> Result<String, AllocError> {
-    match compiled(alloc, graphs, alphabet) {
-        Ok(net) => show_net(alloc, &net),
-        Err(refusal) => told(alloc, &refusal),
-    }
+/// The states of the graphs.
+fn shown(alloc: Global, graphs: &[&str], alphabet: &Alphabet) -> Result<String, NetError> {
+    let net = compiled(alloc, graphs, alphabet)?;
+    Ok(show_net(alloc, &net)?)
 }
 
 /// A name, the graphs, and what is shown.
@@ -134,10 +113,6 @@ fn compare_by(
         compare(rt, row.0, got.as_str(), row.2);
     }
     Ok(())
-}
-
-fn compare_nets(rt: &impl Abort, alloc: Global, rows: &[Row]) -> Result<(), Fail> {
-    compare_by(rt, alloc, &Alphabet::empty(), rows)
 }
 
 #[test]
@@ -175,14 +150,8 @@ fn makes_states(rt: HostRuntime) -> Result<(), Fail> {
             &["E|2 | a|13 B|1", "E|2 | b|13 A|1"],
             ":a1tB2t :b1tA2t",
         ),
-    ];
-    compare_nets(&rt, rt.alloc(), ROWS)
-}
-
-#[test]
-fn an_output_stands_on_the_first_edge_of_each_line(rt: HostRuntime) -> Result<(), Fail> {
-    const ROWS: &[Row] = &[
-        ("before a word", &["E|2 | a/x|1"], ":a/x1t"),
+        // An output stands on the first edge of each line.
+        ("an output before a word", &["E|2 | a/x|1"], ":a/x1t"),
         (
             "of two lines, one of two labels",
             &["E|2 | a+bc/x|1"],
@@ -205,7 +174,7 @@ fn an_output_stands_on_the_first_edge_of_each_line(rt: HostRuntime) -> Result<()
         ),
         ("with a value", &["E|2 | a/x$y$|1"], ":a/x$y$1t"),
         (
-            "of a box to which two lead",
+            "an output of a box to which two lead",
             &["E|23 | a|3 b/x|1"],
             ":a1b/x2:b/x2t",
         ),
@@ -214,27 +183,7 @@ fn an_output_stands_on_the_first_edge_of_each_line(rt: HostRuntime) -> Result<()
             &["E|2 | $v(|3 a|4 $v)/x|1"],
             ":$v(1:a2:$v)/x3t",
         ),
-    ];
-    compare_nets(&rt, rt.alloc(), ROWS)
-}
-
-#[test]
-fn a_literal_is_cut_by_the_alphabet(rt: HostRuntime) -> Result<(), Fail> {
-    const WORDS: &[Row] = &[("a word", &["E|2 | ab|1"], ":ab1t")];
-    const LETTERS: &[Row] = &[
-        ("two letters", &["E|2 | ab|1"], ":a2t:b1"),
-        ("quoted letters", &["E|2 | \\\"ab\\\"|1"], ":a2t:b1"),
-        ("one letter", &["E|2 | a|1"], ":a1t"),
-    ];
-    let words = Alphabet::read(rt.alloc(), "a\nb")?;
-    compare_by(&rt, rt.alloc(), &words, WORDS)?;
-    compare_by(&rt, rt.alloc(), &words.by_character(), LETTERS)
-}
-
-#[test]
-fn compiles_contexts_and_the_left_mark(rt: HostRuntime) -> Result<(), Fail> {
-    const ROWS: &[Row] = &[
-        ("a missing graph", &["E|2 | B|1"], "missing B"),
+        // Contexts, and the left mark.
         ("a context", &["E|2 | $[|3 a|4 $]|5 b|1"], ":[1:a2:]3:b4t"),
         (
             "a context in a context",
@@ -252,89 +201,40 @@ fn compiles_contexts_and_the_left_mark(rt: HostRuntime) -> Result<(), Fail> {
             ":!1:a2:]3:*4t",
         ),
     ];
-    compare_nets(&rt, rt.alloc(), ROWS)
+    // A literal is cut by the alphabet.
+    const WORDS: &[Row] = &[("a word", &["E|2 | ab|1"], ":ab1t")];
+    const LETTERS: &[Row] = &[
+        ("two letters", &["E|2 | ab|1"], ":a2t:b1"),
+        ("quoted letters", &["E|2 | \\\"ab\\\"|1"], ":a2t:b1"),
+        ("one letter", &["E|2 | a|1"], ":a1t"),
+    ];
+    compare_by(&rt, rt.alloc(), &Alphabet::empty(), ROWS)?;
+    let words = Alphabet::read(rt.alloc(), "a\nb")?;
+    compare_by(&rt, rt.alloc(), &words, WORDS)?;
+    compare_by(&rt, rt.alloc(), &words.by_character(), LETTERS)
 }
 
-#[test]
-fn names_the_first_context_that_is_not_closed(rt: HostRuntime) -> Result<(), Fail> {
-    const ROWS: &[Row] = &[
-        ("left open", &["E|2 | $[|1"], "context A 2"),
-        ("open at an end", &["E|2 | $[|3 a|14 $]|1"], "context A 2"),
-        (
-            "the outer one",
-            &["E|2 | $[|3 $[|4 a|5 $]|1"],
-            "context A 2",
-        ),
-        (
-            "one that may not follow, closed in two boxes",
-            &["E|2 | $![|3 a|45 $]|1 $]|1"],
-            "context A 2",
-        ),
-        ("not opened", &["E|2 | a|3 $]|1"], "context A 3"),
-        (
-            "in a graph that is called",
-            &["E|2 | B|1", "E|2 | $[|1"],
-            "context B 2",
-        ),
-    ];
-    compare_nets(&rt, rt.alloc(), ROWS)
-}
+/// A name, the graphs, and how many different masks their net has.
+type Counted = (&'static str, &'static [&'static str], usize);
 
 #[test]
-fn names_the_first_loop_and_the_first_left_recursion(rt: HostRuntime) -> Result<(), Fail> {
-    const ROWS: &[Row] = &[
+fn counts_each_mask_once(rt: HostRuntime) -> Result<(), Fail> {
+    const ROWS: &[Counted] = &[
+        ("no mask", &["E|2 | a|1"], 0),
+        ("a mask in two boxes", &["E|2 | <N>|3 <N>|1"], 1),
+        ("a mask twice on a line", &["E|2 | <N><N>|1"], 1),
         (
-            "a graph that begins with itself",
-            &["E|2 | A|3 a|1"],
-            "recursion A 2",
+            "a mask in two graphs",
+            &["E|2 | <N>|3 B|1", "E|2 | <N>|1"],
+            1,
         ),
-        (
-            "behind a call that may take nothing",
-            &["E|2 | B|3 A|4 a|1", "E|2 | E|1"],
-            "recursion A 3",
-        ),
-        (
-            "behind a call of a word",
-            &["E|2 | B|3 A|4 a|1", "E|2 | b|1"],
-            ":B1:A2:a3t :b1t",
-        ),
-        (
-            "two graphs in turn",
-            &["E|2 | B|1", "E|2 | A|1"],
-            "recursion A 2",
-        ),
-        ("two empty boxes", &["E|3 | E|3 E|12"], "loop A 2"),
-        ("glue that leads to itself", &["E|2 | #|12"], "loop A 2"),
-        (
-            "a begin with an output that leads to itself",
-            &["E|2 | $v(/x|12"],
-            "loop A 2",
-        ),
-        (
-            "a call of itself after an output",
-            &["E|2 | A/x|3 a|1"],
-            "recursion A 2",
-        ),
-        (
-            "a call that may take nothing",
-            &["E|2 | B|3 E|12", "E|2 | E|1"],
-            "loop A 2",
-        ),
-        (
-            "a call of a word that leads to itself",
-            &["E|2 | B|12", "E|2 | b|1"],
-            ":B1tB1 :b1t",
-        ),
-        (
-            "loops in two graphs",
-            &["E|3 | B|1 E|23", "E|2 | E|12"],
-            "loop A 3",
-        ),
-        (
-            "a loop behind a recursion",
-            &["E|2 | A+B|1", "E|2 | E|12"],
-            "loop B 2",
-        ),
+        ("two names of one mask", &["E|2 | <WORD>+<MOT>|1"], 1),
+        ("a mask and its negation", &["E|2 | <N>+<!N>|1"], 2),
+        ("a mark in braces", &["E|2 | {S}|1"], 0),
     ];
-    compare_nets(&rt, rt.alloc(), ROWS)
+    for row in ROWS {
+        let net = compiled(rt.alloc(), row.1, &Alphabet::empty())?;
+        compare(&rt, row.0, net.masks(), row.2);
+    }
+    Ok(())
 }

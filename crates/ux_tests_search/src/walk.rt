@@ -1,6 +1,9 @@
-//! Rows of walks from one position, each over a graph of one box.
+//! Where walks from a position end, as a walk lists them and as a walker finds them, over a graph
+//! of one box, or of two, of which the first leads to the second, and whether the walker holds the
+//! position back from then on.
 //!
-//! The text is `The`, a space, `cat`, a comma, a space, `x`.
+//! What is found in a text is shown by rows of `unitex_rows`; whether a position is held back shows
+//! in no command. The text is `The`, a space, `cat`, a comma, a space, `x`.
 
 ghost use Rattle.std.specs.Prelude.{◌≡◌, ◌<◌, IfOk};
 ghost use Rattle.ux_lexical_tables.specs.Belonging.{Belongs};
@@ -10,7 +13,6 @@ use crate::comparing::compare;
 use crate::graphs::compiled;
 use std::alloc::{AllocError, Global};
 use std::marker::Brand;
-use std::process::Abort;
 use std::sync::ledger::{Blank, Ledger};
 use std::test::Fail;
 use ux_alphabet::Alphabet;
@@ -23,26 +25,27 @@ use ux_net::Net;
 use ux_outputs::Event;
 use ux_tokens::Text;
 use ux_walk::{NoContexts, walk};
+use ux_walker::Walker;
 
-/// The positions at which walks end, with a space behind each.
+/// The positions at which walks end, each after a space.
 fn ends(alloc: Global, found: &[(usize, Lst<Event>)]) -> Result<String, AllocError> {
     let mut all = String::new(alloc);
     for (end, _) in found {
-        let text = format!(in alloc; "{end} ")?;
+        let text = format!(in alloc; " {end}")?;
         all.push_str(text.as_str())?;
     }
     Ok(all)
 }
 
 /// What applies to a text without dictionaries.
-pub fn without_dictionaries(alloc: Global, text: &Text, alphabet: &Alphabet) -> Mem<LexicalTables>
+fn without_dictionaries(alloc: Global, text: &Text, alphabet: &Alphabet) -> Mem<LexicalTables>
     ensures { IfOk result (Belongs alphabet.now text.now) }
 {
     let dics: [(Priority, ListLexicon); 0] = [];
     apply(alloc, text, alphabet, &dics)
 }
 
-/// The ends of the walks from a position, `outside`, or `contexts`.
+/// The ends from a position, by a walk and then by a walker.
 fn walked(alloc: Global, net: &Net, text: &Text, alphabet: &Alphabet, start: usize) -> Mem<String> {
     let applied = without_dictionaries(alloc, text, alphabet)?;
     walked_by::<Brand>(alloc, net, text, alphabet, &applied, start, Blank::new(1))
@@ -65,10 +68,19 @@ fn walked_by<L: Ledger>(
 {
     let mut steps = Steps::<L>::new(blank);
     let masked = MaskedText::of(alloc, net, text, alphabet, applied, &mut steps)?;
-    walked_in(alloc, &masked, start)
+    walked_twice(alloc, &masked, start)
 }
 
 /// The same, in a text with what its masks accept.
+fn walked_twice(alloc: Global, masked: &MaskedText, start: usize) -> Mem<String>
+    requires { HasTable masked.now }
+{
+    let mut ends = walked_in(alloc, masked, start)?;
+    ends.push_str(way_in(alloc, masked, start)?.as_str())?;
+    Ok(ends)
+}
+
+/// The ends of the walks from a position.
 fn walked_in(alloc: Global, masked: &MaskedText, start: usize) -> Mem<String>
     requires { HasTable masked.now }
 {
@@ -83,118 +95,64 @@ fn walked_in(alloc: Global, masked: &MaskedText, start: usize) -> Mem<String>
     Ok(String::from_str(alloc, "contexts")?)
 }
 
-/// A name, the content of the box, the position, and the ends.
-type Row = (&'static str, &'static str, usize, &'static str);
-
-/// The graph of one box, compiled.
-pub fn one_box(alloc: Global, content: &str, alphabet: &Alphabet) -> Result<Net, Fail> {
-    let boxes = format!(in alloc; "E|2 | {content}|1")?;
-    Ok(compiled(alloc, &[boxes.as_str()], alphabet)?)
+/// What a walker finds from a position.
+fn way_in(alloc: Global, masked: &MaskedText, start: usize) -> Mem<String>
+    requires { HasTable masked.now }
+{
+    if start >= masked.text.len() {
+        return Ok(String::from_str(alloc, "outside")?);
+    }
+    if masked.net.is_plain() {
+        let mut walker = Walker::of(alloc, masked)?;
+        let mut ends = Vec::new(alloc);
+        walker.ends_from(alloc, start, &mut ends)?;
+        return Ok(told(alloc, ends.as_slice(), walker.may_begin(start))?);
+    }
+    Ok(String::from_str(alloc, "contexts")?)
 }
 
-/// The ends of the walks of a row.
-fn found(alloc: Global, text: &Text, alphabet: &Alphabet, row: &Row) -> Result<String, Fail> {
-    let net = one_box(alloc, row.1, alphabet)?;
+/// The ends, each after a space, behind a word that tells whether a walk may begin.
+fn told(alloc: Global, ends: &[usize], may_begin: bool) -> Result<String, AllocError> {
+    let word = if may_begin { ", walked" } else { ", held back" };
+    let mut all = String::from_str(alloc, word)?;
+    for end in ends {
+        let text = format!(in alloc; " {end}")?;
+        all.push_str(text.as_str())?;
+    }
+    Ok(all)
+}
+
+/// A name, the content of the box or the boxes, the position, and the ends.
+type Row = (&'static str, &'static str, usize, &'static str);
+
+/// The ends of a row, in a text over an alphabet.
+fn found_in(alloc: Global, text: &Text, alphabet: &Alphabet, row: &Row) -> Result<String, Fail> {
+    let boxes = format!(in alloc; "E|2 | {}|1", row.1)?;
+    let net = compiled(alloc, &[boxes.as_str()], alphabet)?;
     Ok(walked(alloc, &net, text, alphabet, row.2)?)
 }
 
-/// The rows, over one text and alphabet.
-fn compare_rows(
-    rt: &impl Abort,
-    alloc: Global,
-    text: &Text,
-    alphabet: &Alphabet,
-    rows: &[Row],
-) -> Result<(), Fail> {
-    for row in rows {
-        compare(
-            rt,
-            row.0,
-            found(alloc, text, alphabet, row)?.as_str(),
-            row.3,
-        );
+/// The ends of a row, in the text.
+fn found(alloc: Global, row: &Row) -> Result<String, Fail> {
+    let alphabet = Alphabet::read(alloc, "Tt\nHh\nEe\nNn\nCc\nAa\n")?;
+    let text = Text::read(alloc, String::from_str(alloc, "The  cat, x")?, &alphabet)?;
+    found_in(alloc, &text, &alphabet, row)
+}
+
+#[test]
+fn walks_and_walkers_find_all_ends(rt: HostRuntime) -> Result<(), Fail> {
+    const ROWS: &[Row] = &[
+        ("a literal", "the", 0, " 1, walked 1"),
+        ("two that begin alike", "the|13 cat", 0, " 1 3, walked 1 3"),
+        ("the last token", "x", 5, " 6, walked 6"),
+        ("no first token", "dog|3 cat", 0, ", held back"),
+        ("no second token", "the|3 dog", 0, ", held back"),
+        ("glue after a literal", "cat#", 2, " 3, walked 3"),
+        ("a space after a literal", "the_", 0, " 2, walked 2"),
+        ("glue alone", "#", 0, " 0, held back"),
+    ];
+    for row in ROWS {
+        compare(&rt, row.0, found(rt.alloc(), row)?.as_str(), row.3);
     }
     Ok(())
-}
-
-/// The text of the rows.
-pub fn read(alloc: Global, alphabet: &Alphabet) -> Result<Text, Fail> {
-    let text = String::from_str(alloc, "The  cat, x")?;
-    Ok(Text::read(alloc, text, alphabet)?)
-}
-
-/// The letters of the rows.
-pub fn letters(alloc: Global) -> Result<Alphabet, Fail> {
-    Ok(Alphabet::read(alloc, "Tt\nHh\nEe\nNn\nCc\nAa\n")?)
-}
-
-fn compare_walks(rt: &impl Abort, alloc: Global, rows: &[Row]) -> Result<(), Fail> {
-    let alphabet = letters(alloc)?;
-    compare_rows(rt, alloc, &read(alloc, &alphabet)?, &alphabet, rows)
-}
-
-/// The rows, where each letter is a word of its own.
-fn compare_letters(rt: &impl Abort, alloc: Global, rows: &[Row]) -> Result<(), Fail> {
-    let alphabet = letters(alloc)?.by_character();
-    compare_rows(rt, alloc, &read(alloc, &alphabet)?, &alphabet, rows)
-}
-
-#[test]
-fn entries_fit_tokens(rt: HostRuntime) -> Result<(), Fail> {
-    const ROWS: &[Row] = &[
-        ("an upper-case letter of the text", "the", 0, "1 "),
-        ("an upper-case letter of both", "The", 0, "1 "),
-        ("an upper-case letter of the graph", "caT", 2, ""),
-        ("a space is passed over", "cat", 1, "3 "),
-        ("no space is needed", "cat", 2, "3 "),
-        ("another character", ",", 3, "4 "),
-        ("a front of the token", "th", 0, ""),
-        ("more than the token", "then", 0, ""),
-        ("no token behind the end", "x", 6, ""),
-        ("one of two", "cat+the", 0, "1 "),
-    ];
-    compare_walks(&rt, rt.alloc(), ROWS)
-}
-
-#[test]
-fn letters_are_words_where_the_alphabet_is_single(rt: HostRuntime) -> Result<(), Fail> {
-    const ROWS: &[Row] = &[
-        ("a part of a word", "he", 1, "3 "),
-        ("an upper-case letter of the text", "the", 0, "3 "),
-        ("the start of a word", "th", 0, "2 "),
-        ("a space is passed over", "cat", 3, "7 "),
-        ("more than the word", "then", 0, ""),
-        ("spaces between letters", "ec", 2, "5 "),
-        ("one letter of several", "cat+he", 1, "3 "),
-    ];
-    compare_letters(&rt, rt.alloc(), ROWS)
-}
-
-#[test]
-fn quoted_texts_are_tokens(rt: HostRuntime) -> Result<(), Fail> {
-    const ROWS: &[Row] = &[
-        ("the same text", "\\\"The\\\"", 0, "1 "),
-        ("behind a space", "\\\"x\\\"", 4, "6 "),
-        ("another case", "\\\"the\\\"", 0, ""),
-    ];
-    compare_walks(&rt, rt.alloc(), ROWS)
-}
-
-#[test]
-fn spaces_are_found_and_shunned(rt: HostRuntime) -> Result<(), Fail> {
-    const ROWS: &[Row] = &[
-        ("a space at the start", "_", 0, ""),
-        ("glue at the start", "#", 0, "0 "),
-        ("a space before a space", "_", 1, "2 "),
-        ("glue before a space", "#", 1, ""),
-        ("a space behind a space", "_", 2, ""),
-        ("glue behind a space", "#", 2, "2 "),
-        ("a space before punctuation", "_", 3, ""),
-        ("glue before punctuation", "#", 3, "3 "),
-        ("a space behind punctuation", "_", 4, "5 "),
-        ("glue behind punctuation", "#", 4, ""),
-        ("a space at the end", "_", 6, ""),
-        ("glue at the end", "#", 6, "6 "),
-    ];
-    compare_walks(&rt, rt.alloc(), ROWS)
 }
