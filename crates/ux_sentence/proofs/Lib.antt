@@ -1,0 +1,17 @@
+pub mod DueLemmas
+pub mod EntryLemmas
+pub mod Examples
+pub mod FileLemmas
+pub mod Laws
+pub mod LinesLemmas
+pub mod LinkLemmas
+pub mod NumbersLemmas
+pub mod OpeningLemmas
+pub mod PassageLemmas
+pub mod PathLaws
+pub mod PlaceLemmas
+pub mod PrintLemmas
+pub mod PrintedEntries
+pub mod ReadingLemmas
+pub mod RoundTripLemmas
+pub mod ValidLemmas
