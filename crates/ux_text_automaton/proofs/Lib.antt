@@ -1,0 +1,15 @@
+pub mod KindLemmas
+pub mod RunLemmas
+pub mod StateLemmas
+pub mod PrintedLemmas
+pub mod OrderLemmas
+pub mod LinkLemmas
+pub mod SentenceLemmas
+pub mod BuildLemmas
+pub mod PathLemmas
+pub mod FoundLemmas
+pub mod TextLemmas
+pub mod ValidLaws
+pub mod OneBuiltLaws
+pub mod DictionaryLemmas
+pub mod SentencePathLaws

@@ -1,0 +1,6 @@
+pub mod Runs
+pub mod Order
+pub mod Built
+pub mod SentencePaths
+pub mod Candidates
+pub mod DictionaryPaths
