@@ -1,0 +1,19 @@
+pub mod RunLemmas
+pub mod SaidLemmas
+pub mod SpotLemmas
+pub mod DraftLemmas
+pub mod WordLemmas
+pub mod ItemLemmas
+pub mod LineLemmas
+pub mod BoxLemmas
+pub mod PhaseLemmas
+pub mod BadLemmas
+pub mod ShapeLemmas
+pub mod FoundLemmas
+pub mod MarkedLemmas
+pub mod RulesLemmas
+pub mod OfLemmas
+pub mod LeavingLemmas
+pub mod SatisfyLemmas
+pub mod Laws
+mod Examples

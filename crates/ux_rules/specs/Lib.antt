@@ -1,0 +1,9 @@
+pub mod Tests
+pub mod Runs
+pub mod Words
+pub mod Marks
+pub mod Refusing
+pub mod Rules
+pub mod Drafts
+pub mod Phases
+pub mod Finding
