@@ -1,0 +1,17 @@
+pub mod ElementsLemmas
+pub mod SpellingLemmas
+pub mod SubsetsSpellLemmas
+pub mod BackwardsLemmas
+pub mod LeftLemmas
+pub mod PassesLemmas
+pub mod BuiltLemmas
+pub mod PlacingLemmas
+pub mod ExpandingLemmas
+pub mod NotingLemmas
+pub mod StagesLemmas
+pub mod CollectingLemmas
+pub mod InsertingLemmas
+pub mod GatheringLemmas
+pub mod InterningLemmas
+pub mod RowsLemmas
+pub mod GroupingLemmas

@@ -1,0 +1,140 @@
+-- An automaton of subsets while it is built.
+use Rattle.std.specs.Prelude.{◌≡◌, ◌≢◌, ℕ, zero, suc, ◌+◌, ◌<◌, ◌≤◌, ◌↔◌, ◌⊎◌, List, [], ◌∷◌, ◌++◌, length, Contains}
+use Rattle.ux_subsets.specs.declared.automaton.Link.{Link}
+use Rattle.ux_subsets.specs.declared.sets.Set.{Set}
+use Rattle.ux_subsets.specs.declared.sets.Over.{Over}
+use Rattle.ux_subsets.specs.declared.sets.Waiting.{Waiting}
+use Rattle.ux_subsets.specs.Paths.{link, Spells}
+use Rattle.std.specs.List.Sorted.{IsStrictlyIncreasing}
+use Rattle.ux_subsets.specs.Machines.{AreSubsets}
+
+-- the link to the last state where a path is over
+abbrev pub closing : ℕ → Over → Link
+closing last' o = link o.from last' o.reading
+
+-- the states of the set with that number
+abbrev pub states_at : List Set → ℕ → List ℕ
+states_at [] n = []
+states_at (set ∷ sets) zero = set.states.items
+states_at (set ∷ sets) (suc n) = states_at sets n
+
+-- the machine's state with the set of that number
+abbrev pub seen_at : List Set → ℕ → ℕ
+seen_at [] n = 0
+seen_at (set ∷ sets) zero = set.seen
+seen_at (set ∷ sets) (suc n) = seen_at sets n
+
+abbrev pub over_at : (from reading : ℕ) → Over
+over_at n r = record { from = n; reading = r }
+
+module _ (last : ℕ) (links : List Link) where
+  -- a reading leads from a state of the set with that number to the state
+  abbrev pub Leads : (sets : List Set) → (n reading to : ℕ) → Type 0
+  Leads sets n r t = (s : ℕ) × Contains (states_at sets n) s × Contains links (link s t r)
+
+  abbrev pub Next : (sets : List Set) → (n reading to : ℕ) → Type 0
+  Next sets n r t = (t ≢ last) × Leads sets n r t
+
+module _ (Stands : ℕ → List ℕ → Type 0) (Satisfies : List ℕ → Type 0) (last : ℕ) (links : List Link) where
+  -- the sets below `expanded` have all their links; what waits has its target's set, whose states are at least `level`
+  pub record IsBuilt (sets : List Set) (links' : List Link) (overs : List Over) (Waits : Waiting → Type 0) (expanded level : ℕ) : Type 0 where
+    pub first : states_at sets 0 ≡ 0 ∷ []
+    pub some : 0 < length sets
+    pub count : expanded ≤ length sets
+    pub linked : (l : Link) → Contains links' l → (l.from < l.to) × (l.from < expanded) × (l.to < length sets)
+    pub linked_set : (l : Link) → Contains links' l → (t : ℕ) → Contains (states_at sets l.to) t ↔ Next last links sets l.from l.reading t
+    pub waits : (w : Waiting) → Waits w → w.from < expanded
+    pub waits_set : (w : Waiting) → Waits w → (t : ℕ) → Contains w.set.states.items t ↔ Next last links sets w.from w.reading t
+    pub waits_some : (w : Waiting) → Waits w → (t : ℕ) × Contains w.set.states.items t
+    pub waits_level : (w : Waiting) → Waits w → (t : ℕ) → Contains w.set.states.items t → level ≤ t
+    pub fresh : Stands (seen_at sets 0) []
+    pub stood : (n : ℕ) → n < length sets → (before : List ℕ) × Stands (seen_at sets n) before
+    pub linked_seen : (l : Link) → Contains links' l → (before : List ℕ) → Stands (seen_at sets l.from) before → Stands (seen_at sets l.to) (before ++ l.reading ∷ [])
+    pub waits_seen : (w : Waiting) → Waits w → (before : List ℕ) → Stands (seen_at sets w.from) before → Stands w.set.seen (before ++ w.reading ∷ [])
+    pub over : (n r : ℕ) → n < expanded → (before : List ℕ) → Stands (seen_at sets n) before →
+        Contains overs (over_at n r) ↔ (Leads last links sets n r last × Satisfies (before ++ r ∷ []))
+    pub over_in : (o : Over) → Contains overs o → o.from < expanded
+    pub going : (n r t : ℕ) → n < expanded → Next last links sets n r t →
+        ((k : ℕ) × Contains links' (link n k r)) ⊎ ((w : Waiting) × Waits w × (w.from ≡ n) × (w.reading ≡ r))
+    pub once : (l m : Link) → Contains links' l → Contains links' m → l.from ≡ m.from → l.reading ≡ m.reading → l.to ≡ m.to
+    pub apart : (l : Link) (w : Waiting) → Contains links' l → Waits w → l.from ≡ w.from → l.reading ≡ w.reading → ⊥
+    pub inside : (n s : ℕ) → n < length sets → Contains (states_at sets n) s → s < last
+    pub filled : (n : ℕ) → n < length sets → (s : ℕ) × Contains (states_at sets n) s
+    pub reached : (n : ℕ) → n < length sets → (readings : List ℕ) × Spells links' 0 n readings
+
+-- the number's set is the same as this one, which was there or is the last now
+pub record HasNumber (old new : List Set) (set : Set) (number : ℕ) : Type 0 where
+  pub there : number < length new
+  pub same : states_at new number ≡ set.states.items
+  pub same_seen : seen_at new number ≡ set.seen
+  pub either : (new ≡ old) ⊎ ((new ≡ old ++ set ∷ []) × (number ≡ length old) × ((n : ℕ) → n < length old → states_at old n ≡ set.states.items → seen_at old n ≡ set.seen → ⊥))
+
+-- the set that waits has a number, and the link goes to it
+pub record IsPlaced (old new : List Set) (links links' : List Link) (w : Waiting) : Type 0 where
+  pub number : ℕ
+  pub has : HasNumber old new w.set number
+  pub linked : links' ≡ links ++ link w.from number w.reading ∷ []
+
+-- no two wait for one reading from one state
+abbrev pub Unlike : Waiting → Waiting → Type 0
+Unlike x y = x.from ≡ y.from → x.reading ≡ y.reading → ⊥
+
+abbrev pub AreUnlike : List Waiting → Type 0
+AreUnlike [] = Unit {0}
+AreUnlike (x ∷ xs) = ((y : Waiting) → Contains xs y → Unlike x y) × AreUnlike xs
+
+-- each set is in ascending order, and no two have the same states and the same state of the machine
+pub record AreApart (sets : List Set) (Waits : Waiting → Type 0) : Type 0 where
+  pub sorted : (n : ℕ) → n < length sets → IsStrictlyIncreasing (states_at sets n)
+  pub waits_sorted : (w : Waiting) → Waits w → IsStrictlyIncreasing w.set.states.items
+  pub different : (n k : ℕ) → n < length sets → k < length sets → states_at sets n ≡ states_at sets k → seen_at sets n ≡ seen_at sets k → n ≡ k
+
+-- a stage of the building between levels
+pub record IsStage (Stands : ℕ → List ℕ → Type 0) (Satisfies : List ℕ → Type 0) (last : ℕ) (links : List Link) (sets : List Set) (links' : List Link) (overs : List Over) (waiting : List Waiting) (expanded level : ℕ) : Type 0 where
+  pub built : IsBuilt Stands Satisfies last links sets links' overs (Contains waiting) expanded level
+  pub unlike : AreUnlike waiting
+  pub fresh : (n s : ℕ) → expanded ≤ n → n < length sets → Contains (states_at sets n) s → level ≤ s + 1
+  pub apart : AreApart sets (Contains waiting)
+  pub lower : (n : ℕ) → n < length sets → (s : ℕ) × Contains (states_at sets n) s × (s < level)
+
+-- what waits from n by the reading, with this state of the machine: one set, or none where none goes on
+pub record AreNew (Goes : ℕ → Type 0) (n r next : ℕ) (new : List Waiting) : Type 0 where
+  pub from : (w : Waiting) → Contains new w → w.from ≡ n
+  pub reading : (w : Waiting) → Contains new w → w.reading ≡ r
+  pub set : (w : Waiting) → Contains new w → (t : ℕ) → Contains w.set.states.items t ↔ Goes t
+  pub some : (w : Waiting) → Contains new w → (t : ℕ) × Contains w.set.states.items t
+  pub each : (t : ℕ) → Goes t → (w : Waiting) × Contains new w
+  pub seen : (w : Waiting) → Contains new w → w.set.seen ≡ next
+  pub sorted : (w : Waiting) → Contains new w → IsStrictlyIncreasing w.set.states.items
+  pub unlike : AreUnlike new
+
+module _ (last : ℕ) (source : List Link) (states : List ℕ) (n : ℕ) where
+  abbrev pub LeadsFrom : (reading to : ℕ) → Type 0
+  LeadsFrom r t = (s : ℕ) × Contains states s × Contains source (link s t r)
+
+  abbrev pub NextFrom : (reading to : ℕ) → Type 0
+  NextFrom r t = (t ≢ last) × LeadsFrom r t
+
+  -- for each of these readings, n's paths that are over and the one set that its paths go on to
+  pub record IsExpansion (Stands Stands' : ℕ → List ℕ → Type 0) (Satisfies : List ℕ → Type 0) (seen : ℕ) (readings : List ℕ) (waiting waiting' : List Waiting) (overs overs' : List Over) : Type 0 where
+    pub over : (before : List ℕ) → Stands seen before → (o : Over) → Contains overs' o ↔
+        (Contains overs o ⊎ ((o.from ≡ n) × Contains readings o.reading × LeadsFrom o.reading last × Satisfies (before ++ o.reading ∷ [])))
+    pub new : List Waiting
+    pub appended : waiting' ≡ waiting ++ new
+    pub from : (w : Waiting) → Contains new w → w.from ≡ n
+    pub reading : (w : Waiting) → Contains new w → Contains readings w.reading
+    pub set : (w : Waiting) → Contains new w → (t : ℕ) → Contains w.set.states.items t ↔ NextFrom w.reading t
+    pub some : (w : Waiting) → Contains new w → (t : ℕ) × Contains w.set.states.items t
+    pub each : (r t : ℕ) → Contains readings r → NextFrom r t → (w : Waiting) × Contains new w × (w.reading ≡ r)
+    pub sees : (w : Waiting) → Contains new w → (before : List ℕ) → Stands seen before → Stands' w.set.seen (before ++ w.reading ∷ [])
+    pub sorted : (w : Waiting) → Contains new w → IsStrictlyIncreasing w.set.states.items
+    pub unlike : AreUnlike new
+
+-- the automaton's states but for its last are sets of the source's states with a state of the machine, no two the same
+pub record IsPass (Stands : ℕ → List ℕ → Type 0) (Satisfies : List ℕ → Type 0) (last : ℕ) (links : List Link) (last' : ℕ) (links' : List Link) : Type 0 where
+  pub sets : List Set
+  pub some : 0 < last'
+  pub are : AreSubsets Stands Satisfies last links (λ n s. Contains (states_at sets n) s) (seen_at sets) last' links'
+  pub stood : (n : ℕ) → n < last' → (before : List ℕ) × Stands (seen_at sets n) before
+  pub sorted : (n : ℕ) → n < last' → IsStrictlyIncreasing (states_at sets n)
+  pub different : (n k : ℕ) → n < last' → k < last' → states_at sets n ≡ states_at sets k → seen_at sets n ≡ seen_at sets k → n ≡ k
