@@ -1,0 +1,11 @@
+pub mod WordsLemmas
+pub mod RunsLemmas
+pub mod WatchingLemmas
+pub mod NotingLemmas
+pub mod OwingLemmas
+pub mod PassingLemmas
+pub mod FreeingLemmas
+pub mod NumbersLemmas
+pub mod NumberingLemmas
+pub mod MonitorsLemmas
+pub mod KeepingLemmas

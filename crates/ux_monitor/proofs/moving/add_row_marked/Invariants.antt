@@ -1,0 +1,11 @@
+use Rattle.std.proofs.Common.{take}
+use Rattle.std.specs.Prelude.{Contains}
+use Rattle.ux_subsets.proofs.CollectingLemmas.{IsCollected}
+use Rattle.ux_monitor.specs.declared.rule.Step.{Step}
+use Rattle.ux_monitor.specs.Arcs.{MarksTo}
+use Rattle.ux_monitor.proofs.moving.add_row_marked.Given as goal
+
+abbrev pub invariant-loop-arc : goal.invariant-loop-arc
+invariant-loop-arc l =
+    IsCollected (λ k. (s : Step) × Contains l.row s × MarksTo l.mark s k) (λ (s : Step) k. MarksTo l.mark s k)
+    l.fn.found.keys l.found.keys (take l.arc-index l.row)
