@@ -9,8 +9,8 @@ use Rattle.ux_plan.specs.Commands.{Command}
 use Rattle.ux_report.specs.Report.{IsReport}
 use Rattle.ux_tokens.specs.Tokens.{Token}
 use Rattle.ux_reasons.specs.declared.reason.Reason.{Reason}
-use Rattle.ux_cmd_dico.specs.Reading.{Read, dico_plan}
-use Rattle.ux_cmd_dico.specs.Laws.{laws}
+use Rattle.ux_dictionaries.specs.Texts.{LookedUp, text_with_dictionaries}
+use Rattle.ux_dictionaries.proofs.TextLaws.{text_with_dictionaries_laws}
 
 -- the report tells of the dictionaries' entries that apply to the tokens
 pub record IsReportOf (letters : Letters) (tokens : List Token) (dics : List (Priority × List Entry))
@@ -23,8 +23,8 @@ pub record IsReportOf (letters : Letters) (tokens : List Token) (dics : List (Pr
 abbrev pub dico : (text alphabet : List ℕ) → (names : List (List ℕ)) → (chars : Bool) →
     Command Reason
 dico text alphabet names chars = record {
-  Read = Read;
-  plan = dico_plan text alphabet names chars;
-  laws = laws text alphabet names chars;
-  Answers = λ read answer. IsReportOf read.0.0 read.0.1 read.1 answer;
+  Read = LookedUp;
+  plan = text_with_dictionaries text alphabet names chars;
+  laws = text_with_dictionaries_laws text alphabet names chars;
+  Answers = λ read answer. IsReportOf read.letters read.tokens read.dics answer;
 }

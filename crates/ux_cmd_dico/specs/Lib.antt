@@ -1,3 +1,1 @@
 pub mod Dico
-pub mod Laws
-pub mod Reading

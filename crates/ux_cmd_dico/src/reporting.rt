@@ -11,12 +11,11 @@ use std::alloc::Global;
 use ux_alphabet::Alphabet;
 use ux_apply::{Priority, apply};
 use ux_base::{Folder, Mem, Txt};
-use ux_dictionaries::read_dictionaries;
+use ux_dictionaries::{LookedUp, read_text_with_dictionaries};
 use ux_lexicon::AnyLexicon;
 use ux_plan::Stop;
 use ux_reasons::Reason;
 use ux_report::report;
-use ux_texts::read_letters_and_text;
 use ux_tokens::Text;
 
 /// Reads an alphabet, a text in its letters and dictionaries in the order of their names, and gives
@@ -37,8 +36,12 @@ pub fn dico<F: Folder>(
     ensures err { IfErr result (Halts (dico_command text.now alphabet.now dics.now chars).plan
         (F.seen folder.old) (F.seen folder.new)) }
 {
-    let (alphabet, text) = read_letters_and_text(alloc, text, alphabet, chars, folder)?;
-    let dics = read_dictionaries(alloc, dics, folder)?;
+    let read = read_text_with_dictionaries(alloc, text, alphabet, dics, chars, folder)?;
+    let LookedUp {
+        alphabet,
+        text,
+        dics,
+    } = read;
     let report = applied_report(alloc, &text, &alphabet, dics)?;
     Ok(report.into_bytes())
 }

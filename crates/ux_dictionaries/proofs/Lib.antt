@@ -1,2 +1,4 @@
 pub mod DictionaryLaws
 pub mod PriorityLemmas
+pub mod TextLaws
+pub mod TextSteps

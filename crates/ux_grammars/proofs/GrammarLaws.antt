@@ -24,7 +24,7 @@ same_drawn a b names boxes =
     ap (λ (name : List ℕ). D name a.boxes) names ∙ ap (D b.name) boxes
 
 -- a text draws one graph, and is then not refused; one that is refused is so for one cause
-drawing_sound : IsSound drawing_format
+pub drawing_sound : IsSound drawing_format
 drawing_sound =
     decoded_sound Decode (said_as Grf IsGraphOf IsNoGraph)
     (said_sound Grf IsGraphOf IsNoGraph (λ text v error is refused.

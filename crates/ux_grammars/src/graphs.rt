@@ -128,7 +128,7 @@ fn read_graph<F: Folder>(
 }
 
 /// The graph that the bytes of the file of this name draw.
-fn drawn_graph(alloc: Global, file: &str, bytes: Vec<u8>) -> Result<Graph, Stop<Reason>>
+pub fn drawn_graph(alloc: Global, file: &str, bytes: Vec<u8>) -> Result<Graph, Stop<Reason>>
     requires { length bytes.items ≤ MAX }
     ensures ok { IfOk result (drawing_format.Is bytes.items) }
     ensures given { IfOk result IsGivenGraph }

@@ -13,8 +13,12 @@ use Rattle.ux_dela.specs.declared.error.DelaError.{DelaError}
 use Rattle.ux_dela.specs.declared.error.DelaError.TheVariants as dela_error
 use Rattle.ux_image_reader.specs.declared.error.ImageError.{ImageError}
 use Rattle.ux_image_reader.specs.declared.error.ImageError.TheVariants as image_error
+use Rattle.ux_sentence.specs.declared.error.SentenceError.{SentenceError}
+use Rattle.ux_sentence.specs.declared.error.SentenceError.TheVariants as sentence_error
+use Rattle.ux_rules.specs.declared.error.RuleError.{RuleError}
+use Rattle.ux_rules.specs.declared.error.RuleError.TheVariants as rule_error
 use Rattle.ux_reasons.specs.declared.reason.Reason.{Reason}
-use Rattle.ux_reasons.specs.declared.reason.Reason.TheVariants.{Decode, Alphabet, Grf, Net, Dela, Image, TooManyGraphs}
+use Rattle.ux_reasons.specs.declared.reason.Reason.TheVariants.{Decode, Alphabet, Grf, Net, Dela, Image, Sentence, Rule, TooManyGraphs}
 
 -- texts, one after the other
 abbrev pub joined : List (List ℕ) → List ℕ
@@ -86,6 +90,21 @@ image_reason image_error.Trailing = codes "Trailing" ∷ []
 image_reason image_error.TooMany = codes "TooMany" ∷ []
 image_reason image_error.NoMemory = codes "NoMemory" ∷ []
 
+-- the same of sentence automata
+abbrev pub sentence_reason : SentenceError → List (List ℕ)
+sentence_reason (sentence_error.BadLine line) = codes "BadLine line=" ∷ decimal line ∷ []
+sentence_reason (sentence_error.BadEdge line) = codes "BadEdge line=" ∷ decimal line ∷ []
+sentence_reason (sentence_error.Backward line) = codes "Backward line=" ∷ decimal line ∷ []
+sentence_reason sentence_error.NoMemory = codes "NoMemory" ∷ []
+
+-- the same of a rule
+abbrev pub rule_reason : RuleError → List (List ℕ)
+rule_reason rule_error.NoIf = codes "NoIf" ∷ []
+rule_reason (rule_error.BadMarks node) = codes "BadMarks node=" ∷ decimal node ∷ []
+rule_reason (rule_error.Call node) = codes "Call node=" ∷ decimal node ∷ []
+rule_reason (rule_error.BadItem node) = codes "BadItem node=" ∷ decimal node ∷ []
+rule_reason rule_error.NoMemory = codes "NoMemory" ∷ []
+
 -- the same of any file
 abbrev pub reason_of : Reason → List (List ℕ)
 reason_of (Decode error) = decode_reason error
@@ -94,6 +113,8 @@ reason_of (Grf error) = grf_reason error
 reason_of (Net error) = net_reason error
 reason_of (Dela error) = dela_reason error
 reason_of (Image error) = image_reason error
+reason_of (Sentence error) = sentence_reason error
+reason_of (Rule error) = rule_reason error
 reason_of TooManyGraphs = codes "TooManyGraphs" ∷ []
 
 -- the line of a file that is refused, by its reason

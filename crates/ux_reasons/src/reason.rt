@@ -7,6 +7,8 @@ use ux_grf::GrfError;
 use ux_image_reader::ImageError;
 use ux_net::NetError;
 use ux_plan::OfDecode;
+use ux_rules::RuleError;
+use ux_sentence::SentenceError;
 
 /// Why a file is refused.
 #[derive(Drop)]
@@ -23,6 +25,10 @@ pub enum Reason {
     Dela(DelaError),
     /// The image's own reason.
     Image(ImageError),
+    /// The sentence automata's own reason.
+    Sentence(SentenceError),
+    /// The reason of a graph that is no rule.
+    Rule(RuleError),
     /// The grammar has 65,535 graphs before this one.
     TooManyGraphs,
 }

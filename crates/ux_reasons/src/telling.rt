@@ -6,7 +6,7 @@
 ghost use Rattle.std.specs.Prelude.{◌≤◌, ◌∷◌, [], OnOk, OnErr, codes, map};
 ghost use Rattle.std.specs.Fmt.{decimal};
 ghost use Rattle.ux_base.specs.Outside.{Rose, Appended, AppendedFront};
-ghost use Rattle.ux_reasons.specs.Reasons.{joined, refusal, reason_of, at_node, bad_mask, decode_reason, alphabet_reason, grf_reason, net_reason, at_place, dela_reason, image_reason};
+ghost use Rattle.ux_reasons.specs.Reasons.{joined, refusal, reason_of, at_node, bad_mask, decode_reason, alphabet_reason, grf_reason, net_reason, at_place, dela_reason, image_reason, sentence_reason, rule_reason};
 
 use crate::reason::Reason;
 use itoa::Buffer;
@@ -17,6 +17,8 @@ use ux_dela::DelaError;
 use ux_grf::GrfError;
 use ux_image_reader::ImageError;
 use ux_net::NetError;
+use ux_rules::RuleError;
+use ux_sentence::SentenceError;
 
 /// Writes texts, one after the other.
 pub fn say<E: Sink>(err: &mut E, texts: &[&str]) -> Result<(), SinkError>
@@ -49,6 +51,8 @@ pub fn say_refusal<E: Sink>(err: &mut E, file: &str, reason: &Reason) -> Result<
         Reason::Net(error) => say_net_error(err, file, error),
         Reason::Dela(error) => say_dela_error(err, file, error),
         Reason::Image(error) => say_image_error(err, file, error),
+        Reason::Sentence(error) => say_sentence_error(err, file, error),
+        Reason::Rule(error) => say_rule_error(err, file, error),
         Reason::TooManyGraphs => say_name(err, file, "TooManyGraphs"),
     }
 }
@@ -383,5 +387,44 @@ fn say_image_error<E: Sink>(err: &mut E, file: &str, error: &ImageError) -> Resu
         ImageError::Trailing => say_name(err, file, "Trailing"),
         ImageError::TooMany => say_name(err, file, "TooMany"),
         ImageError::NoMemory => say_name(err, file, "NoMemory"),
+    }
+}
+
+/// Writes the line of sentence automata that are refused.
+fn say_sentence_error<E: Sink>(
+    err: &mut E,
+    file: &str,
+    error: &SentenceError,
+) -> Result<(), SinkError>
+    ensures later { E.faults err.old ≤ E.faults err.new }
+    ensures cause { OnErr result (Rose (E.faults err.old) (E.faults err.new)) }
+    ensures line { OnOk result (Appended (E.written err.old) (E.written err.new)
+        (refusal file.now (sentence_reason error.now))) }
+    ensures front { OnErr result (AppendedFront (E.written err.old) (E.written err.new)
+        (refusal file.now (sentence_reason error.now))) }
+{
+    match error {
+        SentenceError::BadLine { line } => say_number(err, file, "BadLine line=", *line),
+        SentenceError::BadEdge { line } => say_number(err, file, "BadEdge line=", *line),
+        SentenceError::Backward { line } => say_number(err, file, "Backward line=", *line),
+        SentenceError::NoMemory => say_name(err, file, "NoMemory"),
+    }
+}
+
+/// Writes the line of a graph that is no rule.
+fn say_rule_error<E: Sink>(err: &mut E, file: &str, error: &RuleError) -> Result<(), SinkError>
+    ensures later { E.faults err.old ≤ E.faults err.new }
+    ensures cause { OnErr result (Rose (E.faults err.old) (E.faults err.new)) }
+    ensures line { OnOk result (Appended (E.written err.old) (E.written err.new)
+        (refusal file.now (rule_reason error.now))) }
+    ensures front { OnErr result (AppendedFront (E.written err.old) (E.written err.new)
+        (refusal file.now (rule_reason error.now))) }
+{
+    match error {
+        RuleError::NoIf => say_name(err, file, "NoIf"),
+        RuleError::BadMarks { node } => say_number(err, file, "BadMarks node=", *node as usize),
+        RuleError::Call { node } => say_number(err, file, "Call node=", *node as usize),
+        RuleError::BadItem { node } => say_number(err, file, "BadItem node=", *node as usize),
+        RuleError::NoMemory => say_name(err, file, "NoMemory"),
     }
 }

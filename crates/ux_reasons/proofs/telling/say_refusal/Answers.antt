@@ -79,3 +79,27 @@ returns-in-Image-clause-line g c = grind (arith, common_steps)
 
 pub returns-in-Image-clause-front : goal.returns-in-Image-clause-front
 returns-in-Image-clause-front g c = grind (arith, common_steps)
+
+pub returns-in-Sentence-clause-later : goal.returns-in-Sentence-clause-later
+returns-in-Sentence-clause-later g c = grind (arith, common_steps)
+
+pub returns-in-Sentence-clause-cause : goal.returns-in-Sentence-clause-cause
+returns-in-Sentence-clause-cause g c = grind (arith, common_steps)
+
+pub returns-in-Sentence-clause-line : goal.returns-in-Sentence-clause-line
+returns-in-Sentence-clause-line g c = grind (arith, common_steps)
+
+pub returns-in-Sentence-clause-front : goal.returns-in-Sentence-clause-front
+returns-in-Sentence-clause-front g c = grind (arith, common_steps)
+
+pub returns-in-Rule-clause-later : goal.returns-in-Rule-clause-later
+returns-in-Rule-clause-later g c = grind (arith, common_steps)
+
+pub returns-in-Rule-clause-cause : goal.returns-in-Rule-clause-cause
+returns-in-Rule-clause-cause g c = grind (arith, common_steps)
+
+pub returns-in-Rule-clause-line : goal.returns-in-Rule-clause-line
+returns-in-Rule-clause-line g c = grind (arith, common_steps)
+
+pub returns-in-Rule-clause-front : goal.returns-in-Rule-clause-front
+returns-in-Rule-clause-front g c = grind (arith, common_steps)

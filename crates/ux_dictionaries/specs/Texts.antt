@@ -1,4 +1,5 @@
--- What the command `dico` reads, in which order. Public, through `Dico`.
+-- A text and the dictionaries that are applied to it: what is read, in which order. Public: commands
+-- cite it.
 use Rattle.std.specs.Prelude.{ℕ, Bool, List}
 use Rattle.ux_alphabet.specs.Letters.{Letters}
 use Rattle.ux_apply.specs.declared.priority.Priority.{Priority}
@@ -10,13 +11,15 @@ use Rattle.ux_texts.specs.Texts.{letters_and_text}
 use Rattle.ux_tokens.specs.Tokens.{Token}
 
 -- the letters and the tokens of a text, and the dictionaries that are applied to it
-abbrev pub Read : Type 0
-Read = (Letters × List Token) × List (Priority × List Entry)
+pub record LookedUp : Type 0 where
+  pub letters : Letters
+  pub tokens : List Token
+  pub dics : List (Priority × List Entry)
 
 -- an alphabet, a text in its letters, and the dictionaries of these names
-abbrev pub dico_plan : (text alphabet : List ℕ) → (names : List (List ℕ)) → (chars : Bool) →
-    Plan Reason Read
-dico_plan text alphabet names chars =
+abbrev pub text_with_dictionaries : (text alphabet : List ℕ) → (names : List (List ℕ)) →
+    (chars : Bool) → Plan Reason LookedUp
+text_with_dictionaries text alphabet names chars =
     then (letters_and_text text alphabet chars) (λ read.
     then (each dictionary_format names) (λ dics.
-    gives (read, dics)))
+    gives (record { letters = read.0; tokens = read.1; dics = dics })))
