@@ -39,6 +39,12 @@ usage: unitex COMMAND ARGUMENTS
   dico TEXT ALPHABET [DIC..]   reads a text, its letters and dictionaries,
                                writes their report
     --chars                    each letter is a token of its own
+  txt2tfst TEXT ALPHABET [DIC..]
+                               reads the same, writes the automaton of each
+                               sentence
+    --chars                    each letter is a token of its own
+  elag TFST RULE..             reads such automata and graphs of rules, writes
+                               the automata of what satisfies every rule
   bench N                      searches a text of N words that is made up, at
                                most 200000, writes how many words, tokens and
                                hits there are, and the longest hit's tokens

@@ -71,6 +71,18 @@ images : IsAsked (asked_by (codes "dico" ∷ codes "t.txt" ∷ codes "a.txt" ∷
     ∷ codes "d.udi" ∷ []))
 images = tt
 
+-- the automata of a text's sentences, and rules over them
+some_sentences : IsAsked (asked_by (codes "txt2tfst" ∷ codes "t.txt" ∷ codes "a.txt"
+    ∷ codes "d.dic" ∷ []))
+some_sentences = tt
+
+some_rules : IsAsked (asked_by (codes "elag" ∷ codes "t.tfst" ∷ codes "r.grf" ∷ codes "s.grf" ∷ []))
+some_rules = tt
+
+-- there has to be a rule
+no_rule : IsAsked (asked_by (codes "elag" ∷ codes "t.tfst" ∷ [])) → ⊥
+no_rule is = is
+
 a_made_text : IsAsked (asked_by (codes "bench" ∷ codes "5" ∷ []))
 a_made_text = tt
 

@@ -16,8 +16,10 @@ use ux_cmd_check::{check_entries, check_stems};
 use ux_cmd_compress::compress;
 use ux_cmd_concord::{Layout, concord};
 use ux_cmd_dico::dico;
+use ux_cmd_elag::elag;
 use ux_cmd_locate::locate;
 use ux_cmd_tokenize::tokenize;
+use ux_cmd_txt2tfst::txt2tfst;
 use ux_command_line::{HELP, Request, Search, VERSION};
 use ux_plan::Stop;
 use ux_reasons::Reason;
@@ -68,6 +70,18 @@ pub fn answer_to<F: Folder>(
             let (text, alphabet) = (text.as_str(), alphabet.as_str());
             by_command(dico(alloc, text, alphabet, dics.as_slice(), *chars, folder))
         }
+        Request::Tfst {
+            text,
+            alphabet,
+            dics,
+            chars,
+        } => {
+            let (text, alphabet) = (text.as_str(), alphabet.as_str());
+            by_command(txt2tfst(alloc, text, alphabet, dics.as_slice(), *chars, folder))
+        }
+        Request::Elag { tfst, rules } => {
+            by_command(elag(alloc, tfst.as_str(), rules.as_slice(), folder))
+        }
         Request::Bench { n } => summary_of(alloc, *n),
         Request::Help => text_of(alloc, HELP),
         Request::Version => text_of(alloc, VERSION),
@@ -75,8 +89,6 @@ pub fn answer_to<F: Folder>(
         | Request::Concord { .. }
         | Request::Fst2 { .. }
         | Request::Inflect { .. }
-        | Request::Tfst { .. }
-        | Request::Elag { .. }
         | Request::Cascade { .. }
         | Request::Flatten { .. }
         | Request::Tfind { .. }

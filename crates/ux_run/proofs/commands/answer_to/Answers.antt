@@ -2,6 +2,7 @@ use Rattle.std.proofs.Common.{◌≡◌}
 use Rattle.ux_command_line.specs.declared.help.TheConstants.{HELP, VERSION}
 use Rattle.ux_cmd_bench.specs.Bench.{IsSummaryOf}
 use Rattle.ux_cmd_dico.specs.Dico.{dico}
+use Rattle.ux_cmd_txt2tfst.specs.Tfst.{txt2tfst}
 use Rattle.ux_run.proofs.Ending.{told_answers, told_denies, unread_answers, unread_denies}
 use Rattle.ux_run.proofs.commands.answer_to.Goals as goal
 
@@ -25,6 +26,26 @@ returns-in-Dico-clause-err g c =
     c.dico.ensures.err in
     rw r.is (told_denies (dico r.text r.alphabet r.dics r.chars) c.dico.result called.result
     called.ensures (seen c.args.folder.now) (seen c.dico.new.folder) halts)
+
+pub returns-in-Tfst-clause-ok : goal.returns-in-Tfst-clause-ok
+returns-in-Tfst-clause-ok g c =
+    let r = c.in-Tfst in
+    let called = c.by_command-in-Tfst in
+    let files = (g.F.Folder.seen c.args.folder.now).files in
+    let answers = rw (c.as_str-text-in-Tfst.ensures, c.as_str-alphabet-in-Tfst.ensures, c.as_slice-in-Tfst.ensures) at
+    c.txt2tfst.ensures.ok in
+    rw r.is (told_answers (txt2tfst r.text r.alphabet r.dics r.chars) c.txt2tfst.result called.result
+    called.ensures files answers)
+
+pub returns-in-Tfst-clause-err : goal.returns-in-Tfst-clause-err
+returns-in-Tfst-clause-err g c =
+    let r = c.in-Tfst in
+    let called = c.by_command-in-Tfst in
+    let seen = g.F.Folder.seen in
+    let halts = rw (c.as_str-text-in-Tfst.ensures, c.as_str-alphabet-in-Tfst.ensures, c.as_slice-in-Tfst.ensures) at
+    c.txt2tfst.ensures.err in
+    rw r.is (told_denies (txt2tfst r.text r.alphabet r.dics r.chars) c.txt2tfst.result called.result
+    called.ensures (seen c.args.folder.now) (seen c.txt2tfst.new.folder) halts)
 
 pub returns-in-Help-clause-ok : goal.returns-in-Help-clause-ok
 returns-in-Help-clause-ok g c =

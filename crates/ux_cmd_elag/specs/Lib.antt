@@ -1,0 +1,5 @@
+pub mod Elag
+pub mod Files
+pub mod Laws
+pub mod Reading
+pub mod Ruling
