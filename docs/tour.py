@@ -8,8 +8,10 @@ An example stands in a fenced block of README.md or docs/*.md, or in the manual 
 - A line `$ unitex ..` is a command. It is run in a copy of examples/. What stands below it, up to the next `$ ` or
   the block's end, is what it writes: standard output, then standard error. A command that is followed by
   `# status N` has to end with this exit status, any other with 0.
-- A line `$ cat FILE` shows a file of examples/.
-- A block that begins with ```text FILE is the whole of that file of examples/.
+- A line `$ unitex .. > FILE` is a command whose standard output is the file FILE of examples/, whole.
+- A line `$ cat FILE` shows a file of examples/, and `$ diff FILE FILE` in what two of them differ.
+- A block that begins with ```text FILE is the whole of that file of examples/, and one that begins with
+  ```text FILE part is some lines of it, as they stand there one below the other.
 - Another block of kind text is refused, so that none is left out by mistake.
 - The commands between .EX and .EE of docs/unitex.1 are run, and have to end with status 0.
 
@@ -36,12 +38,17 @@ SECONDS = 60
 
 @dataclass
 class Shown:
-    """What a document shows: a command with what it writes, or a file (then there are no words of a command)."""
+    """What a document shows: a command with what it writes, also what it writes into a file of examples/; or a file."""
     where: str
     words: list
     text: str
     status: int = 0
     compared: bool = True
+    kept: str = ""
+
+    def expected(self):
+        """All that the command has to write: the file first, then what is shown."""
+        return (cat([self.kept])[0] if self.kept else "") + self.text
 
 
 def documents():
@@ -76,7 +83,9 @@ def sessions(path, begun, block):
         if line.startswith("$ "):
             command, _, remark = line[2:].partition(" #")
             status = re.search(r"\bstatus (\d+)$", remark)
-            shown = Shown(f"{path}:{number}", shlex.split(command), "", int(status[1]) if status else 0)
+            words, _, kept = command.partition(" > ")
+            ending = int(status[1]) if status else 0
+            shown = Shown(f"{path}:{number}", shlex.split(words), "", ending, kept=kept.strip())
             yield shown
         else:
             shown.text += line + "\n"
@@ -90,6 +99,8 @@ def shown_in(path):
             yield from sessions(path, begun, block)
         elif len(kind) == 2:
             yield Shown(f"{path}:{begun}", ["cat", kind[1]], "".join(line + "\n" for line in block))
+        elif len(kind) == 3 and kind[2] == "part":
+            yield Shown(f"{path}:{begun}", ["part", kind[1]], "".join(line + "\n" for line in block))
         elif kind == ["text"]:
             sys.exit(f"{path}:{begun}: a block of kind text begins with a command, or names a file of examples/")
 
@@ -121,6 +132,20 @@ def cat(names):
             return f"there is no file examples/{name}\n", 1
         text += content(name)
     return text if text == "" or text.endswith("\n") else text + "\n", 0
+
+
+def part(name, lines):
+    """These lines, where they stand one below the other in this file of examples/; else the whole file."""
+    text, status = cat([name])
+    return (lines if "\n" + lines in "\n" + text else text), status
+
+
+def diff(names):
+    """In what two files of examples/ differ. The program diff ends with 1 where they do."""
+    if len(names) != 2 or not all(os.path.isfile(os.path.join(EXAMPLES, name)) for name in names):
+        return "diff takes two files of examples/\n", 1
+    done = subprocess.run(["diff", *names], cwd=EXAMPLES, stdin=subprocess.DEVNULL, capture_output=True)
+    return done.stdout.decode("utf-8", "backslashreplace"), 0 if done.returncode == 1 else done.returncode
 
 
 def run(program, folder, words):
@@ -157,10 +182,11 @@ def compare(shown, text, status):
     problems = []
     if status != shown.status:
         problems.append(f"it ended with status {status}, and {shown.status} is shown")
-    if shown.compared and text != shown.text:
-        problems += difflib.unified_diff(shown.text.splitlines(), text.splitlines(), "shown", "written", lineterm="")
+    expected = shown.expected()
+    if shown.compared and text != expected:
+        problems += difflib.unified_diff(expected.splitlines(), text.splitlines(), "shown", "written", lineterm="")
         if not problems:
-            problems.append(f"the ends of lines differ: {shown.text[-20:]!r} is shown, {text[-20:]!r} was written")
+            problems.append(f"the ends of lines differ: {expected[-20:]!r} is shown, {text[-20:]!r} was written")
     if problems:
         print(f"{shown.where}: {shlex.join(shown.words)}", *problems, sep="\n  ")
     return not problems
@@ -180,6 +206,10 @@ def main():
             answer = next(answers)
         elif shown.words[0] == "cat":
             answer = cat(shown.words[1:])
+        elif shown.words[0] == "part":
+            answer = part(shown.words[1], shown.text)
+        elif shown.words[0] == "diff":
+            answer = diff(shown.words[1:])
         else:
             answer = "this is no command of the tour\n", 127
         good += compare(shown, *answer)
