@@ -5,6 +5,8 @@
 - Each function in a table of docs/PROVED.md is one of its crate, and each clause is one of that crate's contracts.
 - Each wrong body in a table of docs/PROVED.md is an edit that the gate tries.
 - Each definition that a clause of a public function cites stands in docs/DEFINITIONS.md.
+- Each link of a document leads to a file of the repository, and to a heading of it where it names one. A page that a
+  document names, it names by a link.
 
 A name in italics, as *`this`*, isn't looked for: it is of something that isn't there yet.
 """
@@ -19,6 +21,11 @@ DECLARED = re.compile(r"^ *(?:(?:abbrev|unfoldable|opaque) pub|pub (?:record|dat
 IMPORT = re.compile(r"ghost use Rattle\.(ux_\w+)\.specs\.(\w+)\.\{([^}]*)\};")
 PLANNED = re.compile(r"\*`[^`]+`\*")
 NAME = re.compile(r"`([^`]+)`")
+PAGES = ["README.md", "CONTRIBUTING.md", "CHANGELOG.md",
+         *sorted(f"docs/{name}" for name in os.listdir(os.path.join(TOP, "docs")) if name.endswith(".md"))]
+FENCED = re.compile(r"^( *)```.*?^\1```$", re.M | re.S)
+LINK = re.compile(r"\[([^][]*)\]\(([^()\s]+)\)")
+PAGE = re.compile(r"[\w/]*\b(?:" + "|".join(re.escape(os.path.basename(name)) for name in PAGES + ["unitex.1"]) + r")\b")
 
 
 def text_of(path):
@@ -157,6 +164,42 @@ def cited():
     return found
 
 
+def fragment(heading):
+    """How a link names a heading: in lower case, with hyphens for spaces and without other signs."""
+    return re.sub(r"[^\w -]", "", heading.strip().lower()).replace(" ", "-")
+
+
+def blank(found):
+    """What is left of a text that is taken out: its line feeds, so that lines keep their numbers."""
+    return "\n" * found[0].count("\n")
+
+
+def prose(page):
+    """A page without its fenced blocks."""
+    return FENCED.sub(blank, text_of(os.path.join(TOP, page)))
+
+
+def linked(problems):
+    """The number of links in the documents; each is followed, and no page is named without one."""
+    fragments = {page: set(map(fragment, re.findall(r"^#+ (.*)$", prose(page), re.M))) for page in PAGES}
+    count = 0
+    for page in PAGES:
+        text = prose(page)
+        for link in LINK.finditer(text):
+            count += 1
+            path, _, place = link[2].partition("#")
+            path = os.path.normpath(os.path.join(os.path.dirname(page), path)) if path else page
+            where = f"{page}:{text[:link.start()].count(chr(10)) + 1}"
+            if not os.path.exists(os.path.join(TOP, path)):
+                problems.append(f"{where}: there is no {path}")
+            elif place and place not in fragments.get(path, ()):
+                problems.append(f"{where}: {path} has no heading {place}")
+        text = LINK.sub(blank, text)
+        for name in PAGE.finditer(text):
+            problems.append(f"{page}:{text[:name.start()].count(chr(10)) + 1}: {name[0]} is named without a link")
+    return count
+
+
 def main():
     problems = []
     words = defined(problems)
@@ -164,7 +207,8 @@ def main():
     for (word, crate, file), function in sorted(cited().items(), key=lambda pair: pair[0][1:]):
         if word not in words:
             problems.append(f"docs/DEFINITIONS.md: {word} of {crate}/specs/{file}.antt is missing, cited by {function}")
-    print(*problems, f"{len(words)} definitions, {len(problems)} problems", sep="\n")
+    links = linked(problems)
+    print(*problems, f"{len(words)} definitions, {links} links, {len(problems)} problems", sep="\n")
     sys.exit(1 if problems else 0)
 
 
