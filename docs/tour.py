@@ -8,7 +8,9 @@ An example stands in a fenced block of README.md or docs/*.md, or in the manual 
 - A line `$ unitex ..` is a command. It is run in a copy of examples/. What stands below it, up to the next `$ ` or
   the block's end, is what it writes: standard output, then standard error. A command that is followed by
   `# status N` has to end with this exit status, any other with 0.
-- A line `$ unitex .. > FILE` is a command whose standard output is the file FILE of examples/, whole.
+- A line `$ unitex .. > FILE` is a command whose standard output is the file FILE of examples/, whole. Of a line
+  `$ unitex .. | ..` the shell does what stands after the program.
+- A line `$ ./graph.py .. > FILE` is the same of the script of examples/ that makes graphs.
 - A line `$ cat FILE` shows a file of examples/, and `$ diff FILE FILE` in what two of them differ.
 - A block that begins with ```text FILE is the whole of that file of examples/, and one that begins with
   ```text FILE part is some lines of it, as they stand there one below the other.
@@ -45,6 +47,7 @@ class Shown:
     status: int = 0
     compared: bool = True
     kept: str = ""
+    pipe: str = ""
 
     def expected(self):
         """All that the command has to write: the file first, then what is shown."""
@@ -84,8 +87,9 @@ def sessions(path, begun, block):
             command, _, remark = line[2:].partition(" #")
             status = re.search(r"\bstatus (\d+)$", remark)
             words, _, kept = command.partition(" > ")
+            words, _, pipe = words.partition(" | ") if words.startswith("unitex ") else (words, "", "")
             ending = int(status[1]) if status else 0
-            shown = Shown(f"{path}:{number}", shlex.split(words), "", ending, kept=kept.strip())
+            shown = Shown(f"{path}:{number}", shlex.split(words), "", ending, kept=kept.strip(), pipe=pipe)
             yield shown
         else:
             shown.text += line + "\n"
@@ -148,6 +152,19 @@ def diff(names):
     return done.stdout.decode("utf-8", "backslashreplace"), 0 if done.returncode == 1 else done.returncode
 
 
+def graph(words):
+    """What the script of examples/ writes that makes graphs."""
+    return run(sys.executable, EXAMPLES, ["graph.py", *words])
+
+
+def piped(pipe, text, status):
+    """What the shell makes of what the program wrote, if that went well."""
+    if not pipe or status:
+        return text, status
+    done = subprocess.run(["sh", "-c", pipe], input=text.encode(), capture_output=True, env={**os.environ, "LC_ALL": "C"})
+    return (done.stdout + done.stderr).decode("utf-8", "backslashreplace"), done.returncode
+
+
 def run(program, folder, words):
     """What the program writes, standard output and then standard error, and its exit status."""
     done = subprocess.run([program, *words], cwd=folder, stdin=subprocess.DEVNULL, capture_output=True, timeout=SECONDS)
@@ -203,7 +220,9 @@ def main():
     good = 0
     for shown in found:
         if shown.words[0] == "unitex":
-            answer = next(answers)
+            answer = piped(shown.pipe, *next(answers))
+        elif shown.words[0] == "./graph.py":
+            answer = graph(shown.words[1:])
         elif shown.words[0] == "cat":
             answer = cat(shown.words[1:])
         elif shown.words[0] == "part":
@@ -213,7 +232,7 @@ def main():
         else:
             answer = "this is no command of the tour\n", 127
         good += compare(shown, *answer)
-    print(f"{len(commands)} commands and {len(found) - len(commands)} files of the documents: "
+    print(f"{len(commands)} runs of the program and {len(found) - len(commands)} files and other commands of the documents: "
           f"{good} as shown, {len(found) - good} not{' (unproved)' if tried else ''}")
     sys.exit(0 if good == len(found) and commands else 1)
 
