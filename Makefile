@@ -1,9 +1,11 @@
-# `make example` searches the text of examples/ by its graphs, in a minute or two: the program is compiled and run, and
-# nothing is proved.
-# `make build` proves all crates that the program stands on, lowest first, and builds it: crates/unitex/out/unitex.
+# `make unproved` builds the program without a proof, in some minutes: crates/unitex/out/unitex-unproved, whose --version says
+# that it is unproved.
+# `make example` searches the text of examples/ by its graphs, in as much time, and leaves no program.
+# `make build` proves all crates that the program stands on, lowest first, and builds it: crates/unitex/out/unitex. From nothing
+# that takes hours on two processors.
 # `make tour` runs every example of the documents by the built program, and compares with what they show.
 # `make rows` runs the rows of the top call by the built program over real files, and compares.
-# `make install PREFIX=DIR` puts the built program and its manual page under DIR.
+# `make install PREFIX=DIR` puts the built program, its manual page, the documents and their examples under DIR.
 # `make bench` times searches beside GNU grep, the tokens of a text beside a C program, dictionaries beside wc and
 # grep, and images beside a map of the crate fst, which it compiles from Debian's package of its sources.
 # `make images` changes each byte of two small images, and compares what the built program says with a reading by itself.
@@ -14,7 +16,7 @@
 
 PREFIX ?= /usr/local
 
-.PHONY: example build tour rows install bench images wrong-bodies gate
+.PHONY: unproved example build tour rows install bench images wrong-bodies gate
 
 # A run by `rt try` is given copies of these, since it sees no files but those that it is handed.
 FILES := time.grf part.grf text.txt alphabet.txt
@@ -22,8 +24,11 @@ FILES := time.grf part.grf text.txt alphabet.txt
 # In the order of crates.txt, which begins with the lowest layer. Those of tests and of rows aren't needed by the program.
 CRATES := $(filter-out ux_tests_files ux_tests_dictionaries ux_tests_search unitex_rows,$(shell sed -n 's/^\([a-z0-9_]*\).*:.*/\1/p' crates.txt))
 
+unproved:
+	@.ci/unproved.py
+
 example:
-	@echo 'unitex locate time.grf text.txt alphabet.txt, unproved: compiling, about a minute'
+	@echo 'unitex locate time.grf text.txt alphabet.txt, unproved: compiling, some minutes'
 	@cd crates/unitex && rt try $(foreach file,$(FILES),--data $(file)=../../examples/$(file)) \
 		-- locate time.grf text.txt alphabet.txt
 	@echo 'This run was unproved. "make build" proves the program before it builds it.'
@@ -47,6 +52,10 @@ install:
 	@test -x crates/unitex/out/unitex || { echo 'build the program first: make build' >&2; exit 1; }
 	install -D -m 755 crates/unitex/out/unitex $(DESTDIR)$(PREFIX)/bin/unitex
 	install -D -m 644 docs/unitex.1 $(DESTDIR)$(PREFIX)/share/man/man1/unitex.1
+	install -D -m 644 -t $(DESTDIR)$(PREFIX)/share/doc/unitex README.md CONTRIBUTING.md CHANGELOG.md
+	install -D -m 644 -t $(DESTDIR)$(PREFIX)/share/doc/unitex/docs docs/*.md docs/unitex.1
+	install -D -m 644 -t $(DESTDIR)$(PREFIX)/share/doc/unitex/examples $(filter-out %.py,$(wildcard examples/*))
+	install -D -m 755 -t $(DESTDIR)$(PREFIX)/share/doc/unitex/examples examples/graph.py
 
 bench:
 	@bench/locate_word.sh

@@ -17,8 +17,8 @@ An example stands in a fenced block of README.md or docs/*.md, or in the manual 
 - Another block of kind text is refused, so that none is left out by mistake.
 - The commands between .EX and .EE of docs/unitex.1 are run, and have to end with status 0.
 
-PROGRAM is the built one if none is named. With --try the program is run unproved, by `rt try`: that takes a minute or
-two, and shows whether the documents are right before the program is proved.
+PROGRAM is the built one if none is named. That of `make unproved` shows whether the documents are right before the program
+is proved. With --try the program is run by `rt try`, which builds none: that takes some minutes.
 """
 import difflib
 import os
@@ -36,6 +36,8 @@ CRATE = os.path.join(TOP, "crates", "unitex")
 PROGRAM = os.path.join(CRATE, "out", "unitex")
 MANUAL = os.path.join("docs", "unitex.1")
 SECONDS = 60
+# What --version has at its end where the program is unproved, and the documents don't show.
+UNPROVED = " (unproved)"
 
 
 @dataclass
@@ -216,7 +218,9 @@ def main():
         sys.exit("build the program first: make build")
     found = [shown for path in documents() for shown in shown_in(path)] + list(shown_in_manual())
     commands = [shown.words for shown in found if shown.words[0] == "unitex"]
-    answers = iter(run_tried(commands) if tried else run_built(program, commands))
+    answers = [(text.replace(UNPROVED, ""), status) if words[1:] == ["--version"] else (text, status)
+               for words, (text, status) in zip(commands, run_tried(commands) if tried else run_built(program, commands))]
+    answers = iter(answers)
     good = 0
     for shown in found:
         if shown.words[0] == "unitex":
