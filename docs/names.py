@@ -7,6 +7,7 @@
 - Each definition that a clause of a public function cites stands in docs/DEFINITIONS.md.
 - Each link of a document leads to a file of the repository, and to a heading of it where it names one. A page that a
   document names, it names by a link.
+- The README's table of speed says what docs/BENCHMARKS.md says.
 
 A name in italics, as *`this`*, isn't looked for: it is of something that isn't there yet.
 """
@@ -14,6 +15,10 @@ import glob
 import os
 import re
 import sys
+
+sys.dont_write_bytecode = True
+
+import speeds
 
 TOP = os.path.dirname(os.path.dirname(os.path.abspath(__file__)))
 CRATES = os.path.join(TOP, "crates")
@@ -200,6 +205,15 @@ def linked(problems):
     return count
 
 
+def copied(problems):
+    """Looks whether the table of speed is as docs/speeds.py copies it."""
+    try:
+        if "\n".join(speeds.table()) not in text_of(os.path.join(TOP, "README.md")):
+            problems.append("README.md: the table of speed isn't that of docs/BENCHMARKS.md: run docs/speeds.py")
+    except LookupError as error:
+        problems.append(str(error))
+
+
 def main():
     problems = []
     words = defined(problems)
@@ -208,6 +222,7 @@ def main():
         if word not in words:
             problems.append(f"docs/DEFINITIONS.md: {word} of {crate}/specs/{file}.antt is missing, cited by {function}")
     links = linked(problems)
+    copied(problems)
     print(*problems, f"{len(words)} definitions, {links} links, {len(problems)} problems", sep="\n")
     sys.exit(1 if problems else 0)
 
