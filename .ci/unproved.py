@@ -69,6 +69,7 @@ def copied_crates(folder):
 def main():
     command = shutil.which("rt") or sys.exit("the kit's command rt isn't in PATH")
     kit = os.path.dirname(os.path.dirname(os.path.realpath(command)))
+    print("compiling without a proof: some minutes", flush=True)
     with tempfile.TemporaryDirectory(prefix="unproved-") as folder:
         tried = subprocess.run([f"{copied_kit(kit, folder)}/bin/rt", "try", "--", "--version"], cwd=copied_crates(folder),
                                env={**os.environ, "TMPDIR": folder}, capture_output=True, text=True)
