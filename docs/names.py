@@ -8,6 +8,7 @@
 - Each link of a document leads to a file of the repository, and to a heading of it where it names one. A page that a
   document names, it names by a link.
 - The README's table of speed says what docs/BENCHMARKS.md says.
+- A block that begins with ```rust FILE stands in that file.
 
 A name in italics, as *`this`*, isn't looked for: it is of something that isn't there yet.
 """
@@ -205,6 +206,15 @@ def linked(problems):
     return count
 
 
+def quoted(problems):
+    """Looks whether the code that the documents show stands in its file."""
+    for page in PAGES:
+        text = text_of(os.path.join(TOP, page))
+        for block in re.finditer(r"^```rust (\S+)\n(.*?)^```$", text, re.M | re.S):
+            if block[2] not in text_of(os.path.join(TOP, block[1])):
+                problems.append(f"{page}:{text[:block.start()].count(chr(10)) + 1}: {block[1]} hasn't this code")
+
+
 def copied(problems):
     """Looks whether the table of speed is as docs/speeds.py copies it."""
     try:
@@ -223,6 +233,7 @@ def main():
             problems.append(f"docs/DEFINITIONS.md: {word} of {crate}/specs/{file}.antt is missing, cited by {function}")
     links = linked(problems)
     copied(problems)
+    quoted(problems)
     print(*problems, f"{len(words)} definitions, {links} links, {len(problems)} problems", sep="\n")
     sys.exit(1 if problems else 0)
 

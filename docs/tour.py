@@ -103,7 +103,7 @@ def shown_in(path):
             if not block[0].startswith("$ "):
                 sys.exit(f"{path}:{begun}: a block with commands begins with one")
             yield from sessions(path, begun, block)
-        elif len(kind) == 2:
+        elif len(kind) == 2 and kind[0] == "text":
             yield Shown(f"{path}:{begun}", ["cat", kind[1]], "".join(line + "\n" for line in block))
         elif len(kind) == 3 and kind[2] == "part":
             yield Shown(f"{path}:{begun}", ["part", kind[1]], "".join(line + "\n" for line in block))
