@@ -3,8 +3,9 @@
 compounds, beside `unitex dico` with the same files and `lt-proc` (Debian's package lttoolbox) with the same dictionary
 over the same words. Then `unitex elag` with three rules over its answer, beside `vislcg3` (Debian's package cg3) with
 three rules of the same kind over the same readings of the same words. Then one rule that removes nothing over forty
-words of two readings each, and over 4,000. Prints the best of three runs in turn, and peak memory by the size of the
-files.
+words of two readings each, over 4,000 and over 200,000. Then what could cost more than its size: rules of thousands of
+boxes, and an automaton whose links pass thousands of states. Prints the best of three runs in turn, and peak memory by
+the size of the files.
 
 Needs the built program (make build), both packages, and a folder to write to (bench/data).
 """
@@ -184,19 +185,50 @@ def rules():
 
 def long_sentences():
     print("one rule over a sentence of words with two readings each")
-    with open(path("w.dic"), "w", encoding="utf-8") as file:
-        file.write("w,.N:s\nw,.V:W\n")
-    for count in [40, 4_000, 8_000]:
-        with open(path("w.txt"), "w", encoding="utf-8") as file:
-            file.write("w " * count)
-        tfst = path("w.tfst")
-        with open(tfst, "wb") as file:
-            subprocess.run([PROGRAM, "txt2tfst", path("w.txt"), path("letters.txt"), path("w.dic")], stdout=file, check=True)
+    for count in [40, 4_000, 8_000, 200_000]:
+        tfst = words_of_two_readings(count)
         seconds, memory = best([PROGRAM, "elag", tfst, path("any.grf")])
-        print(f"  {count:5} words  {seconds:.3f} s  {memory / 1e6:.1f} MB")
+        print(f"  {count:6} words  {seconds:.3f} s  {memory / 1e6:.1f} MB  {memory / os.path.getsize(tfst):.1f} of its file")
         with open(OUT, "rb") as left, open(tfst, "rb") as before:
             if left.read() != before.read():
                 sys.exit("the rule removed something")
+
+
+def words_of_two_readings(count):
+    """Writes the automaton of one sentence of so many words, and gives its path."""
+    with open(path("w.dic"), "w", encoding="utf-8") as file:
+        file.write("w,.N:s\nw,.V:W\n")
+    with open(path("w.txt"), "w", encoding="utf-8") as file:
+        file.write("w " * count)
+    tfst = path("w.tfst")
+    with open(tfst, "wb") as file:
+        subprocess.run([PROGRAM, "txt2tfst", path("w.txt"), path("letters.txt"), path("w.dic")], stdout=file, check=True)
+    return tfst
+
+
+def large_rules():
+    print("rules of so many boxes, over a sentence of forty words")
+    tfst = words_of_two_readings(40)
+    for count in [2_000, 4_000, 8_000]:
+        end = ["<!>", "<TOKEN>", "<!>"]
+        write_graph("large.grf", [["<!>", *["<E>"] * count, "<N>", *end]])
+        seconds, memory = best([PROGRAM, "elag", tfst, path("large.grf")])
+        print(f"  {count:5} empty boxes in a chain  {seconds:.3f} s  {memory / 1e6:.1f} MB")
+        write_graph("large.grf", [["<!>", "<N>", *end]] * (count // 5))
+        seconds, memory = best([PROGRAM, "elag", tfst, path("large.grf")])
+        print(f"  {count:5} boxes of equal parts    {seconds:.3f} s  {memory / 1e6:.1f} MB")
+
+
+def long_links():
+    print("an automaton of a state for each of so many links from the first")
+    for count in [2_000, 4_000, 8_000]:
+        tfst = path("long.tfst")
+        with open(tfst, "w", encoding="utf-8") as file:
+            file.write(f"#TFST 1\nS 1 {count + 2} {2 * count}\n")
+            file.writelines(f"0 {it} a{it}\n" for it in range(1, count + 1))
+            file.writelines(f"{it} {count + 1} b{it}\n" for it in range(1, count + 1))
+        seconds, memory = best([PROGRAM, "elag", tfst, path("any.grf")])
+        print(f"  {count:5}  {seconds:.3f} s  {memory / 1e6:.1f} MB")
 
 
 def main():
@@ -212,6 +244,8 @@ def main():
     sentences()
     rules()
     long_sentences()
+    large_rules()
+    long_links()
 
 
 if __name__ == "__main__":
