@@ -1,0 +1,17 @@
+pub mod FieldLemmas
+pub mod LineLaws
+pub mod FileLaws
+pub mod RefusalLaws
+pub mod EdgeLemmas
+pub mod NameLemmas
+pub mod ReadLemmas
+pub mod PartsLemmas
+pub mod LabelLemmas
+pub mod LabelLaws
+pub mod PrintLemmas
+pub mod PrintedFields
+pub mod PrintedStates
+pub mod PrintedCount
+pub mod PrintedLines
+pub mod PrintLaws
+pub mod Examples
