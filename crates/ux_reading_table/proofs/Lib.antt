@@ -1,0 +1,8 @@
+pub mod CallerLemmas
+pub mod FieldsLemmas
+pub mod NextLemmas
+pub mod NotingLemmas
+pub mod PlacesLemmas
+pub mod PrintedLemmas
+pub mod RanksLemmas
+pub mod TableLemmas

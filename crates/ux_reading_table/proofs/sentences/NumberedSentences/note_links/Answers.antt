@@ -1,0 +1,25 @@
+use Rattle.std.proofs.Common.{◌∷◌, [], ◌++◌}
+use Rattle.std.proofs.lemmas.Result.{err_from_is_err_and}
+use Rattle.ux_reading_table.proofs.PlacesLemmas.{adds_link, links_refused, ReadsLinks-more}
+use Rattle.ux_reading_table.proofs.sentences.NumberedSentences.note_links.Goals as goal
+
+pub loop-done-preserved : goal.loop-done-preserved
+loop-done-preserved c =
+    let so_far = c.loop-done.invariant in
+    let (line, link, past, says, adds) = c.in_ok-note_link.ensures.ok in
+    record {
+      links = so_far.links ++ link ∷ [];
+      noted = c.in_ok-note_link.ensures.noted;
+      reads = ReadsLinks-more c.args.states c.loop-done.done c.args.self.now c.loop-done.self
+          c.note_link.new.self so_far.links line link so_far.reads past says;
+      adds = adds_link c.args.noted.now.printed.items c.loop-done.noted.printed.items
+          c.note_link.new.noted.printed.items so_far.links link so_far.adds adds;
+    }
+
+pub returns-in_err-note_link-clause-err : goal.returns-in_err-note_link-clause-err
+returns-in_err-note_link-clause-err c =
+    let p = err_from_is_err_and c.from_residual.result c.from_residual.ensures.1 in
+    let so_far = c.loop-done.invariant in
+    rw (p.1, p.2) (links_refused c.args.states c.loop-done.done c.args.count c.args.self.now
+    c.loop-done.self so_far.links _ so_far.reads c.loop-done-test.true
+    c.in_err-note_link.ensures.err)

@@ -1,0 +1,99 @@
+-- How the texts of links are noted, and the sentences read by them. Inner: the crate's own
+-- functions alone speak of it.
+use Rattle.std.specs.Prelude.{◌≡◌, ◌↔◌, ◌⊎◌, ℕ, ◌+◌, ◌<◌, Bool, true, false, List, ◌∷◌, Contains, Some, length, map, slice_get}
+use Rattle.std.specs.List.{flat_map}
+use Rattle.indexmap.specs.IndexSet.{IndexSet}
+use denote.Ref.{Bor}
+use Rattle.ux_sentence.specs.declared.sentence.Reading.{Reading}
+use Rattle.ux_sentence.specs.declared.sentence.Link.{Link}
+use Rattle.ux_sentence.specs.declared.sentence.Sentence.{Sentence}
+use Rattle.ux_sentence.specs.declared.sentence_line.Opening.{Opening}
+use Rattle.ux_sentence.specs.Files.{AreSentences, IsOver, LinksSay, Place, Tells, behind_sentence}
+use Rattle.ux_sentence.specs.Openings.{OpensSentence}
+use Rattle.ux_sentence.specs.Readings.{IsReading}
+use Rattle.ux_sentence.specs.Written.{link_line, reading_text}
+use Rattle.ux_reading_table.specs.declared.fields.Fields.{Fields}
+use Rattle.ux_reading_table.specs.declared.numbered.NumberedLink.{NumberedLink}
+use Rattle.ux_reading_table.specs.Numbered.{IsTold, text_of, texts_in}
+
+-- the line has these fields, and its link leads between states of its sentence
+pub record HasFields (states : ℕ) (line : List ℕ) (fields : Fields) : Type 0 where
+  pub whole : line ≡ link_line fields.from fields.to fields.text.now
+  pub from_state : fields.from < states
+  pub to_state : fields.to < states
+
+-- the texts of a set
+abbrev pub spellings : {S : Type 0} → IndexSet (Bor (List ℕ)) S → List (List ℕ)
+spellings set = map (λ spelled. spelled.now) set.keys
+
+-- the text says a reading, and this is its printed text
+abbrev pub IsSpelling : (spelled printed : List ℕ) → Type 0
+IsSpelling spelled printed =
+    (reading : Reading) × IsReading spelled reading × (printed ≡ reading_text reading)
+
+-- the texts have one more, unless they had it
+abbrev pub AddsText : (old : List (List ℕ)) (text : List ℕ) (new : List (List ℕ)) → Type 0
+AddsText old text new =
+    (one : List ℕ) → Contains new one ↔ (Contains old one ⊎ (one ≡ text))
+
+-- and so for each of some texts
+abbrev pub AddsTexts : (old texts new : List (List ℕ)) → Type 0
+AddsTexts old texts new =
+    (one : List ℕ) → Contains new one ↔ (Contains old one ⊎ Contains texts one)
+
+-- what is noted of a text: the printed text of its reading, or nothing where it says none
+abbrev pub NotesText : (says : Bool) (old : List (List ℕ)) (text : List ℕ)
+    (new : List (List ℕ)) → Type 0
+NotesText true old text new =
+    (reading : Reading) × IsReading text reading × AddsText old (reading_text reading) new
+NotesText false old text new = (reading : Reading) → IsReading text reading → ⊥
+
+-- the lines of so many links are read from a place on
+pub record ReadsLinks (states count : ℕ) (old : Place) (links : List Link) (new : Place) :
+    Type 0 where
+  pub many : length links ≡ count
+  pub say : LinksSay states old.lines links new.lines
+  pub passed : new.passed ≡ old.passed + count
+  pub told : new.told ≡ old.told
+  pub counted : new.count ≡ old.count
+
+-- the line of the next sentence is read
+pub record Begins (old : Place) (opening : Opening) (new : Place) : Type 0 where
+  pub line : List ℕ
+  pub due : old.told < old.count
+  pub lines : old.lines ≡ line ∷ new.lines
+  pub passed : new.passed ≡ old.passed + 1
+  pub told : new.told ≡ old.told + 1
+  pub counted : new.count ≡ old.count
+  pub opens : OpensSentence (old.told + 1) line opening
+
+-- the next sentence is read, and the texts of its links are noted, or all sentences were read
+abbrev pub NotesSentence : (more : Bool) (old new : Place) (texts noted : List (List ℕ)) → Type 0
+NotesSentence true old new texts noted = (sentence : Sentence) × (behind : List (List ℕ))
+    × Tells old sentence behind × (new ≡ behind_sentence old sentence behind)
+    × AddsTexts texts (texts_in sentence) noted
+NotesSentence false old new texts noted = IsOver old × (noted ≡ texts)
+
+-- the texts are the printed ones of the readings of the file's links
+pub record AreNotedOf (text : List ℕ) (texts : List (List ℕ)) : Type 0 where
+  pub sentences : List Sentence
+  pub said : AreSentences text sentences
+  pub same : (one : List ℕ) → Contains texts one ↔ Contains (flat_map texts_in sentences) one
+
+-- the text of a reading stands at the place
+abbrev pub IsRank : (texts : List (List ℕ)) (text : List ℕ) (rank : ℕ) → Type 0
+IsRank texts text rank = slice_get texts rank ≡ Some text
+
+-- the text says a reading, and its printed text stands at the place
+abbrev pub IsRanked : (texts : List (List ℕ)) (spelled : List ℕ) (rank : ℕ) → Type 0
+IsRanked texts spelled rank =
+    (reading : Reading) × IsReading spelled reading × IsRank texts (reading_text reading) rank
+
+-- the text says a reading, whose printed text stands at the place if it is there at all
+abbrev pub IsRankIfKnown : (texts : List (List ℕ)) (spelled : List ℕ) (rank : ℕ) → Type 0
+IsRankIfKnown texts spelled rank = (reading : Reading) × IsReading spelled reading
+    × (Contains texts (reading_text reading) → IsRank texts (reading_text reading) rank)
+
+-- the link is told, if the printed text of its reading is there at all
+abbrev pub IsToldIfKnown : (texts : List (List ℕ)) → NumberedLink → Link → Type 0
+IsToldIfKnown texts numbered link = Contains texts (text_of link) → IsTold texts numbered link
