@@ -1,108 +1,26 @@
 -- Steps of the building of an automaton of subsets.
-use Rattle.std.proofs.Common.{arith, ◌≡◌, ℕ, ◌<◌, ◌≤◌, ◌↔◌, ◌⊎◌, inl, inr, List, [], ◌∷◌, ◌++◌, refl, sym, ap, subst, ◌∙◌, length, map}
+use Rattle.std.proofs.Common.{arith, ◌≡◌, ℕ, ◌<◌, ◌≤◌, ◌↔◌, ◌⊎◌, inl, inr, List, [], ◌∷◌, ◌++◌, refl, sym, ap, subst, ◌∙◌, length}
 use Rattle.std.specs.Prelude.{Contains}
-use Rattle.std.proofs.lemmas.List.Elements.{Contains-append_left, Contains-append_right, Contains-append_cases, Contains-push, Contains-push_cases}
+use Rattle.std.proofs.lemmas.List.Elements.{Contains-append_left, Contains-push, Contains-push_cases}
 use Rattle.ux_subsets.specs.declared.automaton.Link.{Link}
 use Rattle.ux_subsets.specs.declared.sets.Set.{Set}
 use Rattle.ux_subsets.specs.declared.sets.Over.{Over}
 use Rattle.ux_subsets.specs.declared.sets.Waiting.{Waiting}
 use Rattle.ux_subsets.specs.Paths.{link, IsAscending}
-use Rattle.ux_subsets.specs.Machines.{AreSubsets}
-use Rattle.ux_subsets.specs.Building.{closing, states_at, seen_at, over_at, Next, IsBuilt}
-use Rattle.ux_subsets.proofs.ElementsLemmas.{nothing_in, first_or_later, contains_first, contains_map, contained_map}
+use Rattle.ux_subsets.specs.Building.{states_of, states_at, seen_at, Next, IsBuilt}
 use Rattle.ux_subsets.proofs.SpellingLemmas.{Reads, spells_iff, reads_append, same_link}
 use Rattle.ux_subsets.proofs.BackwardsLemmas.{weaker}
 use Rattle.ux_subsets.proofs.SubsetsSpellLemmas.{below_or_last}
 
-same_over : (a b r q : ℕ) → a ≡ b → r ≡ q → over_at a r ≡ over_at b q
-same_over a b r q e f = cc
-
-module _ {Stands : ℕ → List ℕ → Type 0} {Satisfies : List ℕ → Type 0} (last : ℕ) (links : List Link) (up : IsAscending last links) (sets : List Set) (links' : List Link) (overs : List Over)
-    (Waits : Waiting → Type 0) (expanded level : ℕ) (built : IsBuilt Stands Satisfies last links sets links' overs Waits expanded level) where
-  -- nothing waits at the last level
-  never_waits : last ≤ level → (w : Waiting) → Waits w → ⊥
-  never_waits le w waits =
-      let s = built.waits_some w waits in
-      let low = built.waits_level w waits s.0 s.1 in
-      let next = (built.waits_set w waits s.0).0 s.1 in
-      let in_links = up.within (link next.1.0 s.0 w.reading) next.1.2 in
-      next.0 (omega (arith, low, in_links, le))
-
-  abbrev all_links : List Link
-  all_links = links' ++ map (closing (length sets)) overs
-
-  of_link : (l : Link) → Contains all_links l → Contains links' l ⊎ ((o : Over) × Contains overs o × (closing (length sets) o ≡ l))
-  of_link l h = elim (Contains-append_cases links' (map (closing (length sets)) overs) l h) [
-    | inl a ↦ inl a
-    | inr b ↦ inr (contained_map (closing (length sets)) overs l b)
-  ]
-
-  own : (n k r : ℕ) → k < length sets → Contains all_links (link n k r) → Contains links' (link n k r)
-  own n k r lt h = elim (of_link (link n k r) h) [
-    | inl a ↦ a
-    | inr o ↦ let to : length sets ≡ k = ap (λ (l : Link). l.to) o.2 in absurd (omega (arith, to, lt))
-  ]
-
-  -- at the end the sets are the states, but for the last
-  pub built_whole : last ≤ level → expanded ≡ length sets →
-      AreSubsets Stands Satisfies last links
-      (λ n s. Contains (states_at sets n) s) (seen_at sets) (length sets) (links' ++ map (closing (length sets)) overs)
-  built_whole le whole = record {
-    first = λ s. (
-      λ h. elim (first_or_later 0 [] s (subst (λ (xs : List ℕ). Contains xs s) built.first h)) [ inl e ↦ sym e | inr none ↦ absurd (nothing_in none) ],
-      λ e. subst (λ (x : ℕ). Contains (states_at sets 0) x) (sym e) (subst (λ (xs : List ℕ). Contains xs 0) (sym built.first) (contains_first 0 [])),
-    );
-    fresh = built.fresh;
-    from_inside = λ l h. elim (of_link l h) [
-      | inl a ↦ let b = built.linked l a in omega (arith, b.1, whole)
-      | inr o ↦ let b = built.over_in o.0 o.1 in let e : o.0.from ≡ l.from = ap (λ (x : Link). x.from) o.2 in omega (arith, b, e, whole)
-    ];
-    over = λ n r lt before stands. (
-      λ h. elim (of_link (link n (length sets) r) h) [
-        | inl a ↦ let b = built.linked (link n (length sets) r) a in absurd (omega (arith, b.2))
-        | inr o ↦
-            let from : o.0.from ≡ n = ap (λ (x : Link). x.from) o.2 in
-            let reading : o.0.reading ≡ r = ap (λ (x : Link). x.reading) o.2 in
-            let same : o.0 ≡ over_at n r = same_over o.0.from n o.0.reading r from reading in
-            (built.over n r (omega (arith, lt, whole)) before stands).0 (subst (λ (x : Over). Contains overs x) same o.1)
-      ],
-      λ t. Contains-append_right links' (map (closing (length sets)) overs) (link n (length sets) r)
-          (contains_map (closing (length sets)) overs (over_at n r) ((built.over n r (omega (arith, lt, whole)) before stands).1 t)),
-    );
-    goes = λ n k r lt h. built.linked_set (link n k r) (own n k r lt h);
-    sees = λ n k r lt h before stands. built.linked_seen (link n k r) (own n k r lt h) before stands;
-    going = λ n r t lt different enters. elim (built.going n r t (omega (arith, lt, whole)) (different, enters)) [
-      | inl k ↦ (k.0, (built.linked (link n k.0 r) k.1).2, Contains-append_left links' (map (closing (length sets)) overs) (link n k.0 r) k.1)
-      | inr w ↦ absurd (never_waits le w.0 w.1)
-    ];
-    once = λ n k k' r lt lt' h h'. built.once (link n k r) (link n k' r) (own n k r lt h) (own n k' r lt' h') refl refl;
-    inside = λ n s lt h. built.inside n s lt h;
-    filled = λ n lt. built.filled n lt;
-    reached = λ n lt. let v = built.reached n lt in (
-      v.0,
-      (spells_iff all_links v.0 0 n).1
-          (weaker links' all_links (λ l h. Contains-append_left links' (map (closing (length sets)) overs) l h) v.0 0 n ((spells_iff links' v.0 0 n).0 v.1)),
-    );
-    ascending = λ l h. elim (of_link l h) [
-      | inl a ↦ (built.linked l a).0
-      | inr o ↦ let b = built.over_in o.0 o.1 in let e : o.0.from ≡ l.from = ap (λ (x : Link). x.from) o.2 in
-          let t : length sets ≡ l.to = ap (λ (x : Link). x.to) o.2 in omega (arith, b, e, t, whole)
-    ];
-    within = λ l h. elim (of_link l h) [
-      | inl a ↦ let b = built.linked l a in omega (arith, b.2)
-      | inr o ↦ let t : length sets ≡ l.to = ap (λ (x : Link). x.to) o.2 in omega (arith, t)
-    ];
-  }
-
 -- what waited gets its link, to a set that was there or is new
 module _ {Stands : ℕ → List ℕ → Type 0} {Satisfies : List ℕ → Type 0} (last : ℕ) (links : List Link) (up : IsAscending last links) (sets sets' : List Set) (links' : List Link) (overs : List Over)
-    (Waits Waits' : Waiting → Type 0) (expanded level : ℕ) (built : IsBuilt Stands Satisfies last links sets links' overs Waits expanded level)
+    (Waits Waits' : Waiting → Type 0) (expanded : ℕ) (built : IsBuilt Stands Satisfies last links sets links' overs Waits expanded)
     (w : Waiting) (waits : Waits w) (k : ℕ)
     (fewer : (x : Waiting) → Waits' x → Waits x) (split : (x : Waiting) → Waits x → Waits' x ⊎ (x ≡ w))
     (alone : (x : Waiting) → Waits' x → x.from ≡ w.from → x.reading ≡ w.reading → ⊥)
     (kept : (n : ℕ) → n < length sets → states_at sets' n ≡ states_at sets n) (more : length sets ≤ length sets')
     (one : (n : ℕ) → n < length sets' → (n < length sets) ⊎ (n ≡ k))
-    (late : expanded ≤ k) (there : k < length sets') (is : states_at sets' k ≡ w.set.states.items)
+    (there : k < length sets') (is : states_at sets' k ≡ states_of w.set)
     (kept_seen : (n : ℕ) → n < length sets → seen_at sets' n ≡ seen_at sets n) (is_seen : seen_at sets' k ≡ w.set.seen) where
   abbrev new : Link
   new = link w.from k w.reading
@@ -119,7 +37,7 @@ module _ {Stands : ℕ → List ℕ → Type 0} {Satisfies : List ℕ → Type 0
   is_old : (n : ℕ) → n < expanded → n < length sets
   is_old n lt = let c = built.count in omega (arith, c, lt)
 
-  waits_next : (x : Waiting) → Waits x → (t : ℕ) → Contains x.set.states.items t ↔ Next last links sets' x.from x.reading t
+  waits_next : (x : Waiting) → Waits x → (t : ℕ) → Contains (states_of x.set) t ↔ Next last links sets' x.from x.reading t
   waits_next x h t = let old = is_old x.from (built.waits x h) in (
     λ c. next_up x.from x.reading t old ((built.waits_set x h t).0 c),
     λ n. (built.waits_set x h t).1 (next_down x.from x.reading t old n),
@@ -137,13 +55,13 @@ module _ {Stands : ℕ → List ℕ → Type 0} {Satisfies : List ℕ → Type 0
   old_set : (l : Link) → Contains links' l → (t : ℕ) → Contains (states_at sets' l.to) t ↔ Next last links sets' l.from l.reading t
   old_set l h t =
       let b = built.linked l h in
-      let same = kept l.to b.2 in
-      let old = is_old l.from b.1 in (
+      let same = kept l.to b.1 in
+      let old = is_old l.from b.0 in (
         λ c. next_up l.from l.reading t old ((built.linked_set l h t).0 (subst (λ (xs : List ℕ). Contains xs t) same c)),
         λ n. subst (λ (xs : List ℕ). Contains xs t) (sym same) ((built.linked_set l h t).1 (next_down l.from l.reading t old n)),
       )
 
-  before_last : (s : ℕ) → Contains w.set.states.items s → s < last
+  before_last : (s : ℕ) → Contains (states_of w.set) s → s < last
   before_last s c =
       let n = (built.waits_set w waits s).0 c in
       let le = up.within (link n.1.0 s w.reading) n.1.2 in
@@ -160,24 +78,23 @@ module _ {Stands : ℕ → List ℕ → Type 0} {Satisfies : List ℕ → Type 0
 
   sees_old : (l : Link) → Contains links' l → (before : List ℕ) → Stands (seen_at sets' l.from) before → Stands (seen_at sets' l.to) (before ++ l.reading ∷ [])
   sees_old l old before h = let b = built.linked l old in
-      subst (λ (q : ℕ). Stands q (before ++ l.reading ∷ [])) (sym (kept_seen l.to b.2))
-      (built.linked_seen l old before (subst (λ (q : ℕ). Stands q before) (kept_seen l.from (is_old l.from b.1)) h))
+      subst (λ (q : ℕ). Stands q (before ++ l.reading ∷ [])) (sym (kept_seen l.to b.1))
+      (built.linked_seen l old before (subst (λ (q : ℕ). Stands q before) (kept_seen l.from (is_old l.from b.0)) h))
 
-  pub placed : IsBuilt Stands Satisfies last links sets' (links' ++ link w.from k w.reading ∷ []) overs Waits' expanded level
+  pub placed : IsBuilt Stands Satisfies last links sets' (links' ++ link w.from k w.reading ∷ []) overs Waits' expanded
   placed = record {
     first = kept 0 built.some ∙ built.first;
     some = let s = built.some in omega (arith, s, more);
     count = let c = built.count in omega (arith, c, more);
     linked = λ l h. elim (old_or_new l h) [
-      | inl old ↦ let b = built.linked l old in (b.0, b.1, omega (arith, b.2, more))
+      | inl old ↦ let b = built.linked l old in (b.0, omega (arith, b.1, more))
       | inr e ↦ let lt = built.waits w waits in
-          subst (λ (x : Link). (x.from < x.to) × (x.from < expanded) × (x.to < length sets')) e (omega (arith, lt, late), lt, there)
+          subst (λ (x : Link). (x.from < expanded) × (x.to < length sets')) e (lt, there)
     ];
     linked_set = λ l h. elim (old_or_new l h) [ inl old ↦ old_set l old | inr e ↦ new_set l e ];
     waits = λ x h. built.waits x (fewer x h);
     waits_set = λ x h. waits_next x (fewer x h);
     waits_some = λ x h. built.waits_some x (fewer x h);
-    waits_level = λ x h. built.waits_level x (fewer x h);
     fresh = subst (λ (q : ℕ). Stands q []) (sym (kept_seen 0 built.some)) built.fresh;
     stood = λ n lt. elim (one n lt) [
       | inl old ↦ let u = built.stood n old in (u.0, subst (λ (q : ℕ). Stands q u.0) (sym (kept_seen n old)) u.1)

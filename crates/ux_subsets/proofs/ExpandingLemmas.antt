@@ -1,40 +1,31 @@
 -- The next set gets all its links.
-use Rattle.std.proofs.Common.{arith, ◌≡◌, ℕ, ◌+◌, ◌<◌, ◌≤◌, ◌↔◌, ◌⊎◌, inl, inr, List, [], ◌∷◌, ◌++◌, sym, subst, ◌∙◌, length}
+use Rattle.std.proofs.Common.{arith, ◌≡◌, ℕ, ◌+◌, ◌<◌, ◌↔◌, ◌⊎◌, inl, inr, List, [], ◌∷◌, ◌++◌, sym, subst, ◌∙◌, length}
 use Rattle.std.specs.Prelude.{Contains}
 use Rattle.ux_subsets.specs.declared.automaton.Link.{Link}
 use Rattle.ux_subsets.specs.declared.sets.Set.{Set}
 use Rattle.ux_subsets.specs.declared.sets.Over.{Over}
 use Rattle.ux_subsets.specs.declared.sets.Waiting.{Waiting}
 use Rattle.ux_subsets.specs.Paths.{link, IsAscending}
-use Rattle.ux_subsets.specs.Building.{states_at, seen_at, over_at, Leads, Next, IsBuilt}
+use Rattle.ux_subsets.specs.Building.{states_of, seen_at, over_at, Leads, Next, IsBuilt}
 use Rattle.ux_subsets.proofs.SubsetsSpellLemmas.{below_or_last}
 
 module _ {Stands : ℕ → List ℕ → Type 0} {Satisfies : List ℕ → Type 0} (last : ℕ) (links : List Link) (up : IsAscending last links) (sets : List Set) (links' : List Link) (overs overs' : List Over)
-    (Waits New Waits' : Waiting → Type 0) (n level : ℕ) (built : IsBuilt Stands Satisfies last links sets links' overs Waits n level) (inside : n < length sets)
+    (Waits New Waits' : Waiting → Type 0) (n : ℕ) (built : IsBuilt Stands Satisfies last links sets links' overs Waits n) (inside : n < length sets)
     (both : (w : Waiting) → Waits' w ↔ (Waits w ⊎ New w))
     (over : (before : List ℕ) → Stands (seen_at sets n) before → (o : Over) →
     Contains overs' o ↔ (Contains overs o ⊎ ((o.from ≡ n) × Leads last links sets n o.reading last × Satisfies (before ++ o.reading ∷ []))))
     (new_sees : (w : Waiting) → New w → (before : List ℕ) → Stands (seen_at sets n) before → Stands w.set.seen (before ++ w.reading ∷ []))
     (new_from : (w : Waiting) → New w → w.from ≡ n)
-    (new_set : (w : Waiting) → New w → (t : ℕ) → Contains w.set.states.items t ↔ Next last links sets n w.reading t)
-    (new_some : (w : Waiting) → New w → (t : ℕ) × Contains w.set.states.items t)
-    (new_each : (r t : ℕ) → Next last links sets n r t → (w : Waiting) × New w × (w.reading ≡ r))
-    (low : (s : ℕ) → Contains (states_at sets n) s → level ≤ s + 1) where
+    (new_set : (w : Waiting) → New w → (t : ℕ) → Contains (states_of w.set) t ↔ Next last links sets n w.reading t)
+    (new_some : (w : Waiting) → New w → (t : ℕ) × Contains (states_of w.set) t)
+    (new_each : (r t : ℕ) → Next last links sets n r t → (w : Waiting) × New w × (w.reading ≡ r)) where
   -- at the set itself, or before it
   at_or_before : (m : ℕ) → m < n + 1 → (m < n) ⊎ (m ≡ n)
   at_or_before m lt = below_or_last m n (omega arith)
 
-  set_of : (w : Waiting) → Waits w ⊎ New w → (t : ℕ) → Contains w.set.states.items t ↔ Next last links sets w.from w.reading t
+  set_of : (w : Waiting) → Waits w ⊎ New w → (t : ℕ) → Contains (states_of w.set) t ↔ Next last links sets w.from w.reading t
   set_of w (inl old) t = built.waits_set w old t
-  set_of w (inr new) t = subst (λ (m : ℕ). Contains w.set.states.items t ↔ Next last links sets m w.reading t) (sym (new_from w new)) (new_set w new t)
-
-  level_of : (w : Waiting) → Waits w ⊎ New w → (t : ℕ) → Contains w.set.states.items t → level ≤ t
-  level_of w (inl old) t c = built.waits_level w old t c
-  level_of w (inr new) t c =
-      let nx = (new_set w new t).0 c in
-      let rises = up.ascends (link nx.1.0 t w.reading) nx.1.2 in
-      let bound = low nx.1.0 nx.1.1 in
-      omega (arith, rises, bound)
+  set_of w (inr new) t = subst (λ (m : ℕ). Contains (states_of w.set) t ↔ Next last links sets m w.reading t) (sym (new_from w new)) (new_set w new t)
 
   over_of : (m r : ℕ) → (m < n) ⊎ (m ≡ n) → (before : List ℕ) → Stands (seen_at sets m) before →
       Contains overs' (over_at m r) ↔ (Leads last links sets m r last × Satisfies (before ++ r ∷ []))
@@ -71,14 +62,14 @@ module _ {Stands : ℕ → List ℕ → Type 0} {Satisfies : List ℕ → Type 0
 
   apart_of : (l : Link) (w : Waiting) → Contains links' l → Waits w ⊎ New w → l.from ≡ w.from → l.reading ≡ w.reading → ⊥
   apart_of l w h (inl old) from reading = built.apart l w h old from reading
-  apart_of l w h (inr new) from reading = let b = built.linked l h in let e = new_from w new in omega (arith, b.1, from, e)
+  apart_of l w h (inr new) from reading = let b = built.linked l h in let e = new_from w new in omega (arith, b.0, from, e)
 
-  pub expanded : IsBuilt Stands Satisfies last links sets links' overs' Waits' (n + 1) level
+  pub expanded : IsBuilt Stands Satisfies last links sets links' overs' Waits' (n + 1)
   expanded = record {
     first = built.first;
     some = built.some;
     count = omega arith;
-    linked = λ l h. let b = built.linked l h in (b.0, omega (arith, b.1), b.2);
+    linked = λ l h. let b = built.linked l h in (omega (arith, b.0), b.1);
     linked_set = built.linked_set;
     waits = λ w h. elim ((both w).0 h) [
       | inl old ↦ let b = built.waits w old in omega (arith, b)
@@ -86,7 +77,6 @@ module _ {Stands : ℕ → List ℕ → Type 0} {Satisfies : List ℕ → Type 0
     ];
     waits_set = λ w h. set_of w ((both w).0 h);
     waits_some = λ w h. elim ((both w).0 h) [ inl old ↦ built.waits_some w old | inr new ↦ new_some w new ];
-    waits_level = λ w h. level_of w ((both w).0 h);
     fresh = built.fresh;
     stood = built.stood;
     linked_seen = built.linked_seen;

@@ -14,4 +14,8 @@ pub mod InsertingLemmas
 pub mod GatheringLemmas
 pub mod InterningLemmas
 pub mod RowsLemmas
-pub mod GroupingLemmas
+pub mod KeptLemmas
+pub mod NumberedLemmas
+pub mod RunsLemmas
+pub mod NumberingLemmas
+pub mod DeparturesLemmas

@@ -1,5 +1,5 @@
 -- What one reading adds.
-use Rattle.std.proofs.Common.{arith, ◌≡◌, ◌≢◌, ℕ, zero, suc, ◌+◌, ◌<◌, ◌↔◌, ◌⊎◌, inl, inr, List, [], ◌∷◌, ◌++◌, refl, sym, ap, subst, ◌∙◌, length, get_or, append_assoc, Vec}
+use Rattle.std.proofs.Common.{arith, ◌≡◌, ◌≢◌, ℕ, zero, suc, ◌+◌, ◌<◌, ◌↔◌, ◌⊎◌, inl, inr, List, [], ◌∷◌, ◌++◌, refl, sym, ap, subst, ◌∙◌, length, get_or, append_assoc}
 use Rattle.std.specs.Prelude.{Contains}
 use Rattle.std.specs.List.Sorted.{IsStrictlyIncreasing}
 use Rattle.std.proofs.lemmas.List.{append-nil}
@@ -7,12 +7,9 @@ use Rattle.std.proofs.lemmas.List.Elements.{Contains-append_left, Contains-appen
 use Rattle.ux_subsets.specs.declared.automaton.Link.{Link}
 use Rattle.ux_subsets.specs.declared.sets.Over.{Over}
 use Rattle.ux_subsets.specs.declared.sets.Waiting.{Waiting}
-use Rattle.ux_subsets.specs.Paths.{link}
 use Rattle.ux_subsets.specs.Machines.{Grows}
-use Rattle.ux_subsets.specs.Rows.{row_at, AreByStart, LeadsAmong, AreGroups}
-use Rattle.ux_subsets.specs.Building.{LeadsFrom, NextFrom, AreNew, IsExpansion, over_at, Unlike, AreUnlike}
+use Rattle.ux_subsets.specs.Building.{states_of, LeadsFrom, NextFrom, AreNew, IsExpansion, over_at, Unlike, AreUnlike}
 use Rattle.ux_subsets.proofs.ElementsLemmas.{nothing_in, first_or_later, contains_first, contains_later}
-use Rattle.ux_subsets.proofs.SpellingLemmas.{same_link}
 
 same_over : (o : Over) (n r : ℕ) → o.from ≡ n → o.reading ≡ r → over_at n r ≡ o
 same_over o n r e f = back (sym e) (sym f)
@@ -38,33 +35,42 @@ pub over_not_noted : (overs : List Over) (n r : ℕ) (L : Type 0) → (L → ⊥
 over_not_noted overs n r L never o = (λ h. inl h, λ h. elim h [ inl old ↦ old | inr new ↦ absurd (never new.2) ])
 
 module _ (Goes : ℕ → Type 0) (n r next : ℕ) where
-  pub one_new : (w : Waiting) → w.from ≡ n → w.reading ≡ r → ((t : ℕ) → Contains w.set.states.items t ↔ Goes t) →
-      (t : ℕ) → Contains w.set.states.items t → w.set.seen ≡ next → IsStrictlyIncreasing w.set.states.items → AreNew Goes n r next (w ∷ [])
+  pub one_new : (w : Waiting) → w.from ≡ n → w.reading ≡ r → ((t : ℕ) → Contains (states_of w.set) t ↔ Goes t) →
+      (t : ℕ) → Contains (states_of w.set) t → w.set.seen ≡ next → IsStrictlyIncreasing (states_of w.set) → AreNew Goes n r next (w ∷ [])
   one_new w from reading set t some seen sorted = record {
     from = λ x h. subst (λ (y : Waiting). y.from ≡ n) (only x h) from;
     reading = λ x h. subst (λ (y : Waiting). y.reading ≡ r) (only x h) reading;
-    set = λ x h. subst (λ (y : Waiting). (t : ℕ) → Contains y.set.states.items t ↔ Goes t) (only x h) set;
-    some = λ x h. subst (λ (y : Waiting). (t : ℕ) × Contains y.set.states.items t) (only x h) (t, some);
+    set = λ x h. subst (λ (y : Waiting). (t : ℕ) → Contains (states_of y.set) t ↔ Goes t) (only x h) set;
+    some = λ x h. subst (λ (y : Waiting). (t : ℕ) × Contains (states_of y.set) t) (only x h) (t, some);
     each = λ t nx. (w, contains_first w []);
     seen = λ x h. subst (λ (y : Waiting). y.set.seen ≡ next) (only x h) seen;
-    sorted = λ x h. subst (λ (y : Waiting). IsStrictlyIncreasing y.set.states.items) (only x h) sorted;
+    sorted = λ x h. subst (λ (y : Waiting). IsStrictlyIncreasing (states_of y.set)) (only x h) sorted;
     unlike = (λ y h. absurd (nothing_in h), tt);
   }
     where
       only : (x : Waiting) → Contains (w ∷ []) x → w ≡ x
       only x h = elim (first_or_later w [] x h) [ inl e ↦ e | inr none ↦ absurd (nothing_in none) ]
 
-  pub none_new : (found : List ℕ) → found ≡ [] → ((t : ℕ) → Contains found t ↔ Goes t) → AreNew Goes n r next []
-  none_new found none set = record {
+  pub none_new : ((t : ℕ) → Goes t → ⊥) → AreNew Goes n r next []
+  none_new none = record {
     from = λ x h. absurd (nothing_in h);
     reading = λ x h. absurd (nothing_in h);
     set = λ x h. absurd (nothing_in h);
     some = λ x h. absurd (nothing_in h);
-    each = λ t nx. absurd (nothing_in (subst (λ (xs : List ℕ). Contains xs t) none ((set t).1 nx)));
+    each = λ t nx. absurd (none t nx);
     seen = λ x h. absurd (nothing_in h);
     sorted = λ x h. absurd (nothing_in h);
     unlike = tt;
   }
+
+-- the paths that are over after one reading more were noted
+pub kept_more : (overs overs' : List Over) (n : ℕ) (readings : List ℕ) (r : ℕ) (Ends : ℕ → Type 0) (L V : Type 0) →
+    ((o : Over) → Contains overs' o ↔ (Contains overs o ⊎ ((o.from ≡ n) × (o.reading ≡ r) × L × V))) → (Ends r → L × V) →
+    ((q : ℕ) → Contains readings q → Ends q → Contains overs (over_at n q)) → (q : ℕ) → Contains (readings ++ r ∷ []) q → Ends q → Contains overs' (over_at n q)
+kept_more overs overs' n readings r Ends L V over last kept q h ends = elim (Contains-push_cases readings r q h) [
+  | inl old ↦ (over (over_at n q)).1 (inl (kept q old ends))
+  | inr is ↦ let l = last (subst Ends (sym is) ends) in (over (over_at n q)).1 (inr (refl, sym is, l.0, l.1))
+]
 
 -- the same waits, told in other words
 pub new_for : (P Q : ℕ → Type 0) (n r next : ℕ) (new : List Waiting) → ((t : ℕ) → P t ↔ Q t) → AreNew P n r next new → AreNew Q n r next new
@@ -78,30 +84,6 @@ new_for P Q n r next new same a = record {
   sorted = a.sorted;
   unlike = a.unlike;
 }
-
--- a group has just the states to which its reading leads from the set
-pub leads_same : {Z : Type 0} (last : ℕ) (source : List Link) (states : List ℕ) (rows : List (Vec Link Z)) → AreByStart source rows → (near : List Link) →
-    ((l : Link) → Contains near l ↔ ((s : ℕ) × Contains states s × Contains (row_at rows s) l)) → (n r t : ℕ) →
-    LeadsAmong near r t ↔ LeadsFrom last source states n r t
-leads_same last source states rows start near gathered n r t = (
-  λ h.
-      let g = (gathered h.0).0 h.1 in
-      let l = (start g.0 h.0).0 g.2 in
-      (g.0, g.1, subst (λ (k : Link). Contains source k) (same_link h.0.from g.0 h.0.to t h.0.reading r l.1 h.3 h.2) l.0),
-  λ h. (link h.0 t r, (gathered (link h.0 t r)).1 (h.0, h.1, (start h.0 (link h.0 t r)).1 (h.2, refl)), refl, refl),
-)
-
--- the row of a group has the states to which its reading leads
-pub target_leads : {Y Z : Type 0} (last : ℕ) (source : List Link) (states : List ℕ) (rows : List (Vec Link Y)) → AreByStart source rows → (near : List Link) →
-    ((l : Link) → Contains near l ↔ ((s : ℕ) × Contains states s × Contains (row_at rows s) l)) →
-    (readings : List ℕ) (lists : List (Vec ℕ Z)) → AreGroups near readings lists → (i : ℕ) → i < length readings → (n : ℕ) (targets : List ℕ) → targets ≡ row_at lists i → (t : ℕ) →
-    Contains targets t ↔ LeadsFrom last source states n (get_or readings i 0) t
-target_leads last source states rows start near gathered readings lists groups i inside n targets is t =
-    let e = groups.exact i t inside in
-    let l = leads_same last source states rows start near gathered n (get_or readings i 0) t in (
-      λ h. l.0 (e.0 (subst (λ (ts : List ℕ). Contains ts t) is h)),
-      λ h. subst (λ (ts : List ℕ). Contains ts t) (sym is) (e.1 (l.1 h)),
-    )
 
 -- what is over, told in other words
 pub over_for : (overs overs' : List Over) (n r : ℕ) (L L' V : Type 0) → L ↔ L' →
@@ -204,7 +186,7 @@ module _ (last : ℕ) (source : List Link) (states : List ℕ) (n : ℕ) where
         ];
         set = λ w h. elim (Contains-append_cases e.new new w h) [
           | inl x ↦ e.set w x
-          | inr x ↦ subst (λ (q : ℕ). (t : ℕ) → Contains w.set.states.items t ↔ NextFrom last source states n q t) (sym (a.reading w x)) (a.set w x)
+          | inr x ↦ subst (λ (q : ℕ). (t : ℕ) → Contains (states_of w.set) t ↔ NextFrom last source states n q t) (sym (a.reading w x)) (a.set w x)
         ];
         some = λ w h. elim (Contains-append_cases e.new new w h) [ inl x ↦ e.some w x | inr x ↦ a.some w x ];
         each = λ q t h nx. elim (Contains-push_cases readings r q h) [

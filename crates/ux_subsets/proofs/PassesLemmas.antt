@@ -1,12 +1,15 @@
 -- What two passes leave, and when nothing is left.
 use Rattle.std.proofs.Common.{arith, ◌≡◌, ℕ, suc, ◌+◌, ◌<◌, ◌↔◌, inl, inr, List, [], ◌∷◌, ◌++◌, refl, sym, subst, ◌∙◌, get_or}
-use Rattle.std.specs.Prelude.{Contains}
+use Rattle.std.specs.Prelude.{Contains, Option, Some, None, IfSome, IfNone}
+use Rattle.std.proofs.lemmas.Option.{IfSome_then}
+use Rattle.ux_subsets.specs.declared.automaton.Automaton.{Automaton}
 use Rattle.std.specs.List.{slice_index}
 use Rattle.std.specs.List.Sorted.{IsStrictlyIncreasing}
 use Rattle.std.proofs.lemmas.List.{get_or_default}
 use Rattle.ux_subsets.specs.declared.automaton.Link.{Link}
 use Rattle.ux_subsets.specs.Paths.{link, IsAscending, Spells, reversed, IsLeft}
 use Rattle.ux_subsets.specs.Building.{states_at, seen_at, IsPass}
+use Rattle.ux_subsets.specs.Turning.{HasEnd, IsTurned}
 use Rattle.ux_subsets.proofs.ElementsLemmas.{nothing_in, first_or_later, contains_first, contains_later}
 use Rattle.ux_subsets.proofs.NotingLemmas.{rises}
 use Rattle.ux_subsets.proofs.SpellingLemmas.{Reads, reads_append, spells_iff}
@@ -18,7 +21,7 @@ tail_up x xs up = λ k lt.
     let e : suc k + 1 ≡ suc (k + 1) = omega arith in
     subst (λ (i : ℕ). slice_index (x ∷ xs) (suc k) < slice_index (x ∷ xs) i) e (up (suc k) (omega (arith, lt)))
 
-head_below : (x : ℕ) (xs : List ℕ) → IsStrictlyIncreasing (x ∷ xs) → (t : ℕ) → Contains xs t → x < t
+pub head_below : (x : ℕ) (xs : List ℕ) → IsStrictlyIncreasing (x ∷ xs) → (t : ℕ) → Contains xs t → x < t
 head_below x xs up t h =
     let inside = h.1 in
     let less = rises (x ∷ xs) up 0 h.0 (omega (arith, inside)) in
@@ -53,10 +56,6 @@ same_elements (x ∷ xs) (y ∷ ys) up vp same =
     )) in
     cc
 
--- a link leads to the state
-abbrev pub HasEnd : ℕ → List Link → Type 0
-HasEnd last links = (l : Link) × Contains links l × (l.to ≡ last)
-
 module _ {Stands : ℕ → List ℕ → Type 0} {Satisfies : List ℕ → Type 0} (last : ℕ) (links : List Link) (up : IsAscending last links) (some : 0 < last)
     (last1 : ℕ) (links1 : List Link) (forth : IsPass Stands Satisfies last links last1 links1) where
   exact1 : (w : List ℕ) → Reads links1 0 last1 w ↔ (Reads links 0 last w × Satisfies w)
@@ -87,3 +86,18 @@ module _ {Stands : ℕ → List ℕ → Type 0} {Satisfies : List ℕ → Type 0
       (same_elements (states_at again.sets n) (states_at again.sets k) (again.sorted n ln) (again.sorted k lk) same)
       ((again.stood n ln).1 ∙ sym (again.stood k lk).1))
       word told.0 told.1
+
+  pub turned_left : (answer : Option Automaton) →
+      IfSome answer (λ left. HasEnd last1 links1 × (IsAscending last1 links1 → IsTurned last1 links1 left.last left.links.items)) →
+      IfSome answer (λ left. IsLeft Satisfies last links left.last left.links.items)
+  turned_left answer h = IfSome_then answer h (λ left t.
+      let turned = t.1 (record { ascends = forth.are.ascending; within = forth.are.within }) in
+      subst (λ (ls : List Link). IsLeft Satisfies last links left.last ls) (sym turned.made)
+      (two_passes t.0 left.last turned.back turned.pass))
+
+-- where none is left, no list satisfies
+pub nothing_turned : {Stands : ℕ → List ℕ → Type 0} {Satisfies : List ℕ → Type 0} (last : ℕ) (links : List Link) (up : IsAscending last links) (some : 0 < last)
+    (last1 : ℕ) (links1 : List Link) → IsPass Stands Satisfies last links last1 links1 → (answer : Option Automaton) → IfNone answer (HasEnd last1 links1 → ⊥) →
+    IfNone answer ((readings : List ℕ) → Spells links 0 last readings → Satisfies readings → ⊥)
+nothing_turned last links up some last1 links1 forth None h = nothing_left_over last links up some last1 links1 forth h
+nothing_turned last links up some last1 links1 forth (Some left) h = tt

@@ -1,5 +1,5 @@
 -- An automaton of subsets while it is built.
-use Rattle.std.specs.Prelude.{◌≡◌, ◌≢◌, ℕ, zero, suc, ◌+◌, ◌<◌, ◌≤◌, ◌↔◌, ◌⊎◌, List, [], ◌∷◌, ◌++◌, length, Contains}
+use Rattle.std.specs.Prelude.{◌≡◌, ◌≢◌, ℕ, zero, suc, ◌<◌, ◌≤◌, ◌↔◌, ◌⊎◌, List, [], ◌∷◌, ◌++◌, length, Contains, Bool, IsTrue}
 use Rattle.ux_subsets.specs.declared.automaton.Link.{Link}
 use Rattle.ux_subsets.specs.declared.sets.Set.{Set}
 use Rattle.ux_subsets.specs.declared.sets.Over.{Over}
@@ -8,17 +8,23 @@ use Rattle.ux_subsets.specs.Paths.{link, Spells}
 use Rattle.std.specs.List.Sorted.{IsStrictlyIncreasing}
 use Rattle.ux_subsets.specs.Machines.{AreSubsets}
 
--- the link to the last state where a path is over
-abbrev pub closing : ℕ → Over → Link
-closing last' o = link o.from last' o.reading
+-- the states of a set
+abbrev pub states_of : Set → List ℕ
+states_of set = set.first ∷ set.others.items
 
--- the states of the set with that number
+-- the states of the set at that place
 abbrev pub states_at : List Set → ℕ → List ℕ
 states_at [] n = []
-states_at (set ∷ sets) zero = set.states.items
+states_at (set ∷ sets) zero = states_of set
 states_at (set ∷ sets) (suc n) = states_at sets n
 
--- the machine's state with the set of that number
+-- the least state of the set at that place
+abbrev pub first_at : List Set → ℕ → ℕ
+first_at [] n = 0
+first_at (set ∷ sets) zero = set.first
+first_at (set ∷ sets) (suc n) = first_at sets n
+
+-- the machine's state with the set at that place
 abbrev pub seen_at : List Set → ℕ → ℕ
 seen_at [] n = 0
 seen_at (set ∷ sets) zero = set.seen
@@ -28,7 +34,7 @@ abbrev pub over_at : (from reading : ℕ) → Over
 over_at n r = record { from = n; reading = r }
 
 module _ (last : ℕ) (links : List Link) where
-  -- a reading leads from a state of the set with that number to the state
+  -- a reading leads from a state of the set at that place to the state
   abbrev pub Leads : (sets : List Set) → (n reading to : ℕ) → Type 0
   Leads sets n r t = (s : ℕ) × Contains (states_at sets n) s × Contains links (link s t r)
 
@@ -36,17 +42,16 @@ module _ (last : ℕ) (links : List Link) where
   Next sets n r t = (t ≢ last) × Leads sets n r t
 
 module _ (Stands : ℕ → List ℕ → Type 0) (Satisfies : List ℕ → Type 0) (last : ℕ) (links : List Link) where
-  -- the sets below `expanded` have all their links; what waits has its target's set, whose states are at least `level`
-  pub record IsBuilt (sets : List Set) (links' : List Link) (overs : List Over) (Waits : Waiting → Type 0) (expanded level : ℕ) : Type 0 where
+  -- the sets before the place `expanded` have all their links; what waits has its target's set
+  pub record IsBuilt (sets : List Set) (links' : List Link) (overs : List Over) (Waits : Waiting → Type 0) (expanded : ℕ) : Type 0 where
     pub first : states_at sets 0 ≡ 0 ∷ []
     pub some : 0 < length sets
     pub count : expanded ≤ length sets
-    pub linked : (l : Link) → Contains links' l → (l.from < l.to) × (l.from < expanded) × (l.to < length sets)
+    pub linked : (l : Link) → Contains links' l → (l.from < expanded) × (l.to < length sets)
     pub linked_set : (l : Link) → Contains links' l → (t : ℕ) → Contains (states_at sets l.to) t ↔ Next last links sets l.from l.reading t
     pub waits : (w : Waiting) → Waits w → w.from < expanded
-    pub waits_set : (w : Waiting) → Waits w → (t : ℕ) → Contains w.set.states.items t ↔ Next last links sets w.from w.reading t
-    pub waits_some : (w : Waiting) → Waits w → (t : ℕ) × Contains w.set.states.items t
-    pub waits_level : (w : Waiting) → Waits w → (t : ℕ) → Contains w.set.states.items t → level ≤ t
+    pub waits_set : (w : Waiting) → Waits w → (t : ℕ) → Contains (states_of w.set) t ↔ Next last links sets w.from w.reading t
+    pub waits_some : (w : Waiting) → Waits w → (t : ℕ) × Contains (states_of w.set) t
     pub fresh : Stands (seen_at sets 0) []
     pub stood : (n : ℕ) → n < length sets → (before : List ℕ) × Stands (seen_at sets n) before
     pub linked_seen : (l : Link) → Contains links' l → (before : List ℕ) → Stands (seen_at sets l.from) before → Stands (seen_at sets l.to) (before ++ l.reading ∷ [])
@@ -62,14 +67,14 @@ module _ (Stands : ℕ → List ℕ → Type 0) (Satisfies : List ℕ → Type 0
     pub filled : (n : ℕ) → n < length sets → (s : ℕ) × Contains (states_at sets n) s
     pub reached : (n : ℕ) → n < length sets → (readings : List ℕ) × Spells links' 0 n readings
 
--- the number's set is the same as this one, which was there or is the last now
+-- the set at the place is the same as this one, which was there or is the last now
 pub record HasNumber (old new : List Set) (set : Set) (number : ℕ) : Type 0 where
   pub there : number < length new
-  pub same : states_at new number ≡ set.states.items
+  pub same : states_at new number ≡ states_of set
   pub same_seen : seen_at new number ≡ set.seen
-  pub either : (new ≡ old) ⊎ ((new ≡ old ++ set ∷ []) × (number ≡ length old) × ((n : ℕ) → n < length old → states_at old n ≡ set.states.items → seen_at old n ≡ set.seen → ⊥))
+  pub either : (new ≡ old) ⊎ ((new ≡ old ++ set ∷ []) × (number ≡ length old) × ((n : ℕ) → n < length old → states_at old n ≡ states_of set → seen_at old n ≡ set.seen → ⊥))
 
--- the set that waits has a number, and the link goes to it
+-- the set that waits has a place, and the link goes to it
 pub record IsPlaced (old new : List Set) (links links' : List Link) (w : Waiting) : Type 0 where
   pub number : ℕ
   pub has : HasNumber old new w.set number
@@ -86,26 +91,29 @@ AreUnlike (x ∷ xs) = ((y : Waiting) → Contains xs y → Unlike x y) × AreUn
 -- each set is in ascending order, and no two have the same states and the same state of the machine
 pub record AreApart (sets : List Set) (Waits : Waiting → Type 0) : Type 0 where
   pub sorted : (n : ℕ) → n < length sets → IsStrictlyIncreasing (states_at sets n)
-  pub waits_sorted : (w : Waiting) → Waits w → IsStrictlyIncreasing w.set.states.items
+  pub waits_sorted : (w : Waiting) → Waits w → IsStrictlyIncreasing (states_of w.set)
   pub different : (n k : ℕ) → n < length sets → k < length sets → states_at sets n ≡ states_at sets k → seen_at sets n ≡ seen_at sets k → n ≡ k
 
--- a stage of the building between levels
-pub record IsStage (Stands : ℕ → List ℕ → Type 0) (Satisfies : List ℕ → Type 0) (last : ℕ) (links : List Link) (sets : List Set) (links' : List Link) (overs : List Over) (waiting : List Waiting) (expanded level : ℕ) : Type 0 where
-  pub built : IsBuilt Stands Satisfies last links sets links' overs (Contains waiting) expanded level
+-- a stage of a round: the sets that have no links yet have no state below the level, and those from the border on only greater ones;
+-- and if `all`, then each path that is over satisfies
+pub record IsStage (Stands : ℕ → List ℕ → Type 0) (Satisfies : List ℕ → Type 0) (last : ℕ) (links : List Link) (sets : List Set) (links' : List Link) (overs : List Over) (waiting : List Waiting) (expanded border level : ℕ) (all : Bool) : Type 0 where
+  pub built : IsBuilt Stands Satisfies last links sets links' overs (Contains waiting) expanded
   pub unlike : AreUnlike waiting
-  pub fresh : (n s : ℕ) → expanded ≤ n → n < length sets → Contains (states_at sets n) s → level ≤ s + 1
+  pub fresh : (n s : ℕ) → expanded ≤ n → n < length sets → Contains (states_at sets n) s → level ≤ s
+  pub newer : (n s : ℕ) → border ≤ n → n < length sets → Contains (states_at sets n) s → level < s
+  pub later : (w : Waiting) → Contains waiting w → (t : ℕ) → Contains (states_of w.set) t → level < t
   pub apart : AreApart sets (Contains waiting)
-  pub lower : (n : ℕ) → n < length sets → (s : ℕ) × Contains (states_at sets n) s × (s < level)
+  pub kept : IsTrue all → (n r : ℕ) → n < expanded → Leads last links sets n r last → Contains overs (over_at n r)
 
 -- what waits from n by the reading, with this state of the machine: one set, or none where none goes on
 pub record AreNew (Goes : ℕ → Type 0) (n r next : ℕ) (new : List Waiting) : Type 0 where
   pub from : (w : Waiting) → Contains new w → w.from ≡ n
   pub reading : (w : Waiting) → Contains new w → w.reading ≡ r
-  pub set : (w : Waiting) → Contains new w → (t : ℕ) → Contains w.set.states.items t ↔ Goes t
-  pub some : (w : Waiting) → Contains new w → (t : ℕ) × Contains w.set.states.items t
+  pub set : (w : Waiting) → Contains new w → (t : ℕ) → Contains (states_of w.set) t ↔ Goes t
+  pub some : (w : Waiting) → Contains new w → (t : ℕ) × Contains (states_of w.set) t
   pub each : (t : ℕ) → Goes t → (w : Waiting) × Contains new w
   pub seen : (w : Waiting) → Contains new w → w.set.seen ≡ next
-  pub sorted : (w : Waiting) → Contains new w → IsStrictlyIncreasing w.set.states.items
+  pub sorted : (w : Waiting) → Contains new w → IsStrictlyIncreasing (states_of w.set)
   pub unlike : AreUnlike new
 
 module _ (last : ℕ) (source : List Link) (states : List ℕ) (n : ℕ) where
@@ -123,11 +131,11 @@ module _ (last : ℕ) (source : List Link) (states : List ℕ) (n : ℕ) where
     pub appended : waiting' ≡ waiting ++ new
     pub from : (w : Waiting) → Contains new w → w.from ≡ n
     pub reading : (w : Waiting) → Contains new w → Contains readings w.reading
-    pub set : (w : Waiting) → Contains new w → (t : ℕ) → Contains w.set.states.items t ↔ NextFrom w.reading t
-    pub some : (w : Waiting) → Contains new w → (t : ℕ) × Contains w.set.states.items t
+    pub set : (w : Waiting) → Contains new w → (t : ℕ) → Contains (states_of w.set) t ↔ NextFrom w.reading t
+    pub some : (w : Waiting) → Contains new w → (t : ℕ) × Contains (states_of w.set) t
     pub each : (r t : ℕ) → Contains readings r → NextFrom r t → (w : Waiting) × Contains new w × (w.reading ≡ r)
     pub sees : (w : Waiting) → Contains new w → (before : List ℕ) → Stands seen before → Stands' w.set.seen (before ++ w.reading ∷ [])
-    pub sorted : (w : Waiting) → Contains new w → IsStrictlyIncreasing w.set.states.items
+    pub sorted : (w : Waiting) → Contains new w → IsStrictlyIncreasing (states_of w.set)
     pub unlike : AreUnlike new
 
 -- the automaton's states but for its last are sets of the source's states with a state of the machine, no two the same

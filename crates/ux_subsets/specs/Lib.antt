@@ -1,5 +1,7 @@
 pub mod Paths
 pub mod Machines
 pub mod Rows
-pub mod Numbered
+pub mod Departures
 pub mod Building
+pub mod Numbered
+pub mod Turning

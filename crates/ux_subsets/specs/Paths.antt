@@ -41,3 +41,15 @@ pub record IsLeft (Satisfies : List ℕ → Type 0) (last : ℕ) (links : List L
       ((readings : List ℕ) → Spells links' 0 a readings ↔ Spells links' 0 b readings) → a ≡ b
   pub on_path : (a : ℕ) → a ≤ last' → ((before after : List ℕ) × Spells links' 0 a before × Spells links' a last' after)
   pub ascending : IsAscending last' links'
+
+-- no list has two paths, no two states have the same lists to the last one, no two but the last have
+-- the same lists from the first one, and each lies on a path
+pub record IsNormal (last : ℕ) (links : List Link) : Type 0 where
+  pub some : 0 < last
+  pub once : (p q : List Link) → IsPath links 0 last p → IsPath links 0 last q → readings_of p ≡ readings_of q → p ≡ q
+  pub apart : (a b : ℕ) → a ≤ last → b ≤ last →
+      ((readings : List ℕ) → Spells links a last readings ↔ Spells links b last readings) → a ≡ b
+  pub apart_before : (a b : ℕ) → a < last → b < last →
+      ((readings : List ℕ) → Spells links 0 a readings ↔ Spells links 0 b readings) → a ≡ b
+  pub on_path : (a : ℕ) → a ≤ last → ((before after : List ℕ) × Spells links 0 a before × Spells links a last after)
+  pub ascending : IsAscending last links

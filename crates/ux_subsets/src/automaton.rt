@@ -3,6 +3,7 @@
 ghost use Rattle.std.specs.Prelude.{◌≡◌, ◌<◌, ◌↔◌, IfOk, IsTrue, Contains};
 ghost use Rattle.ux_subsets.specs.declared.automaton.Link.{Link};
 ghost use Rattle.ux_subsets.specs.Paths.{link, reversed};
+ghost use Rattle.ux_subsets.specs.Turning.{HasEnd};
 
 use std::alloc::Global;
 use ux_base::Mem;
@@ -26,7 +27,7 @@ pub struct Automaton {
 pub fn reversed_links(alloc: Global, last: usize, links: &[Link]) -> Mem<Vec<Link>>
     ensures { IfOk result (λ found. found.items ≡ reversed last links.now) }
 {
-    let mut found = Vec::new(alloc);
+    let mut found = Vec::with_capacity(alloc, links.len())?;
     for link in links {
         found.push(Link {
             from: last.saturating_sub(link.to),
@@ -46,7 +47,7 @@ fn leads_to(link: &Link, state: usize) -> bool
 
 /// Whether a link leads to the state.
 pub(crate) fn has_end(links: &[Link], state: usize) -> bool
-    ensures { IsTrue result ↔ ((l : Link) × Contains links.now l × (l.to ≡ state)) }
+    ensures { IsTrue result ↔ HasEnd state links.now }
 {
     links.iter().any(|link| leads_to(link, state))
 }

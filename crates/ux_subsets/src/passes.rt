@@ -2,16 +2,15 @@
 
 ghost use Rattle.std.specs.Prelude.{ℕ, ◌<◌, List, IfOk, OnOk, IfSome, Some, IfNone};
 ghost use Rattle.ux_subsets.specs.declared.automaton.Link.{Link};
-ghost use Rattle.ux_subsets.specs.Paths.{IsAscending, Spells, IsLeft};
+ghost use Rattle.ux_subsets.specs.Paths.{IsAscending, Spells, IsLeft, IsNormal};
 ghost use Rattle.ux_subsets.specs.Machines.{Grows};
 ghost use Rattle.ux_subsets.specs.Building.{IsPass};
+ghost use Rattle.ux_subsets.specs.Turning.{HasEnd, IsTurned};
 
 use crate::automaton::{Automaton, Link, has_end, reversed_links};
-use crate::grouping::by_start;
-use crate::levels::all_levels;
 use crate::machine::{AnyList, Machine};
-use crate::sets::{close, first_set, number_of};
-use indexmap::IndexSet;
+use crate::numbering::numbered;
+use crate::rounds::reach;
 use std::alloc::Global;
 use ux_base::Mem;
 
@@ -30,25 +29,9 @@ pub fn subsets<M: Machine>(
         IsPass (M.stands machine.new) (M.satisfies machine.new) last source.now found.last
         found.links.items) }
 {
-    let rows = by_start(alloc, source, last)?;
-    let seen = machine.begin(alloc)?;
-    let set = first_set(alloc, seen)?;
-    let mut sets = IndexSet::new(alloc);
-    let _number = number_of(&mut sets, set)?;
-    let mut links = Vec::new(alloc);
-    let mut overs = Vec::new(alloc);
-    let waiting = all_levels(
-        alloc,
-        machine,
-        rows.as_slice(),
-        last,
-        &mut sets,
-        &mut links,
-        &mut overs,
-    )?;
-    let count = sets.as_slice().len();
-    close(&mut links, overs.as_slice(), count)?;
-    Ok(Automaton { last: count, links })
+    let reached = reach(alloc, machine, source, last)?;
+    let found = numbered(alloc, reached)?;
+    Ok(found)
 }
 
 /// What the machine leaves of the automaton's lists: an automaton with one path for each, which is
@@ -69,6 +52,44 @@ pub fn apply<M: Machine>(
         Spells source.now 0 last readings → M.satisfies machine.new readings → ⊥)) }
 {
     let forth = subsets(alloc, machine, source, last)?;
+    let left = turned(alloc, forth)?;
+    Ok(left)
+}
+
+/// What the machine leaves of an automaton that is an answer of `apply`, as `apply` does. Where that
+/// is all of it, the answer is the automaton itself, without a second pass.
+pub fn apply_again<M: Machine>(
+    alloc: Global,
+    machine: &mut M,
+    source: Automaton,
+) -> Mem<Option<Automaton>>
+    requires { IsNormal source.last source.links.items }
+    ensures grows { OnOk result (Grows (M.stands machine.old) (M.stands machine.new) (M.satisfies
+        machine.old) (M.satisfies machine.new)) }
+    ensures left { IfOk result (λ answer. IfSome answer (λ left. IsLeft (M.satisfies machine.new)
+        source.last source.links.items left.last left.links.items)) }
+    ensures nothing { IfOk result (λ answer. IfNone answer ((readings : List ℕ) →
+        Spells source.links.items 0 source.last readings → M.satisfies machine.new readings → ⊥)) }
+{
+    let reached = reach(alloc, machine, source.links.as_slice(), source.last)?;
+    if reached.all {
+        return Ok(Some(source));
+    }
+    let forth = numbered(alloc, reached)?;
+    let left = turned(alloc, forth)?;
+    Ok(left)
+}
+
+/// The automaton of the sets of states from which the same lists lead to the last one, by a pass
+/// over the automaton read backwards. None where no list leads there.
+fn turned(alloc: Global, forth: Automaton) -> Mem<Option<Automaton>>
+    requires { 0 < forth.last }
+    ensures left { IfOk result (λ answer. IfSome answer (λ left. HasEnd forth.last
+        forth.links.items × (IsAscending forth.last forth.links.items →
+        IsTurned forth.last forth.links.items left.last left.links.items))) }
+    ensures nothing { IfOk result (λ answer. IfNone answer (HasEnd forth.last
+        forth.links.items → ⊥)) }
+{
     if !has_end(forth.links.as_slice(), forth.last) {
         return Ok(None);
     }

@@ -1,22 +1,24 @@
-//! Sets of states, and how they get their numbers.
+//! Sets of states, and how they get their places.
 
 ghost use Rattle.std.specs.Prelude.{◌≡◌, ℕ, ◌+◌, ◌<◌, ◌≤◌, ◌↔◌, [], ◌∷◌, ◌++◌, length, map, IfOk, OnOk, IsTrue, Contains};
 ghost use Rattle.ux_subsets.specs.Paths.{link};
-ghost use Rattle.ux_subsets.specs.Building.{closing, IsPlaced, HasNumber};
+ghost use Rattle.ux_subsets.specs.Building.{IsPlaced, HasNumber};
 
 use crate::automaton::Link;
 use indexmap::IndexSet;
 use std::alloc::Global;
 use ux_base::Mem;
 
-/// A set of states, in ascending order, with what a machine has seen.
+/// A set of states, the least one and the others in ascending order, with what a machine has seen.
+/// A set of one state takes no memory of its own.
 #[derive(PartialEq, Eq, Hash, Drop)]
 pub struct Set {
-    pub states: Vec<usize>,
+    pub first: usize,
+    pub others: Vec<usize>,
     pub seen: usize,
 }
 
-/// A link whose target isn't numbered yet.
+/// A link whose target has no place yet.
 #[derive(Drop)]
 pub struct Waiting {
     pub from: usize,
@@ -32,15 +34,19 @@ pub struct Over {
 }
 
 /// The set of the first state alone.
-pub(crate) fn first_set(alloc: Global, seen: usize) -> Mem<Set>
-    ensures { IfOk result (λ set. (set.states.items ≡ 0 ∷ []) × (set.seen ≡ seen)) }
+pub(crate) fn first_set(alloc: Global, seen: usize) -> Set
+    ensures items { result.others.items ≡ [] }
+    ensures first { result.first ≡ 0 }
+    ensures seen { result.seen ≡ seen }
 {
-    let mut states = Vec::new(alloc);
-    states.push(0)?;
-    Ok(Set { states, seen })
+    Set {
+        first: 0,
+        others: Vec::new(alloc),
+        seen,
+    }
 }
 
-/// Gives a number to the set that waits, unless it has one, and adds the link.
+/// Gives a place to the set that waits, unless it has one, and adds the link.
 pub(crate) fn place(sets: &mut IndexSet<Set>, links: &mut Vec<Link>, waiting: Waiting) -> Mem<()>
     ensures { OnOk result (IsPlaced sets.old.keys sets.new.keys
         links.old.items links.new.items waiting) }
@@ -51,7 +57,7 @@ pub(crate) fn place(sets: &mut IndexSet<Set>, links: &mut Vec<Link>, waiting: Wa
     Ok(())
 }
 
-/// The number of the set, which gets one if it has none.
+/// The place of the set, which gets one if it has none.
 pub(crate) fn number_of(sets: &mut IndexSet<Set>, set: Set) -> Mem<usize>
     ensures { IfOk result (λ number. HasNumber sets.old.keys sets.new.keys set number) }
 {
@@ -59,29 +65,12 @@ pub(crate) fn number_of(sets: &mut IndexSet<Set>, set: Set) -> Mem<usize>
     Ok(number)
 }
 
-/// Adds a link to the set's number.
-fn add_link(links: &mut Vec<Link>, from: usize, to: usize, reading: u32) -> Mem<()>
+/// Adds a link to the set's place.
+pub(crate) fn add_link(links: &mut Vec<Link>, from: usize, to: usize, reading: u32) -> Mem<()>
     ensures { OnOk result (links.new.items ≡ links.old.items ++ link from to reading ∷ []) }
 {
     links.push(Link { from, to, reading })?;
     Ok(())
-}
-
-/// Adds the links to the last state.
-pub(crate) fn close(links: &mut Vec<Link>, overs: &[Over], last: usize) -> Mem<()>
-    ensures { OnOk result (links.new.items ≡ links.old.items ++ map (closing last) overs.now) }
-{
-    for over in overs {
-        add_link(links, over.from, last, over.reading)?;
-    }
-    Ok(())
-}
-
-/// Whether the state is in the list.
-pub(crate) fn has(states: &[usize], state: usize) -> bool
-    ensures { IsTrue result ↔ Contains states.now state }
-{
-    states.contains(&state)
 }
 
 /// Whether the list has no element.

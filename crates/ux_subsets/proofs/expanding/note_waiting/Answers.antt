@@ -1,27 +1,33 @@
-use Rattle.std.proofs.Common.{ℕ, [], ◌∷◌, ◌≢◌, sym, refl, ◌∙◌}
-use Rattle.std.specs.Prelude.{Contains, IsTrue, false}
+use Rattle.std.proofs.Common.{arith, ℕ, [], ◌∷◌, ◌≡◌, ◌≢◌, sym, refl, get_or}
 use Rattle.std.proofs.lemmas.List.{append-nil}
+use Rattle.std.proofs.lemmas.List.Elements.{Contains-get_or}
 use Rattle.ux_subsets.specs.declared.sets.Waiting.{Waiting}
-use Rattle.ux_subsets.proofs.NotingLemmas.{one_new, none_new, some_element}
+use Rattle.ux_subsets.specs.Departures.{step_by, LeadsTo}
+use Rattle.ux_subsets.proofs.ElementsLemmas.{contains_first}
+use Rattle.ux_subsets.proofs.RunsLemmas.{least_first}
+use Rattle.ux_subsets.proofs.NotingLemmas.{one_new, none_new}
 use Rattle.ux_subsets.proofs.expanding.note_waiting.Goals as goal
 
-no_true : IsTrue false → ⊥
-no_true h = cc
-
-pub returns-then-is_nothing : goal.returns-then-is_nothing
-returns-then-is_nothing c = (
+pub returns-then-first-last : goal.returns-then-first-last
+returns-then-first-last c = λ up within. (
   [],
   sym (append-nil c.args.waiting.now.items),
-  none_new (λ (t : ℕ). (t ≢ c.args.last) × Contains c.args.targets.now t) c.args.from c.args.reading c.args.next
-      c.in_ok-states.states.items (sym c.as_slice.ensures.value ∙ c.if-is_nothing.ensures.0 refl) c.in_ok-states.ensures.exact,
+  none_new (λ (t : ℕ). (t ≢ c.args.last) × LeadsTo c.args.run.now t) c.args.from c.args.reading c.args.next
+      (λ t h. let least = least_first c.args.run.now up c.requires t h.1 in
+      let w = within t h.1 in
+      let e : (get_or c.args.run.now 0 (step_by 0 0)).to ≡ c.args.last = c.if-first-last.true in
+      h.0 (omega (arith, least, w, e))),
 )
 
 pub returns : goal.returns
-returns c =
-    let one : Waiting = record { from = c.args.from; reading = c.args.reading; set = record { states = c.in_ok-states.states; seen = c.args.next } } in
-    let some = some_element c.in_ok-states.states.items (λ e. no_true (c.if-is_nothing.ensures.1 (c.as_slice.ensures.value ∙ e))) in (
+returns c = λ up within.
+    let run = c.args.run.now in
+    let first = (get_or run 0 (step_by 0 0)).to in
+    let one : Waiting = record { from = c.args.from; reading = c.args.reading; set = record { first = first; others = c.in_ok-others.others; seen = c.args.next } } in
+    let told = c.in_ok-others.ensures up c.if-first-last.false (get_or run 0 (step_by 0 0), Contains-get_or run 0 (step_by 0 0) c.requires, refl)
+    (least_first run up c.requires) in (
       one ∷ [],
       c.in_ok-push.ensures.items,
-      one_new (λ (t : ℕ). (t ≢ c.args.last) × Contains c.args.targets.now t) c.args.from c.args.reading c.args.next
-          one refl refl c.in_ok-states.ensures.exact some.0 some.1 refl c.in_ok-states.ensures.ascending,
+      one_new (λ (t : ℕ). (t ≢ c.args.last) × LeadsTo run t) c.args.from c.args.reading c.args.next
+          one refl refl told.1 first (contains_first first c.in_ok-others.others.items) refl told.0,
     )

@@ -1,3 +1,4 @@
+use Rattle.std.proofs.Common.{◌≡◌}
 use lib.Pointwise.{bytes_decides}
 use Rattle.std.proofs.lemmas.Bool.{eqb-true, eq-eqb}
 use Rattle.ux_subsets.proofs.PlacingLemmas.{has_number, both_true, true_both}
@@ -10,5 +11,12 @@ returns c =
     c.in_ok-number.ensures.keys s.1 s.2
     (λ a b h.
     let e = both_true _ _ h in
-    ((bytes_decides a.states.items b.states.items).0 e.0, eqb-true a.seen b.seen e.1))
-    (λ a b e f. true_both _ _ ((bytes_decides a.states.items b.states.items).1 e) (eq-eqb a.seen b.seen f))
+    let f = both_true _ _ e.1 in
+    let first = eqb-true a.first b.first e.0 in
+    let others = (bytes_decides a.others.items b.others.items).0 f.0 in
+    (cc, eqb-true a.seen b.seen f.1))
+    (λ a b e f.
+    let first : a.first ≡ b.first = cc in
+    let others : a.others.items ≡ b.others.items = cc in
+    true_both _ _ (eq-eqb a.first b.first first)
+    (true_both _ _ ((bytes_decides a.others.items b.others.items).1 others) (eq-eqb a.seen b.seen f)))

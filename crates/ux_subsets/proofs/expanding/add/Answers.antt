@@ -1,5 +1,0 @@
-use Rattle.ux_subsets.proofs.InsertingLemmas.{Contains-insert}
-use Rattle.ux_subsets.proofs.expanding.add.Goals as goal
-
-pub returns : goal.returns
-returns c = Contains-insert _ _ c.args.number c.in_ok-insert.ensures.updates
