@@ -1,33 +1,20 @@
 -- Sentences that are read and written one behind the other.
-use Rattle.std.proofs.Common.{arith, ◌≡◌, inr, ℕ, ◌+◌, List, [], ◌∷◌, ◌++◌, length, refl, sym, ◌∙◌, ap, append_assoc}
+use Rattle.std.proofs.Common.{arith, ◌≡◌, ℕ, ◌+◌, ◌<◌, List, [], ◌∷◌, ◌++◌, length, refl, sym, ◌∙◌, ap, append_assoc}
 use Rattle.std.specs.List.{AllZip}
 use Rattle.std.proofs.lemmas.List.{append-nil}
 use Rattle.std.proofs.lemmas.List.Elements.{AllZip-push, length_all_zip}
-use Rattle.ux_elag.specs.Left.{AreLeft}
+use Rattle.ux_elag.specs.Left.{AreLeft, Keeps}
+use Rattle.ux_elag.proofs.LeaveLemmas.{has_path-reads}
+use Rattle.ux_reading_table.specs.Numbered.{IsPlaceOf, ReadsNext}
+use Rattle.ux_reading_table.specs.declared.numbered.NumberedSentence.{NumberedSentence}
 use Rattle.ux_rules.specs.Rules.{RuleSteps}
-use Rattle.ux_sentence.specs.Files.{AreSentences, IsOver, Opens, Passes, Place, Stops, Tells, behind_sentence}
-use Rattle.ux_sentence.specs.Written.{ArePrinted, IsPrinted, ended, head_line}
-use Rattle.ux_sentence.specs.declared.error.SentenceError.{SentenceError}
+use Rattle.ux_sentence.specs.Files.{IsOver, Opens, Passes, Place, behind_sentence}
+use Rattle.ux_sentence.specs.Written.{ArePrinted, HasPath, ended, head_line}
+use Rattle.ux_sentence.specs.declared.sentence.Reading.{Reading}
 use Rattle.ux_sentence.specs.declared.sentence.Sentence.{Sentence}
 use Rattle.ux_sentence.proofs.FileLemmas.{Passes-push}
-use Rattle.ux_sentence.proofs.Laws.{not_refused}
-use Rattle.ux_sentence.proofs.ValidLemmas.{told_writable}
-use Rattle.ux_sentence.specs.Valid.{IsWritable}
-use Rattle.ux_cmd_elag.specs.Ruling.{IsRuledText}
-
--- one more sentence is written behind the others
-printed_more : (sentences : List Sentence) (text : List ℕ) (sentence : Sentence) (more : List ℕ) →
-    ArePrinted sentences text → IsPrinted sentence more →
-    ArePrinted (sentences ++ sentence ∷ []) (text ++ more)
-printed_more [] text sentence more none is =
-    (more, [], ap (λ (l : List ℕ). l ++ more) none ∙ sym (append-nil more), is, refl)
-printed_more (first ∷ others) text sentence more (front, back, whole, is_first, are) is = (
-  front,
-  back ++ more,
-  ap (λ (l : List ℕ). l ++ more) whole ∙ append_assoc front back more,
-  is_first,
-  printed_more others back sentence more are is,
-)
+use Rattle.ux_sentence.proofs.PrintLemmas.{ArePrinted-push}
+use Rattle.ux_cmd_elag.specs.Ruling.{IsRuledText, PrintsLeft}
 
 -- a place counts the sentences that were passed, and keeps how many there are
 passes_told : (start : Place) (front : List Sentence) (place : Place) → Passes start front place →
@@ -66,32 +53,34 @@ module _ (rules : List RuleSteps) (text : List ℕ) where
     is = is ∙ sym (append-nil (ended (head_line start.count)));
   }
 
-  pub ruled_more : (place next : Place) (old new : List ℕ) (sentence left : Sentence)
-      (behind : List (List ℕ)) (printed : List ℕ) → AreRuledTo place old →
-      Tells place sentence behind → next ≡ behind_sentence place sentence behind →
-      AreLeft rules sentence left → IsPrinted left printed → new ≡ old ++ printed →
+  pub ruled_more : (texts : List (List ℕ)) (place next : Place) (old new : List ℕ)
+      (numbered : NumberedSentence) → AreRuledTo place old →
+      (reads : ReadsNext texts place numbered next) → PrintsLeft rules reads.sentence old new →
       AreRuledTo next new
-  ruled_more place next old new sentence left behind printed are tells next_is is_left is_printed is =
-      record {
-        start = are.start;
-        opens = are.opens;
-        front = are.front ++ sentence ∷ [];
-        passes = Passes-push are.start are.front place next sentence behind are.passes tells next_is;
-        left = are.left ++ left ∷ [];
-        each = AllZip-push (AreLeft rules) are.front are.left sentence left are.each is_left;
-        later = are.later ++ printed;
-        printed = printed_more are.left are.later left printed are.printed is_printed;
-        is = is ∙ (ap (λ (l : List ℕ). l ++ printed) are.is
-            ∙ append_assoc (ended (head_line are.start.count)) are.later printed);
-      }
+  ruled_more texts place next old new numbered are reads prints = record {
+    start = are.start;
+    opens = are.opens;
+    front = are.front ++ reads.sentence ∷ [];
+    passes = Passes-push are.start are.front place next reads.sentence reads.behind are.passes
+        reads.tells reads.is_behind;
+    left = are.left ++ prints.left ∷ [];
+    each = AllZip-push (AreLeft rules) are.front are.left reads.sentence prints.left are.each
+        prints.are_left;
+    later = are.later ++ prints.more;
+    printed = ArePrinted-push are.left prints.left are.later prints.more are.printed prints.printed;
+    is = prints.is ∙ (ap (λ (l : List ℕ). l ++ prints.more) are.is
+        ∙ append_assoc (ended (head_line are.start.count)) are.later prints.more);
+  }
 
-  -- no place of a text that says sentences stops the reading
-  pub never_stops : (place : Place) (answer : List ℕ) →
-      ((sentences : List Sentence) × AreSentences text sentences) → AreRuledTo place answer →
-      (error : SentenceError) → Stops place error → ⊥
-  never_stops place answer said are error stops =
-      not_refused text said.0 error said.1
-      (inr (are.start, are.opens, (are.front, place, are.passes, stops)))
+  -- such a place is one of the text
+  pub ruled_place : (place : Place) (answer : List ℕ) → AreRuledTo place answer →
+      IsPlaceOf text place
+  ruled_place place answer are = record {
+    start = are.start;
+    opens = are.opens;
+    front = are.front;
+    passes = are.passes;
+  }
 
   -- behind the last sentence all are ruled
   pub ruled_all : (place : Place) (answer : List ℕ) → AreRuledTo place answer → IsOver place →
@@ -113,9 +102,9 @@ module _ (rules : List RuleSteps) (text : List ℕ) where
         );
       }
 
-  -- a sentence that is told can be written
-  pub told_can_be_written : (place : Place) (answer : List ℕ) (sentence : Sentence)
-      (behind : List (List ℕ)) → AreRuledTo place answer → Tells place sentence behind →
-      IsWritable sentence
-  told_can_be_written place answer sentence behind are tells =
-      told_writable text are.start place are.front sentence behind are.opens are.passes tells
+-- a sentence of which something is left has a path
+pub left_has_path : (IsSo : List Reading → Type 0) (old left : Sentence) → Keeps IsSo old left →
+    0 < left.states → HasPath left
+left_has_path IsSo old left keeps some =
+    let way = keeps.on_path 0 some in
+    (has_path-reads left keeps.formed).1 (way.1, (some, way.3))

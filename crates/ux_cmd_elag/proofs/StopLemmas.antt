@@ -4,7 +4,7 @@ use Rattle.ux_base.specs.Outside.{Files, Seen}
 use Rattle.ux_plan.specs.declared.stop.Stop.{Stop}
 use Rattle.ux_plan.specs.declared.stop.Stop.TheVariants.{Absent, ReadFault, TooLarge, Refused, NoMemory}
 use Rattle.ux_plan.specs.Plans.{HasFile, IsLong, Reads, StopsFile, StopsTest, bytes_format, decoded, refusing, said_as}
-use Rattle.ux_plan.proofs.Decoded.{decoded_reads, decoded_refused}
+use Rattle.ux_plan.proofs.Decoded.{decoded_refused}
 use Rattle.ux_reasons.specs.declared.reason.Reason.{Reason}
 use Rattle.ux_reasons.specs.declared.reason.Reason.TheVariants.{Decode, Rule, Sentence}
 use Rattle.ux_grammars.specs.Graphs.{drawing_format}
@@ -17,8 +17,7 @@ use Rattle.ux_rules.specs.declared.error.RuleError.TheVariants as rule_error
 use Rattle.ux_sentence.specs.Files as file
 use Rattle.ux_sentence.specs.declared.error.SentenceError.{SentenceError}
 use Rattle.ux_sentence.specs.declared.error.SentenceError.TheVariants as sentence_error
-use Rattle.ux_sentence.specs.declared.sentence.Sentence as sentences
-use Rattle.ux_cmd_elag.specs.Files.{IsRefusedBy, ReadsRule, ReadsSentences, StopsRule, StopsSentences}
+use Rattle.ux_cmd_elag.specs.Files.{IsRefusedBy, ReadsRule, StopsRule, StopsSentences, StopsText}
 use Rattle.ux_cmd_elag.specs.Reading.{rule_format, sentences_format}
 
 -- the error isn't want of memory, so it refuses
@@ -40,7 +39,7 @@ module _ (name : List ℕ) (old new : Seen) where
   by_reason text error by has refuses (inr is) =
       subst (StopsFile sentences_format name old new) (sym is) tt
 
-  pub sentences_stop : (text : List ℕ) (error : SentenceError) (by : Stop Reason) →
+  sentences_stop : (text : List ℕ) (error : SentenceError) (by : Stop Reason) →
       Reads (decoded Decode bytes_format) name old.files text →
       (error ≡ sentence_error.NoMemory) ⊎ file.Refuses text error →
       StopsSentences name error by → StopsFile sentences_format name old new by
@@ -55,6 +54,11 @@ module _ (name : List ℕ) (old new : Seen) where
       (refused_so (file.Refuses text) (sentence_error.Backward line) (λ e. cc) refuses) is
   sentences_stop text sentence_error.NoMemory by has refuses is =
       subst (StopsFile sentences_format name old new) (sym is) tt
+
+  pub text_stops : (text : List ℕ) (by : Stop Reason) →
+      Reads (decoded Decode bytes_format) name old.files text → StopsText name text by →
+      StopsFile sentences_format name old new by
+  text_stops text by has stops = sentences_stop text stops.error by has stops.refused stops.stops
 
   -- the bytes of a rule's file aren't read
   pub rule_bytes_stop : (stop : Stop Reason) → StopsFile bytes_format name old new stop →
@@ -120,18 +124,6 @@ module _ (name : List ℕ) (old new : Seen) where
   rule_stops bytes graph rule_error.NoMemory by has drawn refuses is =
       subst (StopsFile rule_format name old new) (sym is) tt
 
--- the text says sentences
-pub sentences_read : (name : List ℕ) (told : Option Files) (text : List ℕ) →
-    Reads (decoded Decode bytes_format) name told text →
-    ((said : List sentences.Sentence) × file.AreSentences text said) →
-    ReadsSentences name told text
-sentences_read name told text has said = record {
-  sentences = said.0;
-  has = decoded_reads Decode (said_as Sentence file.AreSentences file.Refuses) name told text said.0
-      has said.1;
-  said = said.1;
-}
-
 -- the bytes draw the graph of the rule
 pub rule_reads : (name : List ℕ) (told : Option Files) (bytes : List ℕ) (graph : Graph)
     (steps : RuleSteps) → HasFile told name bytes → drawing_format.Is bytes graph →
@@ -141,7 +133,5 @@ rule_reads name told bytes graph steps has drawn is_rule is = record {
   has = record { file = bytes; has = has; is = (drawn, is_rule) };
   is = is;
 }
-
-pub ruleset sentence_steps = (sentences_stop, sentences_read)
 
 pub ruleset rule_steps = (rule_bytes_stop, rule_drawing_stops, rule_stops, rule_reads)

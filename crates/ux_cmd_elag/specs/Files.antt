@@ -5,8 +5,7 @@ use Rattle.ux_base.specs.Outside.{Files}
 use Rattle.ux_grf.specs.declared.graph.Graph.{Graph}
 use Rattle.ux_plan.specs.Plans.{Comes, Reads, each}
 use Rattle.ux_rules.specs.Rules.{IsRuleOf, RuleSteps}
-use Rattle.ux_sentence.specs.Files.{AreSentences}
-use Rattle.ux_sentence.specs.declared.sentence.Sentence.{Sentence}
+use Rattle.ux_sentence.specs.Files.{Refuses}
 use Rattle.ux_plan.specs.declared.stop.Stop.{Stop}
 use Rattle.ux_plan.specs.declared.stop.Stop.TheVariants as stop
 use Rattle.ux_reasons.specs.declared.reason.Reason.{Reason}
@@ -15,13 +14,7 @@ use Rattle.ux_rules.specs.declared.error.RuleError.{RuleError}
 use Rattle.ux_rules.specs.declared.error.RuleError.TheVariants as rule_error
 use Rattle.ux_sentence.specs.declared.error.SentenceError.{SentenceError}
 use Rattle.ux_sentence.specs.declared.error.SentenceError.TheVariants as sentence_error
-use Rattle.ux_cmd_elag.specs.Reading.{named_format, rule_format, sentences_format}
-
--- the file of this name has the text, which says sentences
-pub record ReadsSentences (name : List ℕ) (told : Option Files) (text : List ℕ) : Type 0 where
-  pub sentences : List Sentence
-  pub has : Reads sentences_format name told sentences
-  pub said : AreSentences text sentences
+use Rattle.ux_cmd_elag.specs.Reading.{named_format, rule_format}
 
 -- the file of this name draws the graph of the rule
 pub record ReadsRule (name : List ℕ) (told : Option Files) (rule : RuleSteps) : Type 0 where
@@ -49,6 +42,12 @@ StopsSentences name (sentence_error.BadEdge line) by =
 StopsSentences name (sentence_error.Backward line) by =
     IsRefusedBy name (reason.Sentence (sentence_error.Backward line)) by
 StopsSentences name sentence_error.NoMemory by = by ≡ stop.NoMemory
+
+-- what stops where the text of this name says no sentences
+pub record StopsText (name text : List ℕ) (by : Stop Reason) : Type 0 where
+  pub error : SentenceError
+  pub refused : (error ≡ sentence_error.NoMemory) ⊎ Refuses text error
+  pub stops : StopsSentences name error by
 
 -- what stops by an error of a rule
 abbrev pub StopsRule : (name : List ℕ) → RuleError → Stop Reason → Type 0

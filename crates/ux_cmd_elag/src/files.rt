@@ -1,36 +1,33 @@
 //! The files of `elag`: the automata of sentences, and the graphs of rules.
 
-ghost use Rattle.std.specs.Prelude.{IfErr, IfOk, string_bytes};
+ghost use Rattle.std.specs.Prelude.{IfErr, IfOk};
 ghost use Rattle.ux_base.specs.Outside.{IsLater};
 ghost use Rattle.ux_plan.specs.Plans.{Halts, StopsFile, each};
-ghost use Rattle.ux_cmd_elag.specs.Files.{AreRead, ReadsRule, ReadsSentences, StopsRule, StopsSentences};
-ghost use Rattle.ux_cmd_elag.specs.Reading.{named_format, rule_format, sentences_format};
+ghost use Rattle.ux_reading_table.specs.Numbered.{IsTableOf};
+ghost use Rattle.ux_cmd_elag.specs.Files.{AreRead, ReadsRule, StopsRule, StopsSentences, StopsText};
+ghost use Rattle.ux_cmd_elag.specs.Reading.{named_format, rule_format};
 
 use std::alloc::Global;
 use ux_base::{Folder, Txt};
 use ux_elag::ReadyRule;
 use ux_grammars::drawn_graph;
-use ux_plan::{Stop, read_bytes, read_decoded, refused};
+use ux_plan::{Stop, read_bytes, refused};
+use ux_reading_table::ReadingTable;
 use ux_reasons::Reason;
 use ux_rules::{Rule, RuleError};
-use ux_sentence::{SentenceError, check};
+use ux_sentence::SentenceError;
 
-/// Reads a file of sentence automata, as its text. No sentence is kept.
-#[tactic(auto, using(ux_plan::proofs::Decoded::decoding, crate::proofs::StopLemmas::sentence_steps))]
-pub(crate) fn read_sentences<F: Folder>(
+/// The readings of a file of sentence automata, by number. The file has this name and this text.
+pub(crate) fn read_table<'a>(
     alloc: Global,
     name: &str,
-    folder: &mut F,
-) -> Result<String, Stop<Reason>>
-    ensures later { IsLater (F.seen folder.old) (F.seen folder.new) }
-    ensures ok { IfOk result (λ text. ReadsSentences name.now (F.seen folder.old).files
-        (string_bytes text)) }
-    ensures err { IfErr result (StopsFile sentences_format name.now
-        (F.seen folder.old) (F.seen folder.new)) }
+    text: &'a str,
+) -> Result<ReadingTable<'a>, Stop<Reason>>
+    ensures ok { IfOk result (IsTableOf text.now) }
+    ensures err { IfErr result (StopsText name.now text.now) }
 {
-    let text = read_decoded(alloc, name, folder)?;
-    match check(alloc, text.as_str()) {
-        Ok(()) => Ok(text),
+    match ReadingTable::of(alloc, text) {
+        Ok(table) => Ok(table),
         Err(error) => Err(no_sentences(alloc, name, error)),
     }
 }

@@ -14,34 +14,35 @@ use Rattle.ux_sentence.specs.declared.sentence.Link.{Link}
 use Rattle.ux_sentence.specs.declared.sentence.Sentence.{Sentence}
 use Rattle.ux_sentence.specs.Paths.{IsPath, IsReadAs, LeadsOn, Spells, last_of}
 use Rattle.ux_sentence.specs.Written.{reading_text}
-use Rattle.ux_subsets.specs.declared.automaton.Link as numbered
+use Rattle.ux_subsets.specs.declared.automaton.Link as placed
 use Rattle.ux_subsets.specs.Paths as numbers
 use Rattle.ux_elag.specs.Left.{AreInOrder, IsBefore, IsTextBefore, Keeps, readings_of}
-use Rattle.ux_elag.specs.Numbers.{AreReadings, ComesBefore, IsNumbered, named, reading_at, state_at}
-use Rattle.ux_elag.proofs.NamedPaths.{AreBelow, path-below, path-numbered, readings-named, spelled-below, spells-named, spells-numbered, words-alone}
+use Rattle.ux_elag.specs.Numbers.{AreReadings, ComesBefore, reading_at, state_at}
+use Rattle.ux_elag.proofs.Named.{IsNamed, named}
+use Rattle.ux_elag.proofs.NamedPaths.{AreSmall, path-below, path-numbered, readings-named, spelled-below, spells-named, spells-numbered, words-alone}
 
 -- a path along links is one along others that have them
-pub path-among : (links others path : List numbered.Link) (a b : ℕ) →
-    ((link : numbered.Link) → Contains links link → Contains others link) →
+pub path-among : (links others path : List placed.Link) (a b : ℕ) →
+    ((link : placed.Link) → Contains links link → Contains others link) →
     numbers.IsPath links a b path → numbers.IsPath others a b path
 path-among links others [] a b each p = p
 path-among links others (link ∷ path) a b each p =
     (each link p.0, p.1, path-among links others path link.to b each p.2)
 
-pub spells-among : (links others : List numbered.Link) (a b : ℕ) (word : List ℕ) →
-    ((link : numbered.Link) → Contains links link → Contains others link) →
+pub spells-among : (links others : List placed.Link) (a b : ℕ) (word : List ℕ) →
+    ((link : placed.Link) → Contains links link → Contains others link) →
     numbers.Spells links a b word → numbers.Spells others a b word
 spells-among links others a b word each s = (s.0, path-among links others s.0 a b each s.1, s.2)
 
 -- one path behind another
-pub path-append : (links path more : List numbered.Link) (a b c : ℕ) →
+pub path-append : (links path more : List placed.Link) (a b c : ℕ) →
     numbers.IsPath links a b path → numbers.IsPath links b c more →
     numbers.IsPath links a c (path ++ more)
 path-append links [] more a b c p q = subst (λ (s : ℕ). numbers.IsPath links s c more) (sym p) q
 path-append links (link ∷ path) more a b c p q =
     (p.0, p.1, path-append links path more link.to b c p.2 q)
 
-readings-append : (path more : List numbered.Link) →
+readings-append : (path more : List placed.Link) →
     numbers.readings_of (path ++ more) ≡ numbers.readings_of path ++ numbers.readings_of more
 readings-append [] more = refl
 readings-append (link ∷ path) more = ap (λ rest. link.reading ∷ rest) (readings-append path more)
@@ -66,7 +67,8 @@ text-irreflexive text less = let tied = tied_itself nat_list_cmp_total text in c
 pub readings-alone : (readings : List Reading) → AreReadings readings → (r k : ℕ) →
     r < length readings → k < length readings →
     reading_at readings r ≡ reading_at readings k → r ≡ k
-readings-alone readings rise r k lr lk e =
+readings-alone readings are r k lr lk e =
+    let rise = are.rise in
     elim (less_or r k) [
       | inl below ↦ absurd (text-irreflexive (reading_text (reading_at readings k))
           (subst (λ (x : Reading). IsTextBefore (reading_text x) (reading_text (reading_at readings k))) e
@@ -84,14 +86,14 @@ pub all-of : {A : Type 0} (P : A → Type 0) (xs : List A) → ((x : A) → Cont
 all-of P xs each k d lt = each (get_or xs k d) (Contains-get_or xs k d lt)
 
 module _ (old : Sentence) (IsSo : List Reading → Type 0) (number : ℕ)
-    (states : List ℕ) (readings : List Reading) (links : List numbered.Link)
-    (some : 0 < old.states) (are : IsNumbered old states readings links)
+    (states : List ℕ) (readings : List Reading) (links : List placed.Link)
+    (some : 0 < old.states) (are : IsNamed old states readings links)
     (IsGood : List ℕ → Type 0)
-    (good : (word : List ℕ) → AreBelow (length readings) word →
+    (good : (word : List ℕ) → AreSmall (length readings) word →
     IsGood word ↔ IsSo (map (reading_at readings) word))
     (same_number : number ≡ old.number) where
   known_old : (a b : ℕ) (word : List ℕ) → numbers.Spells links a b word →
-      AreBelow (length readings) word
+      AreSmall (length readings) word
   known_old a b word s =
       spelled-below (length readings) links a b word (λ link h. (are.within link h).reading) s
 
@@ -149,10 +151,10 @@ module _ (old : Sentence) (IsSo : List Reading → Type 0) (number : ℕ)
         none = λ no. refl;
       }
 
-  module _ (last : ℕ) (left_links : List numbered.Link)
+  module _ (last : ℕ) (left_links : List placed.Link)
       (left : numbers.IsLeft IsGood (length states - 1) links last left_links) where
     -- the readings of what is left are known
-    pub known-left : (link : numbered.Link) → Contains left_links link →
+    pub known-left : (link : placed.Link) → Contains left_links link →
         link.reading < length readings
     known-left link has =
         let up = left.ascending.ascends link has in
@@ -174,11 +176,11 @@ module _ (old : Sentence) (IsSo : List Reading → Type 0) (number : ℕ)
         (contains_first link.reading after))
 
     below-left : (a b : ℕ) (word : List ℕ) → numbers.Spells left_links a b word →
-        AreBelow (length readings) word
+        AreSmall (length readings) word
     below-left a b word s = spelled-below (length readings) left_links a b word known-left s
 
-    module _ (sorted : List numbered.Link) (rising : AllPairs ComesBefore sorted)
-        (same : (link : numbered.Link) → Contains sorted link ↔ Contains left_links link) where
+    module _ (sorted : List placed.Link) (rising : AllPairs ComesBefore sorted)
+        (same : (link : placed.Link) → Contains sorted link ↔ Contains left_links link) where
       -- the lists of what is left, with their names
       new-read : (a b : ℕ) (word : List ℕ) → numbers.Spells left_links a b word →
           Spells (map (named (λ state. state) readings) sorted) a b (map (reading_at readings) word)
@@ -187,7 +189,7 @@ module _ (old : Sentence) (IsSo : List Reading → Type 0) (number : ℕ)
 
       new-path : (path : List Link) (a b : ℕ) → a ≤ last → b ≤ last →
           IsPath (map (named (λ state. state) readings) sorted) a b path →
-          (way : List numbered.Link) × (map (named (λ state. state) readings) way ≡ path)
+          (way : List placed.Link) × (map (named (λ state. state) readings) way ≡ path)
           × numbers.IsPath left_links a b way
       new-path path a b la lb p =
           let found = path-numbered (λ state. state) readings (last + 1) (λ x y lx ly e. e) sorted
@@ -209,8 +211,8 @@ module _ (old : Sentence) (IsSo : List Reading → Type 0) (number : ℕ)
             (way.0, way.2, refl),
           )
 
-      same-word : (word other : List ℕ) → AreBelow (length readings) word →
-          AreBelow (length readings) other →
+      same-word : (word other : List ℕ) → AreSmall (length readings) word →
+          AreSmall (length readings) other →
           map (reading_at readings) word ≡ map (reading_at readings) other → word ≡ other
       same-word = words-alone readings (readings-alone readings are.in_order)
 
@@ -225,17 +227,17 @@ module _ (old : Sentence) (IsSo : List Reading → Type 0) (number : ℕ)
           (same-word w.0 word (below-left c d w.0 w.2) (below-left a b word s) w.1) w.2
 
       -- links in the order of their numbers are in order
-      before-named : (link other : numbered.Link) → link.reading < length readings →
+      before-named : (link other : placed.Link) → link.reading < length readings →
           other.reading < length readings → ComesBefore link other →
           IsBefore (named (λ state. state) readings link) (named (λ state. state) readings other)
       before-named link other lk lo (inl from) = inl from
       before-named link other lk lo (inr (same_from, inl to)) = inr (same_from, inl to)
       before-named link other lk lo (inr (same_from, inr (same_to, less))) =
-          inr (same_from, inr (same_to, are.in_order link.reading other.reading (Raw []) less lo))
+          inr (same_from, inr (same_to, are.in_order.rise link.reading other.reading (Raw []) less lo))
 
       ordered-named : AreInOrder (map (named (λ state. state) readings) sorted)
       ordered-named i j d lt lj =
-          let none : numbered.Link = record { from = 0; to = 0; reading = 0 } in
+          let none : placed.Link = record { from = 0; to = 0; reading = 0 } in
           let inside : j < length sorted =
           subst (λ (n : ℕ). j < n) (length-map sorted (named (λ state. state) readings)) lj in
           let first = get_or-map (named (λ state. state) readings) sorted i none d (omega arith) in

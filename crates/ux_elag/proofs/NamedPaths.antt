@@ -6,19 +6,20 @@ use Rattle.ux_base.proofs.JoinedLists.{contains_mapped, contained_mapped}
 use Rattle.ux_sentence.specs.declared.sentence.Reading.{Reading}
 use Rattle.ux_sentence.specs.declared.sentence.Link.{Link}
 use Rattle.ux_sentence.specs.Paths.{IsPath, Spells}
-use Rattle.ux_subsets.specs.declared.automaton.Link as numbered
+use Rattle.ux_subsets.specs.declared.automaton.Link as placed
 use Rattle.ux_subsets.specs.Paths as numbers
 use Rattle.ux_elag.specs.Left.{readings_of}
-use Rattle.ux_elag.specs.Numbers.{reading_at, named}
+use Rattle.ux_elag.specs.Numbers.{reading_at}
+use Rattle.ux_elag.proofs.Named.{named}
 
 -- each of the numbers is below the bound
-abbrev pub AreBelow : (bound : ℕ) → List ℕ → Type 0
-AreBelow bound word = (r : ℕ) → Contains word r → r < bound
+abbrev pub AreSmall : (bound : ℕ) → List ℕ → Type 0
+AreSmall bound word = (r : ℕ) → Contains word r → r < bound
 
 -- the numbers of a path's readings are those of links
-pub path-below : (bound : ℕ) (links path : List numbered.Link) (a b : ℕ) →
-    ((link : numbered.Link) → Contains links link → link.reading < bound) →
-    numbers.IsPath links a b path → AreBelow bound (numbers.readings_of path)
+pub path-below : (bound : ℕ) (links path : List placed.Link) (a b : ℕ) →
+    ((link : placed.Link) → Contains links link → link.reading < bound) →
+    numbers.IsPath links a b path → AreSmall bound (numbers.readings_of path)
 path-below bound links [] a b each p r h = absurd (nothing_in h)
 path-below bound links (link ∷ path) a b each p r h =
     elim (first_or_later link.reading (numbers.readings_of path) r h) [
@@ -26,15 +27,15 @@ path-below bound links (link ∷ path) a b each p r h =
       | inr later ↦ path-below bound links path link.to b each p.2 r later
     ]
 
-pub spelled-below : (bound : ℕ) (links : List numbered.Link) (a b : ℕ) (word : List ℕ) →
-    ((link : numbered.Link) → Contains links link → link.reading < bound) →
-    numbers.Spells links a b word → AreBelow bound word
+pub spelled-below : (bound : ℕ) (links : List placed.Link) (a b : ℕ) (word : List ℕ) →
+    ((link : placed.Link) → Contains links link → link.reading < bound) →
+    numbers.Spells links a b word → AreSmall bound word
 spelled-below bound links a b word each s =
-    subst (AreBelow bound) s.2 (path-below bound links s.0 a b each s.1)
+    subst (AreSmall bound) s.2 (path-below bound links s.0 a b each s.1)
 
 module _ (name : ℕ → ℕ) (readings : List Reading) where
   -- what a path spells
-  pub readings-named : (path : List numbered.Link) →
+  pub readings-named : (path : List placed.Link) →
       readings_of (map (named name readings) path)
       ≡ map (reading_at readings) (numbers.readings_of path)
   readings-named [] = refl
@@ -42,7 +43,7 @@ module _ (name : ℕ → ℕ) (readings : List Reading) where
       ap (λ rest. reading_at readings link.reading ∷ rest) (readings-named path)
 
   -- a path between numbers leads between the states
-  pub path-named : (links path : List numbered.Link) (a b : ℕ) → numbers.IsPath links a b path →
+  pub path-named : (links path : List placed.Link) (a b : ℕ) → numbers.IsPath links a b path →
       IsPath (map (named name readings) links) (name a) (name b) (map (named name readings) path)
   path-named links [] a b p = ap name p
   path-named links (link ∷ path) a b p = (
@@ -51,7 +52,7 @@ module _ (name : ℕ → ℕ) (readings : List Reading) where
     path-named links path link.to b p.2,
   )
 
-  pub spells-named : (links : List numbered.Link) (a b : ℕ) (word : List ℕ) →
+  pub spells-named : (links : List placed.Link) (a b : ℕ) (word : List ℕ) →
       numbers.Spells links a b word →
       Spells (map (named name readings) links) (name a) (name b) (map (reading_at readings) word)
   spells-named links a b word s = (
@@ -62,13 +63,13 @@ module _ (name : ℕ → ℕ) (readings : List Reading) where
 
   module _ (bound : ℕ)
       (alone : (a b : ℕ) → a < bound → b < bound → name a ≡ name b → a ≡ b)
-      (links : List numbered.Link)
-      (from_within : (link : numbered.Link) → Contains links link → link.from < bound)
-      (to_within : (link : numbered.Link) → Contains links link → link.to < bound) where
+      (links : List placed.Link)
+      (from_within : (link : placed.Link) → Contains links link → link.from < bound)
+      (to_within : (link : placed.Link) → Contains links link → link.to < bound) where
     -- a path between the states leads between the numbers
     pub path-numbered : (path : List Link) (a b : ℕ) → a < bound → b < bound →
         IsPath (map (named name readings) links) (name a) (name b) path →
-        (way : List numbered.Link) × (map (named name readings) way ≡ path)
+        (way : List placed.Link) × (map (named name readings) way ≡ path)
         × numbers.IsPath links a b way
     path-numbered [] a b la lb p = ([], refl, alone a b la lb p)
     path-numbered (link ∷ path) a b la lb p =
@@ -99,7 +100,7 @@ module _ (name : ℕ → ℕ) (readings : List Reading) where
 pub words-alone : (readings : List Reading) →
     ((r k : ℕ) → r < length readings → k < length readings →
     reading_at readings r ≡ reading_at readings k → r ≡ k) →
-    (word other : List ℕ) → AreBelow (length readings) word → AreBelow (length readings) other →
+    (word other : List ℕ) → AreSmall (length readings) word → AreSmall (length readings) other →
     map (reading_at readings) word ≡ map (reading_at readings) other → word ≡ other
 words-alone readings alone [] [] bw bo e = refl
 words-alone readings alone [] (k ∷ other) bw bo e = cc

@@ -1,6 +1,6 @@
--- The parts of a numbered sentence fit together.
-use Rattle.std.proofs.Common.{arith, ◌≡◌, ℕ, suc, ◌-◌, ◌<◌, ◌≤◌, ◌↔◌, List, [], ◌∷◌, inl, inr, refl, sym, ◌∙◌, ap, subst, length, get_or, true}
-use Rattle.std.specs.Prelude.{All, Contains, flat_map, map}
+-- The readings of a sentence are told by their places.
+use Rattle.std.proofs.Common.{arith, ◌≡◌, ℕ, suc, ◌<◌, ◌↔◌, List, [], ◌∷◌, inl, inr, refl, sym, ◌∙◌, ap, subst, length, get_or, true}
+use Rattle.std.specs.Prelude.{All, AllPairs, Contains, map}
 use Rattle.std.specs.Ordering.{is_eq, nat_cmp}
 use Rattle.std.specs.Str.{bytes_eq}
 use Rattle.std.specs.Cmp.Lexicographic.{slice_cmp, texts_ties}
@@ -9,20 +9,23 @@ use Rattle.std.specs.declared.cmp.Ordering.TheVariants.{Equal}
 use Rattle.std.proofs.lemmas.Slice.Eq.{bytes_eq-Decides}
 use Rattle.std.proofs.lemmas.List.{get_or-map, get_or_default, length-map}
 use Rattle.std.proofs.lemmas.List.Elements.{All-contains, Contains-get_or}
-use Rattle.std.proofs.lemmas.Map.Keys.{IsStrictlyIncreasing-from_sorted, Less-from_sorted, below_from_sorted}
-use Rattle.ux_base.proofs.Lists.{nothing_in, first_or_later, contains_first, contains_later, less_or}
-use Rattle.ux_base.proofs.JoinedLists.{contained_joined, contained_mapped, contains_joined, contains_mapped}
+use Rattle.std.proofs.lemmas.Map.Keys.{Less-from_sorted}
+use Rattle.ux_base.proofs.Lists.{less_or}
+use Rattle.ux_base.proofs.JoinedLists.{contained_mapped, contains_mapped}
 use Rattle.ux_sentence.specs.declared.sentence.Reading.{Reading}
 use Rattle.ux_sentence.specs.declared.sentence.Reading.TheVariants.{Raw}
 use Rattle.ux_sentence.specs.declared.sentence.Link.{Link}
 use Rattle.ux_sentence.specs.declared.sentence.Sentence.{Sentence}
-use Rattle.ux_sentence.specs.Paths.{IsWellFormed, LeadsOn}
+use Rattle.ux_sentence.specs.Readings.{IsSpellable}
 use Rattle.ux_sentence.specs.Valid.{HasSpellable}
 use Rattle.ux_sentence.specs.Written.{reading_text}
 use Rattle.ux_sentence.proofs.ReadingLemmas.{spelled_once}
-use Rattle.ux_subsets.specs.declared.automaton.Link as numbered
+use Rattle.ux_reading_table.specs.Numbered.{text_of}
+use Rattle.ux_reading_table.specs.declared.numbered.NumberedLink.{NumberedLink}
+use Rattle.ux_reading_table.specs.declared.numbered.NumberedSentence.{NumberedSentence}
 use Rattle.ux_elag.specs.Left.{IsTextBefore}
-use Rattle.ux_elag.specs.Numbers.{AreReadings, AreToldBy, HasEnds, IsNumbered, IsShownBy, ends_of, link_at, named, reading_at, state_at, text_of}
+use Rattle.ux_elag.specs.Numbers.{AreBelow, AreReadings, link_of, reading_at, sentence_of}
+use Rattle.ux_elag.specs.Numbering.{AreToldBy, IsNumbered, IsShownBy, link_at}
 use Rattle.ux_elag.proofs.Leaving.{all-of, text-irreflexive}
 
 -- two lists with the same elements at each place
@@ -36,142 +39,50 @@ same-places (x ∷ xs) (y ∷ ys) d e each =
     let rest = same-places xs ys d (omega (arith, e)) (λ k lt. each (suc k) (omega (arith, lt))) in
     ap (λ (z : _). z ∷ xs) first ∙ ap (λ (zs : List _). y ∷ zs) rest
 
+abbrev made_of : (number states : ℕ) → List Link → Sentence
+made_of number states links = record { number = number; states = states; links = links }
+
+-- sentences with the same parts
+pub same_sentence : (s t : Sentence) → s.number ≡ t.number → s.states ≡ t.states →
+    s.links ≡ t.links → s ≡ t
+same_sentence s t n c l = ap (λ (x : ℕ). made_of x s.states s.links) n
+    ∙ (ap (λ (x : ℕ). made_of t.number x s.links) c ∙ ap (made_of t.number t.states) l)
+
 abbrev linked : (from to : ℕ) → Reading → Link
 linked from to reading = record { from = from; to = to; reading = reading }
 
-same_link : (a b : Link) → a.from ≡ b.from → a.to ≡ b.to → a.reading ≡ b.reading → a ≡ b
+pub same_link : (a b : Link) → a.from ≡ b.from → a.to ≡ b.to → a.reading ≡ b.reading → a ≡ b
 same_link a b f t r = ap (λ (x : ℕ). linked x a.to a.reading) f
     ∙ (ap (λ (x : ℕ). linked b.from x a.reading) t ∙ ap (linked b.from b.to) r)
 
 -- links whose parts are told are told
-pub links-named : (states : List ℕ) (readings : List Reading) (made : List numbered.Link)
-    (links : List Link) (places : List ℕ) →
-    map (λ (one : numbered.Link). state_at states one.from) made ≡ map (λ (link : Link). link.from) links →
-    map (λ (one : numbered.Link). state_at states one.to) made ≡ map (λ (link : Link). link.to) links →
-    map (λ (one : numbered.Link). one.reading) made ≡ places →
+links-told : (readings : List Reading) (made : List NumberedLink) (links : List Link)
+    (places : List ℕ) →
+    map (λ (one : NumberedLink). one.from) made ≡ map (λ (link : Link). link.from) links →
+    map (λ (one : NumberedLink). one.to) made ≡ map (λ (link : Link). link.to) links →
+    map (λ (one : NumberedLink). one.reading) made ≡ places →
     map (reading_at readings) places ≡ map (λ (link : Link). link.reading) links →
-    links ≡ map (named (state_at states) readings) made
-links-named states readings [] [] places f t r g = refl
-links-named states readings [] (link ∷ links) places f t r g = cc
-links-named states readings (one ∷ made) [] places f t r g = cc
-links-named states readings (one ∷ made) (link ∷ links) places f t r g =
-    let all_readings : map (reading_at readings) (map (λ (x : numbered.Link). x.reading) (one ∷ made))
+    links ≡ map (link_of readings) made
+links-told readings [] [] places f t r g = refl
+links-told readings [] (link ∷ links) places f t r g = cc
+links-told readings (one ∷ made) [] places f t r g = cc
+links-told readings (one ∷ made) (link ∷ links) places f t r g =
+    let all_readings : map (reading_at readings) (map (λ (x : NumberedLink). x.reading)
+    (one ∷ made))
     ≡ map (λ (x : Link). x.reading) (link ∷ links) = ap (map (reading_at readings)) r ∙ g in
-    let from : state_at states one.from ≡ link.from = cc in
-    let to : state_at states one.to ≡ link.to = cc in
+    let from : one.from ≡ link.from = cc in
+    let to : one.to ≡ link.to = cc in
     let reading : reading_at readings one.reading ≡ link.reading = cc in
-    let froms : map (λ (x : numbered.Link). state_at states x.from) made ≡ map (λ (x : Link). x.from) links = cc in
-    let tos : map (λ (x : numbered.Link). state_at states x.to) made ≡ map (λ (x : Link). x.to) links = cc in
-    let rest : map (reading_at readings) (map (λ (x : numbered.Link). x.reading) made)
+    let froms : map (λ (x : NumberedLink). x.from) made ≡ map (λ (x : Link). x.from) links = cc in
+    let tos : map (λ (x : NumberedLink). x.to) made ≡ map (λ (x : Link). x.to) links = cc in
+    let rest : map (reading_at readings) (map (λ (x : NumberedLink). x.reading) made)
     ≡ map (λ (x : Link). x.reading) links = cc in
-    let later = links-named states readings made links (map (λ (x : numbered.Link). x.reading) made)
+    let later = links-told readings made links (map (λ (x : NumberedLink). x.reading) made)
     froms tos refl rest in
-    let first : link ≡ named (state_at states) readings one = same_link link
-    (named (state_at states) readings one) (sym from) (sym to) (sym reading) in
-    ap (λ (z : Link). z ∷ links) first
-    ∙ ap (λ (zs : List Link). named (state_at states) readings one ∷ zs) later
-
-module _ (sentence : Sentence) (formed : IsWellFormed sentence) (some : 0 < sentence.states)
-    (states : List ℕ) (rise : IsStrictlySortedBy nat_cmp states)
-    (same_states : (state : ℕ) → Contains states state
-    ↔ Contains (0 ∷ (sentence.states - 1) ∷ flat_map ends_of sentence.links) state) where
-  pub two-states : (2 ≤ sentence.states) × All (LeadsOn sentence.states) sentence.links
-  two-states = elim formed [
-    | inl none ↦ absurd (omega (arith, none.0))
-    | inr both ↦ both
-  ]
-
-  -- a state of a link is no greater than the last
-  ends-within : (state : ℕ) → Contains states state → state ≤ sentence.states - 1
-  ends-within state has =
-      elim (first_or_later 0 ((sentence.states - 1) ∷ flat_map ends_of sentence.links) state
-      ((same_states state).0 has)) [
-        | inl e ↦ omega (arith, e)
-        | inr later ↦ elim (first_or_later (sentence.states - 1) (flat_map ends_of sentence.links) state later) [
-          | inl e ↦ omega (arith, e)
-          | inr end ↦
-              let found = contained_joined ends_of sentence.links state end in
-              let leads = All-contains (LeadsOn sentence.states) sentence.links found.0 two-states.1 found.1 in
-              elim (first_or_later found.0.from (found.0.to ∷ []) state found.2) [
-                | inl e ↦ omega (arith, e, leads.0, leads.1)
-                | inr to ↦ elim (first_or_later found.0.to [] state to) [
-                  | inl e ↦ omega (arith, e, leads.1)
-                  | inr never ↦ absurd (nothing_in never)
-                ]
-              ]
-        ]
-      ]
-
-  pub ends-there : All (HasEnds states) sentence.links
-  ends-there = all-of (HasEnds states) sentence.links (λ link has. (
-    (same_states link.from).1 (contains_later 0 ((sentence.states - 1) ∷ flat_map ends_of sentence.links)
-        link.from (contains_later (sentence.states - 1) (flat_map ends_of sentence.links) link.from
-        (contains_joined ends_of sentence.links link link.from has
-        (contains_first link.from (link.to ∷ []))))),
-    (same_states link.to).1 (contains_later 0 ((sentence.states - 1) ∷ flat_map ends_of sentence.links)
-        link.to (contains_later (sentence.states - 1) (flat_map ends_of sentence.links) link.to
-        (contains_joined ends_of sentence.links link link.to has
-        (contains_later link.from (link.to ∷ []) link.to (contains_first link.to []))))),
-  ))
-
-  has_zero : Contains states 0
-  has_zero = (same_states 0).1
-      (contains_first 0 ((sentence.states - 1) ∷ flat_map ends_of sentence.links))
-
-  has_last : Contains states (sentence.states - 1)
-  has_last = (same_states (sentence.states - 1)).1
-      (contains_later 0 ((sentence.states - 1) ∷ flat_map ends_of sentence.links) (sentence.states - 1)
-      (contains_first (sentence.states - 1) (flat_map ends_of sentence.links)))
-
-  at_zero : (k : ℕ) × (k < length states) × (state_at states k ≡ 0)
-  at_zero = (has_zero.0, has_zero.1, has_zero.2)
-
-  at_last : (k : ℕ) × (k < length states) × (state_at states k ≡ sentence.states - 1)
-  at_last = (
-    has_last.0,
-    has_last.1,
-    get_or_default states has_last.0 0 (sentence.states - 1) has_last.1 ∙ has_last.2,
-  )
-
-  pub first-state : state_at states 0 ≡ 0
-  first-state = elim (less_or 0 at_zero.0) [
-    | inl later ↦
-        let below = below_from_sorted states 0 at_zero.0 0 rise later at_zero.1 in
-        absurd (omega (arith, below, at_zero.2))
-    | inr here ↦
-        let e : at_zero.0 ≡ 0 = omega arith in
-        subst (λ (k : ℕ). state_at states k ≡ 0) e at_zero.2
-  ]
-
-  pub last-state : state_at states (length states - 1) ≡ sentence.states - 1
-  last-state = elim (less_or at_last.0 (length states - 1)) [
-    | inl earlier ↦
-        let inside : length states - 1 < length states = omega (arith, earlier) in
-        let below = below_from_sorted states at_last.0 (length states - 1) 0 rise earlier inside in
-        let within = ends-within (state_at states (length states - 1))
-        (Contains-get_or states (length states - 1) 0 inside) in
-        absurd (omega (arith, below, within, at_last.2))
-    | inr here ↦
-        let inside = at_last.1 in
-        let e : at_last.0 ≡ length states - 1 = omega (arith, here, inside) in
-        subst (λ (k : ℕ). state_at states k ≡ sentence.states - 1) e at_last.2
-  ]
-
-  pub two-numbers : 2 ≤ length states
-  two-numbers =
-      let zero_in = at_zero.1 in
-      let last_in = at_last.1 in
-      let two = two-states.0 in
-      elim (less_or at_zero.0 at_last.0) [
-        | inl less ↦ omega (arith, less, last_in)
-        | inr at_least ↦ elim (less_or at_last.0 at_zero.0) [
-          | inl less ↦ omega (arith, less, zero_in)
-          | inr at_most ↦
-              let e : at_zero.0 ≡ at_last.0 = omega (arith, at_least, at_most) in
-              let clash : 0 ≡ sentence.states - 1 = sym at_zero.2 ∙ (ap (state_at states) e ∙ at_last.2) in
-              absurd (omega (arith, clash, two))
-        ]
-      ]
+    let first : link ≡ link_of readings one = same_link link (link_of readings one) (sym from)
+    (sym to)
+    (sym reading) in
+    ap (λ (z : Link). z ∷ links) first ∙ ap (λ (zs : List Link). link_of readings one ∷ zs) later
 
 module _ (links : List Link) (spellable : All HasSpellable links)
     (texts : List (List ℕ)) (rise : IsStrictlySortedBy (slice_cmp nat_cmp) texts)
@@ -221,7 +132,8 @@ module _ (links : List Link) (spellable : All HasSpellable links)
         let k = found.1.0 in
         let inside : k < length links = found.1.1 in
         let link_is : link_at links k ≡ found.0 =
-        get_or_default links k (record { from = 0; to = 0; reading = Raw [] }) found.0 inside ∙ found.1.2 in
+        get_or_default links k (record { from = 0; to = 0; reading = Raw [] }) found.0 inside ∙
+        found.1.2 in
         let text_is : get_or texts (get_or places k 0) [] ≡ get_or texts n [] =
         told-at k inside ∙ (ap text_of link_is ∙ found.2) in
         (k, inside, texts-alone (get_or places k 0) n (place-within k inside) lt text_is)
@@ -271,7 +183,8 @@ module _ (links : List Link) (spellable : All HasSpellable links)
             let texts_same : text_of (link_at links other) ≡ text_of (link_at links k) =
             sym (told-at other other_in)
             ∙ (ap (λ (m : ℕ). get_or texts m []) same_place ∙ told-at k lt) in
-            reading-shown n inside ∙ spelled_once (link_at links other).reading (link_at links k).reading
+            reading-shown n inside ∙ spelled_once (link_at links other).reading
+            (link_at links k).reading
             (spellable other (record { from = 0; to = 0; reading = Raw [] }) other_in)
             (spellable k (record { from = 0; to = 0; reading = Raw [] }) lt) texts_same
 
@@ -284,57 +197,66 @@ module _ (links : List Link) (spellable : All HasSpellable links)
             ∙ (ap reading_text (reading-told by.0 by.1)
             ∙ (sym (told-at by.0 by.1) ∙ ap (λ (m : ℕ). get_or texts m []) by.2))
 
-        pub readings-rise : AreReadings readings
+        readings-rise : AllPairs (λ reading other. IsTextBefore (reading_text reading)
+            (reading_text other))
+            readings
         readings-rise i j d lt lj =
             let count = readings-count in
             let li : i < length readings = omega (arith, lt, lj) in
             let ti : i < length texts = omega (arith, li, count) in
             let tj : j < length texts = omega (arith, lj, count) in
             let less = Less-from_sorted (slice_cmp nat_cmp) texts i j [] rise lt tj in
-            subst (λ (r : Reading). IsTextBefore (reading_text r) (reading_text (get_or readings j d)))
+            subst (λ (r : Reading). IsTextBefore (reading_text r)
+            (reading_text (get_or readings j d)))
             (get_or_default readings i (Raw []) d li)
-            (subst (λ (r : Reading). IsTextBefore (reading_text (reading_at readings i)) (reading_text r))
+            (subst (λ (r : Reading). IsTextBefore (reading_text (reading_at readings i))
+            (reading_text r))
             (get_or_default readings j (Raw []) d lj)
             (subst (λ (t : List ℕ). IsTextBefore t (reading_text (reading_at readings j)))
             (sym (reading-text i ti))
-            (subst (λ (t : List ℕ). IsTextBefore (get_or texts i []) t) (sym (reading-text j tj)) less)))
+            (subst (λ (t : List ℕ). IsTextBefore (get_or texts i []) t) (sym (reading-text j tj))
+            less)))
 
-        pub readings-told : map (reading_at readings) places ≡ map (λ (link : Link). link.reading) links
+        pub readings-told : map (reading_at readings) places ≡ map (λ (link : Link). link.reading)
+            links
         readings-told = same-places (map (reading_at readings) places)
             (map (λ (link : Link). link.reading) links) (Raw [])
             (length-map places (reading_at readings)
             ∙ (places-count ∙ sym (length-map links (λ (link : Link). link.reading))))
             (λ k lt.
             let count = places-count in
-            let lp : k < length places = subst (λ (m : ℕ). k < m) (length-map places (reading_at readings)) lt in
+            let lp : k < length places = subst (λ (m : ℕ). k < m)
+            (length-map places (reading_at readings)) lt in
             let lk : k < length links = omega (arith, lp, count) in
             get_or-map (reading_at readings) places k 0 (Raw []) lp
             ∙ (reading-told k lk ∙ sym (get_or-map (λ (link : Link). link.reading) links k
             (record { from = 0; to = 0; reading = Raw [] }) (Raw []) lk)))
 
-        pub readings-known : (reading : Reading) → Contains readings reading →
-            Contains (map (λ (link : Link). link.reading) links) reading
-        readings-known reading has =
+        readings-spellable : All IsSpellable readings
+        readings-spellable k d lt =
             let count = readings-count in
-            let lt : has.0 < length texts = let inside = has.1 in omega (arith, inside, count) in
-            let inside = shown-at has.0 lt in
-            let index = get_or shown has.0 0 in
-            let is : (link_at links index).reading ≡ reading =
-            sym (reading-shown has.0 lt)
-            ∙ (get_or_default readings has.0 (Raw []) reading has.1 ∙ has.2) in
-            subst (λ (r : Reading). Contains (map (λ (link : Link). link.reading) links) r) is
-            (contains_mapped (λ (link : Link). link.reading) links (link_at links index)
-            (Contains-get_or links index (record { from = 0; to = 0; reading = Raw [] }) inside))
+            let inside : k < length texts = omega (arith, lt, count) in
+            let index = get_or shown k 0 in
+            let is : (link_at links index).reading ≡ get_or readings k d =
+            sym (reading-shown k inside) ∙ get_or_default readings k (Raw []) d lt in
+            subst IsSpellable is
+            (spellable index (record { from = 0; to = 0; reading = Raw [] }) (shown-at k inside))
 
-        pub place-below : (made : List numbered.Link) →
-            map (λ (one : numbered.Link). one.reading) made ≡ places → (one : numbered.Link) →
-            Contains made one → one.reading < length readings
-        place-below made are_places one has =
+        pub readings-are : AreReadings readings
+        readings-are = record { rise = readings-rise; spellable = readings-spellable }
+
+        pub places-below : (made : List NumberedLink) →
+            map (λ (one : NumberedLink). one.reading) made ≡ places →
+            AreBelow (length readings) made
+        places-below made are_places = all-of (λ (one : NumberedLink). one.reading < length
+            readings) made
+            (λ one has.
             let count = readings-count in
-            let there = contains_mapped (λ (x : numbered.Link). x.reading) made one has in
+            let there = contains_mapped (λ (x : NumberedLink). x.reading) made one has in
             let place = subst (λ (ps : List ℕ). Contains ps one.reading) are_places there in
-            let inside = All-contains (λ (p : ℕ). p < length texts) places one.reading told.within place in
-            omega (arith, inside, count)
+            let inside = All-contains (λ (p : ℕ). p < length texts) places one.reading told.within
+            place in
+            omega (arith, inside, count))
 
 -- texts that compare as equal are equal
 pub text-from_eq : (x y : List ℕ) → bytes_eq x y ≡ true → x ≡ y
@@ -344,41 +266,33 @@ pub text-from_cmp : (x y : List ℕ) → slice_cmp nat_cmp x y ≡ Equal → x �
 text-from_cmp x y e = text-from_eq x y (texts_ties x y ∙ ap is_eq e)
 
 -- a sentence in numbers, of its parts
-pub numbered-whole : (sentence : Sentence) → IsWellFormed sentence → 0 < sentence.states →
-    (states : List ℕ) → IsStrictlySortedBy nat_cmp states →
-    ((state : ℕ) → Contains states state
-    ↔ Contains (0 ∷ (sentence.states - 1) ∷ flat_map ends_of sentence.links) state) →
-    (links : List Link) → links ≡ sentence.links → All HasSpellable links →
-    (texts : List (List ℕ)) → IsStrictlySortedBy (slice_cmp nat_cmp) texts →
+pub numbered-whole : (sentence : Sentence) (links : List Link) → links ≡ sentence.links →
+    All HasSpellable links → (texts : List (List ℕ)) → IsStrictlySortedBy (slice_cmp nat_cmp) texts
+    →
     ((text : List ℕ) → Contains texts text ↔ Contains (map text_of links) text) →
     (places : List ℕ) → AreToldBy texts links places →
     (shown : List ℕ) → IsShownBy places (length texts) shown →
     (readings : List Reading) → readings ≡ map (λ index. (link_at links index).reading) shown →
-    (made : List numbered.Link) →
-    map (λ (one : numbered.Link). state_at states one.from) made ≡ map (λ (link : Link). link.from) links →
-    map (λ (one : numbered.Link). state_at states one.to) made ≡ map (λ (link : Link). link.to) links →
-    map (λ (one : numbered.Link). one.reading) made ≡ places →
-    All (λ (one : numbered.Link). (one.from < length states) × (one.to < length states)) made →
-    IsNumbered sentence states readings made
-numbered-whole sentence formed some states rise same links links_are spellable texts text_rise
-    same_texts places told shown are readings readings_are made froms tos made_places within = record {
-      links_are = sym links_are ∙ links-named states readings made links places froms tos made_places
-          (readings-told links spellable texts text_rise same_texts places told shown are readings readings_are);
-      two = two-numbers sentence formed some states rise same;
-      first = first-state sentence formed some states rise same;
-      last = last-state sentence formed some states rise same;
-      states_rise = IsStrictlyIncreasing-from_sorted states rise;
-      in_order = readings-rise links spellable texts text_rise same_texts places told shown are readings readings_are;
-      within = λ one has.
-          let ends = All-contains (λ (x : numbered.Link). (x.from < length states) × (x.to < length states))
-          made one within has in
-          record {
-            from = ends.0;
-            to = ends.1;
-            reading = place-below links spellable texts text_rise same_texts places told shown are readings
-                readings_are made made_places one has;
-          };
-      known = λ reading has. subst (λ (ls : List Link). Contains (map (λ (link : Link). link.reading) ls) reading)
-          links_are (readings-known links spellable texts text_rise same_texts places told shown are readings
-          readings_are reading has);
+    (numbered : NumberedSentence) → numbered.number ≡ sentence.number →
+    numbered.states ≡ sentence.states →
+    map (λ (one : NumberedLink). one.from) numbered.links.items
+    ≡ map (λ (link : Link). link.from) links →
+    map (λ (one : NumberedLink). one.to) numbered.links.items ≡ map (λ (link : Link). link.to)
+    links →
+    map (λ (one : NumberedLink). one.reading) numbered.links.items ≡ places →
+    IsNumbered sentence readings numbered
+numbered-whole sentence links links_are spellable texts rise same places told shown are readings
+    readings_are numbered number states froms tos made_places =
+    let made = numbered.links.items in
+    let all : links ≡ map (link_of readings) made =
+    links-told readings made links places froms tos made_places
+    (readings-told links spellable texts rise same places told shown are readings readings_are) in
+    record {
+      is = same_sentence sentence (sentence_of readings numbered) (sym number) (sym states)
+          (sym links_are ∙ all);
+      in_order = readings-are links spellable texts rise same places told shown are readings
+          readings_are;
+      below = places-below links spellable texts rise same places told shown are readings
+          readings_are
+          made made_places;
     }

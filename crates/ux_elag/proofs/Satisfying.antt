@@ -13,14 +13,13 @@ use Rattle.ux_rules.specs.declared.step.Step.{Step}
 use Rattle.ux_rules.specs.Runs.{IsFound, IsPair, Matches, Run, Satisfies, pair_word}
 use Rattle.ux_rules.specs.Runs.Run.{stop, free, along}
 use Rattle.ux_rules.specs.Tests.{Passes}
-use Rattle.ux_monitor.specs.declared.rule.PassedTests.{PassedTests}
 use Rattle.ux_monitor.specs.declared.rule.Sign as numbered
 use Rattle.ux_monitor.specs.declared.rule.Sign.TheVariants as sign
 use Rattle.ux_monitor.specs.declared.rule.Step as numbered_step
 use Rattle.ux_monitor.specs.Rules as monitored
 use Rattle.ux_elag.specs.Numbers.{reading_at}
 use Rattle.ux_elag.specs.Ready.{IsPassedBy, IsTable, IsTestAt, PassesTest, numbered_one, numbered_sign, numbered_steps}
-use Rattle.ux_elag.proofs.NamedPaths.{AreBelow}
+use Rattle.ux_elag.proofs.NamedPaths.{AreSmall}
 
 -- a numbered step is that of the step with its number
 numbered-from : (steps : List Step) (count : ℕ) (one : numbered_step.Step) →
@@ -334,7 +333,7 @@ map-append : (f : ℕ → Reading) (xs ys : List ℕ) → map f (xs ++ ys) ≡ m
 map-append f [] ys = refl
 map-append f (x ∷ xs) ys = ap (λ (rest : List Reading). f x ∷ rest) (map-append f xs ys)
 
-module _ (steps : List Step) (readings : List Reading) (table : List PassedTests)
+module _ (steps : List Step) (readings : List Reading) (table : List (List ℕ))
     (is : IsTable steps readings table) where
   abbrev read : List ℕ → List Reading
   read word = map (reading_at readings) word
@@ -359,7 +358,7 @@ module _ (steps : List Step) (readings : List Reading) (table : List PassedTests
       subst (IsPassedBy reading) (ap (λ (s : Step). s.sign) same ∙ at.2) passes.2
 
   matches-numbered : (tests : List Test) (numbers word : List ℕ) → TellsTests steps tests numbers →
-      AreBelow (length readings) word → Matches tests (read word) →
+      AreSmall (length readings) word → Matches tests (read word) →
       monitored.Matches (numbered_steps 0 steps) (1 ∷ []) (monitored.PassesAt table) numbers word
   matches-numbered [] [] [] t below m = tt
   matches-numbered [] [] (r ∷ word) t below m = absurd m
@@ -373,7 +372,7 @@ module _ (steps : List Step) (readings : List Reading) (table : List PassedTests
   )
 
   matches-told : (tests : List Test) (numbers word : List ℕ) → TellsTests steps tests numbers →
-      AreBelow (length readings) word →
+      AreSmall (length readings) word →
       monitored.Matches (numbered_steps 0 steps) (1 ∷ []) (monitored.PassesAt table) numbers word →
       Matches tests (read word)
   matches-told [] [] [] t below m = tt
@@ -390,17 +389,17 @@ module _ (steps : List Step) (readings : List Reading) (table : List PassedTests
   module _ (mark : Sign) (told_mark : numbered.Sign)
       (mark_told : (n : numbered.Sign) → TellsSign steps mark n → n ≡ told_mark)
       (mark_tells : (s : Sign) → TellsSign steps s told_mark → s ≡ mark) where
-    found-numbered : (u v : List ℕ) → AreBelow (length readings) u → AreBelow (length readings) v →
+    found-numbered : (u v : List ℕ) → AreSmall (length readings) u → AreSmall (length readings) v →
         IsFound (IsPair steps mark) (read u) (read v) →
         monitored.IsFound (numbered_steps 0 steps) (1 ∷ []) (monitored.PassesAt table) told_mark u v
     found-numbered u v bu bv f =
         let p = pair-numbered steps mark told_mark mark_told mark_tells f.left f.right f.pair in
         let before = split-read (reading_at readings) u f.head f.here f.ends_here in
         let after = split-read (reading_at readings) v f.there f.tail f.begins_here in
-        let below_here : AreBelow (length readings) before.1 = λ x h.
+        let below_here : AreSmall (length readings) before.1 = λ x h.
         bu x (subst (λ (w : List ℕ). Contains w x) (sym before.2)
         (Contains-append_right before.0 before.1 x h)) in
-        let below_there : AreBelow (length readings) after.0 = λ x h.
+        let below_there : AreSmall (length readings) after.0 = λ x h.
         bv x (subst (λ (w : List ℕ). Contains w x) (sym after.2)
         (Contains-append_left after.0 after.1 x h)) in
         record {
@@ -419,7 +418,7 @@ module _ (steps : List Step) (readings : List Reading) (table : List PassedTests
               (subst (Matches f.right) (sym after.3) f.matches_right);
         }
 
-    found-told : (u v : List ℕ) → AreBelow (length readings) u → AreBelow (length readings) v →
+    found-told : (u v : List ℕ) → AreSmall (length readings) u → AreSmall (length readings) v →
         monitored.IsFound (numbered_steps 0 steps) (1 ∷ []) (monitored.PassesAt table) told_mark u v →
         IsFound (IsPair steps mark) (read u) (read v)
     found-told u v bu bv f =
@@ -428,10 +427,10 @@ module _ (steps : List Step) (readings : List Reading) (table : List PassedTests
         (subst (λ (e : ℕ). monitored.Run (numbered_steps 0 steps) 0 e
         ((told_mark ∷ map sign.Read f.left) ++ (told_mark ∷ (map sign.Read f.right ++ told_mark ∷ []))))
         end_is f.pair.2) in
-        let below_here : AreBelow (length readings) f.here = λ x h.
+        let below_here : AreSmall (length readings) f.here = λ x h.
         bu x (subst (λ (w : List ℕ). Contains w x) (sym f.ends_here)
         (Contains-append_right f.head f.here x h)) in
-        let below_there : AreBelow (length readings) f.there = λ x h.
+        let below_there : AreSmall (length readings) f.there = λ x h.
         bv x (subst (λ (w : List ℕ). Contains w x) (sym f.begins_here)
         (Contains-append_left f.there f.tail x h)) in
         record {
@@ -451,15 +450,15 @@ module _ (steps : List Step) (readings : List Reading) (table : List PassedTests
         }
 
   -- numbered readings satisfy the numbered rule where the readings satisfy the rule
-  pub satisfies-numbered : (word : List ℕ) → AreBelow (length readings) word →
+  pub satisfies-numbered : (word : List ℕ) → AreSmall (length readings) word →
       monitored.Satisfies (numbered_steps 0 steps) (1 ∷ []) (monitored.PassesAt table) word
       ↔ Satisfies (IsPair steps If) (IsPair steps Then) (map (reading_at readings) word)
   satisfies-numbered word below = (
     λ so before after e found.
         let s = split-read (reading_at readings) word before after e in
-        let bu : AreBelow (length readings) s.0 = λ x h. below x
+        let bu : AreSmall (length readings) s.0 = λ x h. below x
         (subst (λ (w : List ℕ). Contains w x) (sym s.2) (Contains-append_left s.0 s.1 x h)) in
-        let bv : AreBelow (length readings) s.1 = λ x h. below x
+        let bv : AreSmall (length readings) s.1 = λ x h. below x
         (subst (λ (w : List ℕ). Contains w x) (sym s.2) (Contains-append_right s.0 s.1 x h)) in
         let here = subst (λ (xs : List Reading). IsFound (IsPair steps If) xs (read s.1)) (sym s.3)
         (subst (λ (ys : List Reading). IsFound (IsPair steps If) before ys) (sym s.4) found) in
@@ -468,9 +467,9 @@ module _ (steps : List Step) (readings : List Reading) (table : List PassedTests
         subst (λ (xs : List Reading). IsFound (IsPair steps Then) xs after) s.3
         (subst (λ (ys : List Reading). IsFound (IsPair steps Then) (read s.0) ys) s.4 paid),
     λ so u v e found.
-        let bu : AreBelow (length readings) u = λ x h. below x
+        let bu : AreSmall (length readings) u = λ x h. below x
         (subst (λ (w : List ℕ). Contains w x) (sym e) (Contains-append_left u v x h)) in
-        let bv : AreBelow (length readings) v = λ x h. below x
+        let bv : AreSmall (length readings) v = λ x h. below x
         (subst (λ (w : List ℕ). Contains w x) (sym e) (Contains-append_right u v x h)) in
         found-numbered Then sign.Then (then_told steps) (then_tells steps) u v bu bv
         (so (read u) (read v)

@@ -2,7 +2,7 @@
 use Rattle.std.proofs.Common.{arith, ◌≡◌, ℕ, ◌+◌, ◌<◌, List, inl, inr, sym, ◌∙◌, ap, subst, length, get_or, set, length-set}
 use Rattle.std.proofs.lemmas.List.{get_or-set_same, get_or-set_other}
 use Rattle.ux_base.proofs.Lists.{same_or, less_or}
-use Rattle.ux_elag.specs.Numbers.{IsShownBy}
+use Rattle.ux_elag.specs.Numbering.{IsShownBy}
 
 -- the first places that are told are told where they are shown
 pub record AreShown (places : List ℕ) (count i : ℕ) (shown : List ℕ) : Type 0 where

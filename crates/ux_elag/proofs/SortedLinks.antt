@@ -7,7 +7,7 @@ use Rattle.std.specs.declared.cmp.Ordering.TheVariants.{Less, Equal, Greater}
 use Rattle.std.proofs.lemmas.Bool.{eqb-true}
 use Rattle.std.proofs.lemmas.Cmp.{ranked}
 use Rattle.std.proofs.lemmas.List.Elements.{All-contains}
-use Rattle.ux_subsets.specs.declared.automaton.Link as numbered
+use Rattle.ux_subsets.specs.declared.automaton.Link as placed
 use Rattle.ux_elag.specs.Numbers.{ComesBefore}
 use Rattle.ux_elag.proofs.Leaving.{all-of}
 
@@ -23,7 +23,7 @@ pub nat-equal : (a b : ℕ) → nat_cmp a b ≡ Equal → a ≡ b
 nat-equal a b e = ranked a b Equal (sym e)
 
 -- a link that is less comes before
-pub comes-before : (x y : numbered.Link) → ordering_then (nat_cmp x.from y.from)
+pub comes-before : (x y : placed.Link) → ordering_then (nat_cmp x.from y.from)
     (ordering_then (nat_cmp x.to y.to) (nat_cmp x.reading y.reading)) ≡ Less → ComesBefore x y
 comes-before x y e = elim (then-less (nat_cmp x.from y.from)
     (ordering_then (nat_cmp x.to y.to) (nat_cmp x.reading y.reading)) e) [
@@ -38,8 +38,8 @@ comes-before x y e = elim (then-less (nat_cmp x.from y.from)
     ]
 
 -- what is so of all is so of those in order
-pub all-in-order : (P : numbered.Link → Type 0) (links sorted : List numbered.Link) →
-    ((link : numbered.Link) → Contains sorted link ↔ Contains links link) → All P links → All P sorted
+pub all-in-order : (P : placed.Link → Type 0) (links sorted : List placed.Link) →
+    ((link : placed.Link) → Contains sorted link ↔ Contains links link) → All P links → All P sorted
 all-in-order P links sorted same all = all-of P sorted
     (λ link has. All-contains P links link all ((same link).0 has))
 
@@ -47,11 +47,11 @@ both-true : (a b : Bool) → (a && b) ≡ true → (a ≡ true) × (b ≡ true)
 both-true true b e = (refl, e)
 both-true false b e = cc
 
-abbrev joined : (from to reading : ℕ) → numbered.Link
+abbrev joined : (from to reading : ℕ) → placed.Link
 joined from to reading = record { from = from; to = to; reading = reading }
 
 -- two links with the same parts are the same
-pub link-from_eq : (x y : numbered.Link) →
+pub link-from_eq : (x y : placed.Link) →
     (nat_eq x.from y.from && (nat_eq x.to y.to && nat_eq x.reading y.reading)) ≡ true → x ≡ y
 link-from_eq x y e =
     let first = both-true (nat_eq x.from y.from) (nat_eq x.to y.to && nat_eq x.reading y.reading) e in

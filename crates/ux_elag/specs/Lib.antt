@@ -1,3 +1,5 @@
 pub mod Left
+pub mod Numbering
 pub mod Numbers
+pub mod Prepared
 pub mod Ready

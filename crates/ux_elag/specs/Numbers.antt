@@ -1,108 +1,132 @@
--- A sentence whose states and readings are told by numbers. Inner: the crate's own functions alone
--- speak of it.
-use Rattle.std.specs.Prelude.{◌≡◌, ℕ, ◌+◌, ◌-◌, ◌<◌, ◌≤◌, ◌↔◌, ◌⊎◌, List, [], ◌∷◌, All, AllPairs, Contains, Option, None, Some, length, map, get_or}
+-- A sentence whose readings are told by numbers, and its links between places. Inner: the crate's
+-- own functions alone speak of it.
+use Rattle.std.specs.Prelude.{◌≡◌, ℕ, ◌+◌, ◌-◌, ◌<◌, ◌≤◌, ◌↔◌, ◌⊎◌, List, [], ◌∷◌, All, AllPairs, Contains, IfNone, IfSome, None, Option, Some, flat_map, get_or, length, map}
 use Rattle.std.specs.List.Sorted.{IsStrictlyIncreasing}
 use Rattle.ux_sentence.specs.declared.sentence.Reading.{Reading}
 use Rattle.ux_sentence.specs.declared.sentence.Reading.TheVariants.{Raw}
 use Rattle.ux_sentence.specs.declared.sentence.Link.{Link}
 use Rattle.ux_sentence.specs.declared.sentence.Sentence.{Sentence}
-use Rattle.ux_sentence.specs.Paths.{last_of}
+use Rattle.ux_sentence.specs.Readings.{IsSpellable}
 use Rattle.ux_sentence.specs.Written.{reading_text}
-use Rattle.ux_subsets.specs.declared.automaton.Link as numbered
+use Rattle.ux_subsets.specs.declared.automaton.Link as placed
 use Rattle.ux_subsets.specs.declared.automaton.Automaton.{Automaton}
+use Rattle.ux_subsets.specs.Paths.{IsAscending, IsLeft, Spells}
+use Rattle.ux_reading_table.specs.declared.numbered.NumberedLink.{NumberedLink}
+use Rattle.ux_reading_table.specs.declared.numbered.NumberedSentence.{NumberedSentence}
 use Rattle.ux_elag.specs.Left.{IsTextBefore}
 
 -- the reading with the number
 abbrev pub reading_at : List Reading → ℕ → Reading
 reading_at readings number = get_or readings number (Raw [])
 
--- the link of a sentence for which a link between numbers stands
-abbrev pub named : (name : ℕ → ℕ) → List Reading → numbered.Link → Link
-named name readings link = record {
-  from = name link.from;
-  to = name link.to;
+-- the link for which a link with a numbered reading stands
+abbrev pub link_of : List Reading → NumberedLink → Link
+link_of readings link = record {
+  from = link.from;
+  to = link.to;
   reading = reading_at readings link.reading;
 }
 
--- the state with the number
-abbrev pub state_at : List ℕ → ℕ → ℕ
-state_at states number = get_or states number 0
+-- the sentence for which a numbered sentence stands
+abbrev pub sentence_of : List Reading → NumberedSentence → Sentence
+sentence_of readings sentence = record {
+  number = sentence.number;
+  states = sentence.states;
+  links = map (link_of readings) sentence.links.items;
+}
 
--- the readings stand in the order of their texts, none twice
-abbrev pub AreReadings : List Reading → Type 0
-AreReadings readings =
-    AllPairs (λ reading other. IsTextBefore (reading_text reading) (reading_text other)) readings
+-- readings in the order of their texts, none twice, each of which can be spelled
+pub record AreReadings (readings : List Reading) : Type 0 where
+  pub rise : AllPairs (λ reading other. IsTextBefore (reading_text reading) (reading_text other))
+      readings
+  pub spellable : All IsSpellable readings
 
--- the numbers of the link are below these counts
-pub record IsWithin (states readings : ℕ) (link : numbered.Link) : Type 0 where
-  pub from : link.from < states
-  pub to : link.to < states
-  pub reading : link.reading < readings
+-- the numbers of the readings are below the bound
+abbrev pub AreBelow : (bound : ℕ) → List NumberedLink → Type 0
+AreBelow bound links = All (λ link. link.reading < bound) links
 
--- the links between numbers tell the sentence, by these states and readings
-pub record IsNumbered (sentence : Sentence) (states : List ℕ) (readings : List Reading)
-    (links : List numbered.Link) : Type 0 where
-  pub links_are : sentence.links ≡ map (named (state_at states) readings) links
-  pub two : 2 ≤ length states
-  pub first : state_at states 0 ≡ 0
-  pub last : state_at states (length states - 1) ≡ last_of sentence
-  pub states_rise : IsStrictlyIncreasing states
-  pub in_order : AreReadings readings
-  pub within : (link : numbered.Link) → Contains links link →
-      IsWithin (length states) (length readings) link
-  pub known : (reading : Reading) → Contains readings reading →
-      Contains (map (λ link. link.reading) sentence.links) reading
+-- a link leads to a greater state below the number of states
+abbrev pub LeadsOn : (states : ℕ) → NumberedLink → Type 0
+LeadsOn states link = (link.from < link.to) × (link.to < states)
+
+-- a sentence has no states and no links, or at least two states and links that lead on
+abbrev pub IsFormed : NumberedSentence → Type 0
+IsFormed sentence = ((sentence.states ≡ 0) × (sentence.links.items ≡ []))
+    ⊎ ((2 ≤ sentence.states) × All (LeadsOn sentence.states) sentence.links.items)
 
 -- the states of a link
-abbrev pub ends_of : Link → List ℕ
+abbrev pub ends_of : NumberedLink → List ℕ
 ends_of link = link.from ∷ link.to ∷ []
 
+-- the first state, the last, and those of the links
+abbrev pub states_in : NumberedSentence → List ℕ
+states_in sentence = 0 ∷ (sentence.states - 1) ∷ flat_map ends_of sentence.links.items
+
 -- the states of the link are among these
-abbrev pub HasEnds : List ℕ → Link → Type 0
+abbrev pub HasEnds : List ℕ → NumberedLink → Type 0
 HasEnds states link = Contains states link.from × Contains states link.to
 
--- the text of the link's reading
-abbrev pub text_of : Link → List ℕ
-text_of link = reading_text link.reading
+-- the state with the place
+abbrev pub state_at : List ℕ → ℕ → ℕ
+state_at states place = get_or states place 0
 
--- the link with the index
-abbrev pub link_at : List Link → ℕ → Link
-link_at links index = get_or links index (record { from = 0; to = 0; reading = Raw [] })
+-- the link between states for which a link between places stands
+abbrev pub stated : List ℕ → placed.Link → NumberedLink
+stated states link = record {
+  from = state_at states link.from;
+  to = state_at states link.to;
+  reading = link.reading;
+}
 
--- each link's text stands at its place among the texts
-pub record AreToldBy (texts : List (List ℕ)) (links : List Link) (places : List ℕ) : Type 0 where
-  pub told : map (λ place. get_or texts place []) places ≡ map text_of links
-  pub within : All (λ place. place < length texts) places
+-- the link leads between places of so many states
+pub record IsWithin (count : ℕ) (link : placed.Link) : Type 0 where
+  pub from : link.from < count
+  pub to : link.to < count
 
--- each place that is told is told where it is shown
-pub record IsShownBy (places : List ℕ) (count : ℕ) (shown : List ℕ) : Type 0 where
-  pub counted : length shown ≡ count
-  pub within : (k : ℕ) → k < length places → get_or shown (get_or places k 0) 0 < length places
-  pub same : (k : ℕ) → k < length places →
-      get_or places (get_or shown (get_or places k 0) 0) 0 ≡ get_or places k 0
+-- the links of the source are those of the sentence, between the places of these states
+pub record IsPlaced (sentence : NumberedSentence) (source : Automaton) : Type 0 where
+  pub states : List ℕ
+  pub rise : IsStrictlyIncreasing states
+  pub count : length states ≡ source.last + 1
+  pub some : 0 < source.last
+  pub first : state_at states 0 ≡ 0
+  pub last : state_at states source.last ≡ sentence.states - 1
+  pub links_are : sentence.links.items ≡ map (stated states) source.links.items
+  pub within : All (IsWithin (length states)) source.links.items
+  pub ascending : IsAscending source.last source.links.items
 
--- the readings of what is kept have numbers below the bound
-abbrev pub AreKnown : (bound : ℕ) → Option Automaton → Type 0
-AreKnown bound None = Unit {0}
-AreKnown bound (Some automaton) = All (λ link. link.reading < bound) automaton.links.items
+-- what is kept of links is what is left where the lists are so, and nothing where none is
+pub record IsKept (IsSo : List ℕ → Type 0) (last : ℕ) (links : List placed.Link)
+    (kept : Option Automaton) : Type 0 where
+  pub left : IfSome kept (λ left. IsLeft IsSo last links left.last left.links.items)
+  pub nothing : IfNone kept ((word : List ℕ) → Spells links 0 last word → IsSo word → ⊥)
 
 -- the one link stands before the other: by from, then by to, then by the number of the reading
-abbrev pub ComesBefore : (link other : numbered.Link) → Type 0
+abbrev pub ComesBefore : (link other : placed.Link) → Type 0
 ComesBefore link other = (link.from < other.from) ⊎ ((link.from ≡ other.from)
     × ((link.to < other.to) ⊎ ((link.to ≡ other.to) × (link.reading < other.reading))))
 
+-- the link of a sentence that leads as this one does
+abbrev pub told : placed.Link → NumberedLink
+told link = record { from = link.from; to = link.to; reading = link.reading }
+
 -- the links of the sentence are these, in the order of their numbers, none twice
-pub record IsNamedBy (number : ℕ) (readings : List Reading) (automaton : Automaton)
-    (sentence : Sentence) : Type 0 where
+pub record IsOrderedBy (number : ℕ) (automaton : Automaton) (sentence : NumberedSentence) :
+    Type 0 where
   pub number_is : sentence.number ≡ number
   pub states_are : sentence.states ≡ automaton.last + 1
-  pub sorted : List numbered.Link
+  pub sorted : List placed.Link
   pub rising : AllPairs ComesBefore sorted
-  pub same : (link : numbered.Link) → Contains sorted link ↔ Contains automaton.links.items link
-  pub links_are : sentence.links ≡ map (named (λ state. state) readings) sorted
+  pub same : (link : placed.Link) → Contains sorted link ↔ Contains automaton.links.items link
+  pub links_are : sentence.links.items ≡ map told sorted
 
--- the sentence of what is kept, with these readings
-abbrev pub IsNamed : (number : ℕ) → List Reading → Option Automaton → Sentence → Type 0
-IsNamed number readings None sentence =
-    sentence ≡ record { number = number; states = 0; links = [] }
-IsNamed number readings (Some automaton) sentence = IsNamedBy number readings automaton sentence
+-- the sentence has no states and no links
+pub record IsEmpty (number : ℕ) (sentence : NumberedSentence) : Type 0 where
+  pub number_is : sentence.number ≡ number
+  pub no_states : sentence.states ≡ 0
+  pub no_links : sentence.links.items ≡ []
+
+-- the sentence of what is kept
+abbrev pub IsOrdered : (number : ℕ) → Option Automaton → NumberedSentence → Type 0
+IsOrdered number None sentence = IsEmpty number sentence
+IsOrdered number (Some automaton) sentence = IsOrderedBy number automaton sentence

@@ -1,6 +1,6 @@
 -- A rule whose tests are told by numbers, and which readings pass them. Inner: the crate's own
 -- functions alone speak of it.
-use Rattle.std.specs.Prelude.{◌≡◌, ℕ, ◌+◌, ◌<◌, ◌^◌, ◌↔◌, List, [], ◌∷◌, Some, Contains, get_or, length, map, slice_get}
+use Rattle.std.specs.Prelude.{◌≡◌, ℕ, ◌+◌, ◌<◌, ◌^◌, ◌↔◌, List, [], ◌∷◌, All, Some, Contains, get_or, length, slice_get}
 use Rattle.ux_sentence.specs.declared.sentence.Reading.{Reading}
 use Rattle.ux_sentence.specs.declared.sentence.Sentence.{Sentence}
 use Rattle.ux_rules.specs.declared.test.Test.{Test}
@@ -9,10 +9,10 @@ use Rattle.ux_rules.specs.declared.step.Sign.TheVariants.{Free, If, Then, Read}
 use Rattle.ux_rules.specs.declared.step.Step.{Step}
 use Rattle.ux_rules.specs.Runs.{IsPair, Satisfies}
 use Rattle.ux_rules.specs.Tests.{Passes}
-use Rattle.ux_monitor.specs.declared.rule.PassedTests.{PassedTests}
 use Rattle.ux_monitor.specs.declared.rule.Sign as numbered
 use Rattle.ux_monitor.specs.declared.rule.Sign.TheVariants as sign
 use Rattle.ux_monitor.specs.declared.rule.Step as numbered_step
+use Rattle.ux_monitor.specs.Monitors.{kind_at, tests_of}
 use Rattle.ux_monitor.specs.Rules as monitored
 use Rattle.ux_elag.specs.Left.{Keeps}
 use Rattle.ux_elag.specs.Numbers.{reading_at}
@@ -61,12 +61,30 @@ abbrev pub PassesTest : List Step → (number : ℕ) → Reading → Type 0
 PassesTest steps number reading =
     (step : Step) × (slice_get steps number ≡ Some step) × IsPassedBy reading step.sign
 
+-- the tests are those that the reading passes
+abbrev pub ArePassed : List Step → Reading → (tests : List ℕ) → Type 0
+ArePassed steps reading tests = (test : ℕ) → Contains tests test ↔ PassesTest steps test reading
+
 -- the tests in the row with the number
-abbrev pub tests_at : List PassedTests → ℕ → List ℕ
-tests_at table number = get_or (map (λ (row : PassedTests). row.tests.items) table) number []
+abbrev pub tests_at : List (List ℕ) → ℕ → List ℕ
+tests_at table number = get_or table number []
+
+-- the kind with the number is that of readings which pass just the tests that this one passes
+pub record IsKindFor (steps : List Step) (reading : Reading) (kinds : List (List ℕ)) (number : ℕ) :
+    Type 0 where
+  pub inside : number < length kinds
+  pub passed : ArePassed steps reading (kind_at kinds number)
+
+-- the kinds with these numbers are those of the first so many readings, as they are said
+pub record AreKinds (steps : List Step) (IsSaid : ℕ → Reading → Type 0) (count : ℕ)
+    (kinds : List (List ℕ)) (numbers : List ℕ) : Type 0 where
+  pub counted : length numbers ≡ count
+  pub inside : All (λ number. number < length kinds) numbers
+  pub rows : (place : ℕ) (reading : Reading) → place < count → IsSaid place reading →
+      ArePassed steps reading (tests_at (tests_of kinds numbers) place)
 
 -- the rows are those of the readings: each has the tests that its reading passes
-pub record IsTable (steps : List Step) (readings : List Reading) (table : List PassedTests) :
+pub record IsTable (steps : List Step) (readings : List Reading) (table : List (List ℕ)) :
     Type 0 where
   pub count : length table ≡ length readings
   pub rows : (number test : ℕ) → number < length readings →

@@ -1,31 +1,39 @@
 //! Rules applied to the automata of sentences. The manual, on ELAG.
 //!
 //! A sentence goes in, and a sentence comes out that spells exactly those of its reading lists that
-//! satisfy the rules, each by one path. States and readings are numbered first, in the order in
-//! which they are printed; then a monitor reads the numbered sentence beside the rule.
+//! satisfy the rules, each by one path. All work is done on numbers: a reading is its place among
+//! readings in the order of their texts, so that links in the order of their numbers are in the
+//! order in which they are printed.
 //!
 //! ```text
-//! sentence --number--> states, readings, links between numbers --keep_satisfying--> links that are
-//! left --names--> sentence
+//! sentence --number--> readings, numbered sentence     (or read so from a file, beside a table)
+//! numbered sentence --place_states--> links between places --keep_satisfying, rule by rule-->
+//! links that are left --order--> numbered sentence --name--> sentence
 //! ```
 //!
 //! The automaton that comes out is determinised from its end (Brzozowski's construction without its
 //! last half): no two of its states go on alike, and no two but the last come alike.
-//! `specs/Left.antt` says it whole. Begin with `apply`.
+//! `specs/Left.antt` says it whole. For the sentences of one file begin with `PreparedRules`, which
+//! looks once at each of the file's different readings; for one sentence with `apply`.
 //!
 //! ```text
-//! let ready = ReadyRule::of(alloc, Rule::of(alloc, &graph)?)?;
-//! let left = apply(alloc, &sentence, &ready)?;
-//! if has_path(alloc, &left)? { .. }
+//! let rules = vec![in alloc; ReadyRule::of(alloc, Rule::of(alloc, &graph)?)?];
+//! let mut prepared = PreparedRules::of(alloc, rules, &table)?;
+//! let left = prepared.apply(alloc, &sentence)?;
 //! ```
 #![tactic(auto)]
 
 pub mod applying;
+mod keeping;
 mod naming;
 mod numbering;
+mod passing;
+mod placing;
+pub mod prepared;
+mod prepared_rule;
 mod ranks;
 pub mod ready;
-mod table;
 
-pub use applying::{apply, apply_all, has_path};
+pub use applying::{apply, has_path};
+pub use prepared::PreparedRules;
 pub use ready::ReadyRule;

@@ -1,14 +1,23 @@
 //! Rules, made ready once for all sentences.
 
-ghost use Rattle.std.specs.Prelude.{◌≡◌, ◌<◌, ◌^◌, [], ◌∷◌, IfOk, length};
+ghost use Rattle.std.specs.Prelude.{◌≡◌, ◌<◌, ◌^◌, [], ◌∷◌, All, IfOk, length};
+ghost use Rattle.ux_elag.specs.Left.{IsLeft};
+ghost use Rattle.ux_elag.specs.Numbers.{AreBelow, AreReadings, IsFormed, sentence_of};
+ghost use Rattle.ux_elag.specs.Prepared.{IsFresh};
 ghost use Rattle.ux_elag.specs.Ready.{IsMonitorOf, numbered_steps};
 ghost use Rattle.ux_elag.specs.Ready as specs;
 
+use crate::naming::{ordered_sentence, without_states};
+use crate::passing::kinds_of;
+use crate::placing::place_states;
+use crate::prepared_rule::PreparedRule;
 use std::alloc::Global;
 use std::marker::Model;
 use ux_base::{Mem, NoMemory};
-use ux_monitor::{Monitor, Sign as NumberedSign, Step as NumberedStep};
+use ux_monitor::{Monitor, Sign as NumberedSign, Step as NumberedStep, keep_satisfying};
+use ux_reading_table::NumberedSentence;
 use ux_rules::{Rule, Sign, Step};
+use ux_sentence::Reading;
 
 /// A rule, ready to be applied to any number of sentences. Contracts see it as the rule.
 #[derive(Drop)]
@@ -25,11 +34,11 @@ impl Model for ReadyRule {
 
     ghost view = { λ ready. ready.rule };
 
-    ghost invariant = { λ ready. IsMonitorOf ready.rule.steps ready.monitor };
+    ghost invariant = { λ ready. IsMonitorOf ready.rule.steps ready.monitor.rule };
 }
 
 impl ReadyRule {
-    /// The rule, made ready. The work is of the order of the cube of its steps.
+    /// The rule, made ready. Takes time in its steps.
     pub fn of(alloc: Global, rule: Rule) -> Mem<ReadyRule>
         ensures { IfOk result (λ ready. ready ≡ rule) }
     {
@@ -38,18 +47,45 @@ impl ReadyRule {
         Ok(ReadyRule { rule, monitor })
     }
 
-    /// The steps of the rule.
-    pub(crate) fn steps(&self) -> &[Step]
-        ensures { result.now ≡ self.now.steps }
+    /// The rule, to be prepared for a table of which it has no kinds yet.
+    pub(crate) fn without_kinds(self, alloc: Global) -> PreparedRule
+        ensures { IsFresh self result }
     {
-        self.rule.steps()
+        PreparedRule {
+            rule: self.rule,
+            monitor: self.monitor,
+            kinds: Vec::new(alloc),
+        }
     }
 
-    /// What tells which lists of numbered readings satisfy the rule.
-    pub(crate) fn monitor(&self) -> &Monitor
-        ensures { IsMonitorOf self.now.steps result.now }
+    /// What the rule leaves of the sentence, which numbers these readings.
+    pub(crate) fn leave(
+        &mut self,
+        alloc: Global,
+        readings: &[Reading],
+        sentence: &NumberedSentence,
+    ) -> Mem<NumberedSentence>
+        requires formed { IsFormed sentence.now }
+        requires readings { AreReadings readings.now }
+        requires below { AreBelow (length readings.now) sentence.now.links.items }
+        ensures same { self.new ≡ self.old }
+        ensures below { IfOk result (λ left. AreBelow (length readings.now) left.links.items) }
+        ensures left { IfOk result (λ left. IsLeft self.old (sentence_of readings.now sentence.now)
+            (sentence_of readings.now left)) }
     {
-        &self.monitor
+        if sentence.states == 0 {
+            return Ok(without_states(alloc, sentence.number));
+        }
+        let source = place_states(alloc, sentence)?;
+        let kinds = kinds_of(alloc, self.rule.steps(), &mut self.monitor, readings)?;
+        let kept = keep_satisfying(
+            alloc,
+            &mut self.monitor,
+            kinds.as_slice(),
+            source.links.as_slice(),
+            source.last,
+        )?;
+        ordered_sentence(alloc, sentence.number, kept)
     }
 }
 

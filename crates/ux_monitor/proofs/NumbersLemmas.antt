@@ -7,7 +7,7 @@ use Rattle.ux_monitor.specs.declared.owing.Obligation.{Obligation}
 use Rattle.ux_monitor.specs.declared.watching.Seen.{Seen}
 use Rattle.ux_monitor.specs.Monitor.{Left}
 use Rattle.ux_monitor.specs.Watches.{IsMet, Watches}
-use Rattle.ux_monitor.specs.Arcs.{IsAlike}
+use Rattle.ux_monitor.specs.Owing.{IsAlike}
 use Rattle.ux_monitor.specs.Numbers.{AreAlike, IsSame}
 use Rattle.ux_base.proofs.Lists.{nothing_in, first_or_later, contains_first, contains_later}
 

@@ -1,16 +1,14 @@
 -- The law of the monitor for what the code knows of a reading: the tests that it passes.
-use Rattle.std.proofs.Common.{◌≡◌, ℕ, List, [], ◌∷◌, ◌++◌, inl, inr, ◌↔◌}
+use Rattle.std.proofs.Common.{ℕ, List, [], ◌∷◌, ◌++◌, inl, inr, ◌↔◌}
 use Rattle.std.specs.Prelude.{Contains}
 use Rattle.ux_monitor.specs.declared.rule.Sign.{Sign}
 use Rattle.ux_monitor.specs.declared.rule.Sign.TheVariants.{If, Then}
 use Rattle.ux_monitor.specs.declared.rule.Step.{Step}
 use Rattle.ux_monitor.specs.declared.owing.Obligation.{Obligation}
 use Rattle.ux_monitor.specs.declared.watching.Seen.{Seen}
-use Rattle.ux_monitor.specs.Rules.{IsFound, Satisfies}
 use Rattle.ux_monitor.specs.Monitor.{Moves}
 use Rattle.ux_monitor.specs.Watches.{Watches, IsLater, AreLeft, WasOwed, IsNext}
-use Rattle.ux_monitor.specs.Arcs.{Among}
-use Rattle.ux_monitor.specs.Freeing.{IsUnfreed}
+use Rattle.ux_monitor.specs.Steps.{Among}
 use Rattle.ux_monitor.proofs.OwingLemmas.{opened_told}
 use Rattle.ux_monitor.proofs.WatchingLemmas.{watches_more}
 
@@ -48,44 +46,3 @@ module _ (steps : List Step) (ends : List ℕ) (Passes : ℕ → ℕ → Type 0)
   pub watches_advanced : (seen next : Seen) (before : List ℕ) → Watches steps ends Passes seen before → IsNext steps ends (Among passed) seen 0 next →
       Watches steps ends Passes next (before ++ r ∷ [])
   watches_advanced seen next before w n = watches_more steps ends Passes seen before r next w (next_for seen next n)
-
-module _ (steps arcs : List Step) (ends : List ℕ) (Passes : ℕ → ℕ → Type 0) (u : IsUnfreed steps arcs) where
-  some_sign : {x : Sign} {w : List Sign} → x ∷ w ≡ [] → ⊥
-  some_sign e = cc
-
-  pub found : (mark : Sign) (before after : List ℕ) → IsFound arcs ends Passes mark before after ↔ IsFound steps ends Passes mark before after
-  found mark before after = (
-    λ f. record {
-      left = f.left;
-      right = f.right;
-      pair = (f.pair.0, f.pair.1, (u.same 0 f.pair.0 _ some_sign).0 f.pair.2);
-      head = f.head;
-      here = f.here;
-      ends_here = f.ends_here;
-      matches_left = f.matches_left;
-      there = f.there;
-      tail = f.tail;
-      begins_here = f.begins_here;
-      matches_right = f.matches_right;
-    },
-    λ f. record {
-      left = f.left;
-      right = f.right;
-      pair = (f.pair.0, f.pair.1, (u.same 0 f.pair.0 _ some_sign).1 f.pair.2);
-      head = f.head;
-      here = f.here;
-      ends_here = f.ends_here;
-      matches_left = f.matches_left;
-      there = f.there;
-      tail = f.tail;
-      begins_here = f.begins_here;
-      matches_right = f.matches_right;
-    },
-  )
-
-  -- a rule without its free steps is satisfied by the same lists
-  pub satisfies_same : (path : List ℕ) → Satisfies arcs ends Passes path ↔ Satisfies steps ends Passes path
-  satisfies_same path = (
-    λ s x y e f. (found Then x y).0 (s x y e ((found If x y).1 f)),
-    λ s x y e f. (found Then x y).1 (s x y e ((found If x y).0 f)),
-  )

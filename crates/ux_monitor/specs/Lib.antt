@@ -1,7 +1,10 @@
 pub mod Rules
 pub mod Monitor
 pub mod Watches
-pub mod Arcs
-pub mod Freeing
+pub mod Steps
+pub mod Walks
+pub mod Owing
 pub mod Numbers
 pub mod Monitors
+pub mod Remembering
+pub mod Naming

@@ -2,7 +2,7 @@
 use Rattle.std.specs.Prelude.{◌≡◌, List, [], ◌∷◌}
 use Rattle.ux_monitor.specs.declared.owing.Obligation.{Obligation}
 use Rattle.ux_monitor.specs.declared.watching.Seen.{Seen}
-use Rattle.ux_monitor.specs.Arcs.{IsAlike}
+use Rattle.ux_monitor.specs.Owing.{IsAlike}
 
 -- the obligations say the same, one by one
 abbrev pub AreAlike : (a b : List Obligation) → Type 0

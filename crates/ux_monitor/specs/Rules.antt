@@ -3,7 +3,6 @@ use Rattle.std.specs.Prelude.{◌≡◌, ◌≢◌, ℕ, List, [], ◌∷◌, �
 use Rattle.ux_monitor.specs.declared.rule.Sign.{Sign}
 use Rattle.ux_monitor.specs.declared.rule.Sign.TheVariants.{Free, If, Then, Read}
 use Rattle.ux_monitor.specs.declared.rule.Step.{Step}
-use Rattle.ux_monitor.specs.declared.rule.PassedTests.{PassedTests}
 
 -- the steps lead from a to b; the word has their signs, without those that are free
 pub data Run (steps : List Step) : ℕ → ℕ → List Sign → Type 0 where
@@ -41,10 +40,9 @@ module _ (steps : List Step) (ends : List ℕ) (Passes : ℕ → ℕ → Type 0)
   abbrev pub Satisfies : (path : List ℕ) → Type 0
   Satisfies path = (before after : List ℕ) → path ≡ before ++ after → IsFound If before after → IsFound Then before after
 
--- the reading with this number passes the test, as the table tells
-abbrev pub PassesAt : (table : List PassedTests) → (test reading : ℕ) → Type 0
-PassesAt table test reading =
-    Contains (get_or (map (λ (row : PassedTests). row.tests.items) table) reading []) test
+-- the reading with this number passes the test: the table has for each reading its tests
+abbrev pub PassesAt : (table : List (List ℕ)) → (test reading : ℕ) → Type 0
+PassesAt table test reading = Contains (get_or table reading []) test
 
 -- a rule: its steps, of which each run from place 0 to an end is an item of the rule
 pub record Rule : Type 0 where
@@ -52,5 +50,5 @@ pub record Rule : Type 0 where
   pub ends : List ℕ
 
 -- the readings with these numbers, as the table tells them, satisfy the rule
-abbrev pub SatisfiesBy : Rule → (table : List PassedTests) → (readings : List ℕ) → Type 0
+abbrev pub SatisfiesBy : Rule → (table : List (List ℕ)) → (readings : List ℕ) → Type 0
 SatisfiesBy rule table readings = Satisfies rule.steps rule.ends (PassesAt table) readings

@@ -1,35 +1,51 @@
 //! Rules over lists of readings, and what an automaton has that satisfies one.
 //!
 //! A rule is steps between places, from place 0 to its ends. A step is free, or has a mark, If or
-//! Then, or reads one reading, by the number of a test. A table tells for each reading, by its
-//! number,
-//! the tests that it passes. `specs/Rules.antt` says which lists of readings satisfy a rule: at
-//! each
-//! point of the list at which some if-pair is found, some then-pair is found.
+//! Then, or reads one reading, by the number of a test. `specs/Rules.antt` says which lists of
+//! readings satisfy a rule: at each point of the list at which some if-pair is found, some then-pair
+//! is found. Readings that pass the same tests are of one *kind*, and the monitor numbers the kinds.
 //!
 //! ```text
 //! steps, ends --Monitor::new--> Monitor --+
-//! table, links, last ---------------------+-- keep_satisfying --> the automaton of what satisfies
+//! tests --kind_of--> kinds, links, last --+-- keep_satisfying --> the automaton of what satisfies
 //! ```
 //!
-//! A monitor is made once a rule, and serves any number of automata.
+//! A monitor is made once a rule, and serves any number of automata. It keeps the places of left
+//! words and what is owed since each point (`watching`, `owing`): what it *sees*. What it sees
+//! depends on the rule and on the kinds of the readings alone. So it numbers what it sees, each once,
+//! and remembers for a number and a kind the number of what is seen next (`memory`). What is
+//! remembered serves all automata. Where it has become too much, it is forgotten before the next one.
+//!
+//! | Work | Cost |
+//! |---|---|
+//! | `Monitor::new` | a step of the rule each, and memory for each place up to the greatest |
+//! | `kind_of` | the tests, times a logarithm of their number |
+//! | a step that is remembered | a look-up |
+//! | another step | the rule's size and the tests, for each thing owed, times a logarithm |
+//!
+//! Free steps are followed when a step is taken (`moving`): one walk, which looks at the steps of a
+//! place once. A rule without them would have a step for each pair of places that free steps join,
+//! and so more than the square of its boxes.
 //!
 //! ```text
-//! let monitor = Monitor::new(alloc, &steps, &[end])?;
-//! let kept = keep_satisfying(alloc, &monitor, &table, &links, last)?;
+//! let mut monitor = Monitor::new(alloc, &steps, &[end])?;
+//! let kinds = [monitor.kind_of(alloc, &[0, 2])?, monitor.kind_of(alloc, &[])?];
+//! let kept = keep_satisfying(alloc, &mut monitor, &kinds, &links, last)?;
 //! ```
+//!
+//! `keep_satisfying_again` takes such an answer, and gives it back where all of it satisfies.
 #![tactic(auto)]
 
-pub mod freeing;
 pub mod keeping;
+pub mod memory;
 pub mod monitor;
 pub mod moving;
 pub mod owing;
 pub mod places;
-pub mod placing;
 pub mod rule;
+pub mod steps;
 pub mod watching;
 
-pub use keeping::keep_satisfying;
+pub use keeping::{keep_satisfying, keep_satisfying_again};
 pub use monitor::Monitor;
-pub use rule::{PassedTests, Sign, Step};
+pub use rule::{Sign, Step};

@@ -1,93 +1,143 @@
 //! The monitor of a rule.
 //!
-//! It reads a list, reading by reading, and keeps what was seen of the rule. Contracts see it as
-//! the
-//! rule that it was made for.
+//! It knows the rule and kinds of readings by numbers, and remembers what it saw and where kinds of
+//! readings led. Contracts see it as the rule and the kinds.
 
-ghost use Rattle.std.specs.Prelude.{◌≡◌, ◌↔◌, ◌++◌, ◌∷◌, [], List, ℕ, IfOk, IsTrue};
-ghost use Rattle.ux_monitor.specs.declared.rule.PassedTests.{PassedTests};
-ghost use Rattle.ux_monitor.specs.Rules.{SatisfiesBy};
-ghost use Rattle.ux_monitor.specs.Monitors.{rule_of, WatchesBy};
+ghost use Rattle.std.specs.Prelude.{◌≡◌, ◌<◌, ◌↔◌, ◌⊎◌, ℕ, [], Contains, IfOk, OnOk, length};
+ghost use Rattle.ux_monitor.specs.Monitors.{rule_of, kind_at, IsKindOf, AreMore};
+ghost use Rattle.ux_monitor.specs.Remembering.{IsRemembered, kinds_in};
 
-use crate::freeing::without_free;
-use crate::placing::by_place;
-use crate::rule::{PassedTests, Step, tests_of};
-use crate::watching::{Seen, accepts, advance, begin};
+use crate::memory::Memory;
+use crate::rule::Step;
+use crate::steps::Steps;
+use crate::watching::set_of;
+use indexmap::IndexSet;
 use std::alloc::Global;
+use std::collections::BTreeSet;
 use std::marker::Model;
+use std::mem;
 use ux_base::Mem;
 
 /// What tells which lists of readings satisfy a rule.
 #[derive(Drop)]
 pub struct Monitor {
-    steps: Vec<Step>,
+    steps: Steps,
     ends: Vec<usize>,
-    /// The steps that lead as those of the rule do, none of them free, by their places.
-    arcs: Vec<Vec<Step>>,
+    /// The tests of each kind, in ascending order, each once.
+    kinds: IndexSet<Vec<u32>>,
+    memory: Memory,
 }
 
 impl Model for Monitor {
-    ghost use Rattle.ux_monitor.specs.Rules.{Rule};
-    ghost use Rattle.ux_monitor.specs.Freeing.{IsReady};
-    ghost use Rattle.ux_monitor.specs.Monitors.{rule_of};
+    ghost use Rattle.ux_monitor.specs.Monitors.{rule_of, Monitored};
+    ghost use Rattle.ux_monitor.specs.Remembering.{IsRemembered, kinds_in};
 
-    ghost Value = { Rule };
+    ghost Value = { Monitored };
 
-    ghost view = { λ monitor. rule_of monitor.steps.items monitor.ends.items };
+    ghost view = { λ monitor. record {
+      rule = rule_of monitor.steps monitor.ends.items;
+      kinds = kinds_in monitor.kinds.keys;
+    } };
 
-    ghost invariant = { λ monitor. IsReady monitor.steps.items monitor.arcs.items };
+    ghost invariant = { λ monitor. IsRemembered monitor.steps monitor.ends.items
+        (kinds_in monitor.kinds.keys) monitor.memory };
 }
 
 impl Monitor {
-    /// The monitor of the rule with these steps, which begin at place 0, and these ends.
+    /// The monitor of the rule with these steps, which begin at place 0, and these ends. It knows no
+    /// kind of readings yet. Takes a step each, and memory for each place up to the greatest.
     pub fn new(alloc: Global, steps: &[Step], ends: &[usize]) -> Mem<Monitor>
-        ensures { IfOk result (λ monitor. monitor ≡ rule_of steps.now ends.now) }
+        ensures rule { IfOk result (λ monitor. monitor.rule ≡ rule_of steps.now ends.now) }
+        ensures kinds { IfOk result (λ monitor. monitor.kinds ≡ []) }
     {
-        let flat = without_free(alloc, steps)?;
-        let arcs = by_place(alloc, flat.as_slice())?;
-        let steps = Vec::from_slice(alloc, steps)?;
+        let steps = Steps::new(alloc, steps)?;
         let ends = Vec::from_slice(alloc, ends)?;
-        Ok(Monitor { steps, ends, arcs })
+        Ok(Monitor {
+            steps,
+            ends,
+            kinds: IndexSet::new(alloc),
+            memory: Memory::new(alloc),
+        })
     }
 
-    /// What is seen before the first reading.
-    pub fn begin(&self, alloc: Global) -> Mem<Seen>
-        ensures { IfOk result (λ seen. (table : List PassedTests) →
-            WatchesBy self.now table seen []) }
+    /// The number of the kind of readings that pass exactly these tests, each named once or more.
+    /// Takes the tests, times a logarithm of their number.
+    pub fn kind_of(&mut self, alloc: Global, tests: &[u32]) -> Mem<usize>
+        ensures rule { self.new.rule ≡ self.old.rule }
+        ensures more { OnOk result (AreMore self.old.kinds self.new.kinds) }
+        ensures kind { IfOk result (IsKindOf self.new.kinds tests.now) }
     {
-        let seen = begin(alloc, self.arcs.as_slice())?;
-        Ok(seen)
+        let kind = ascending(alloc, tests)?;
+        let number = number_of(&mut self.kinds, kind)?;
+        Ok(number)
     }
 
-    /// What is seen after one more reading, which has this number in the table.
-    pub fn advance(
-        &self,
-        alloc: Global,
-        table: &[PassedTests],
-        seen: &Seen,
-        reading: u32,
-    ) -> Mem<Seen>
-        ensures { IfOk result (λ next. (before : List ℕ) →
-            WatchesBy self.now table.now seen.now before →
-            WatchesBy self.now table.now next (before ++ reading ∷ [])) }
+    /// The rule's steps.
+    pub(crate) fn steps(&self) -> &Steps
+        ensures { result.now ≡ self.now.rule.steps }
     {
-        let passed = tests_of(table, reading as usize);
-        let next = advance(
-            alloc,
-            self.arcs.as_slice(),
-            self.ends.as_slice(),
-            seen,
-            passed,
-        )?;
-        Ok(next)
+        &self.steps
     }
 
-    /// Whether the list after which this is seen satisfies the rule.
-    pub fn accepts(&self, seen: &Seen) -> bool
-        ensures { (table : List PassedTests) (list : List ℕ) →
-            WatchesBy self.now table seen.now list →
-            (IsTrue result ↔ SatisfiesBy self.now table list) }
+    /// The rule's ends.
+    pub(crate) fn ends(&self) -> &[usize]
+        ensures { result.now ≡ self.now.rule.ends }
     {
-        accepts(self.arcs.as_slice(), self.ends.as_slice(), seen)
+        self.ends.as_slice()
     }
+
+    /// The tests of each kind.
+    pub(crate) fn kinds(&self) -> &[Vec<u32>]
+        ensures { kinds_in result.now ≡ self.now.kinds }
+    {
+        self.kinds.as_slice()
+    }
+
+    /// Takes out what is remembered, and nothing where it has become too much.
+    pub(crate) fn take_memory(&mut self, alloc: Global) -> Memory
+        ensures right { IsRemembered self.old.rule.steps self.old.rule.ends self.old.kinds result }
+        ensures same { self.new ≡ self.old }
+    {
+        let memory = mem::replace(&mut self.memory, Memory::new(alloc));
+        if memory.is_full() {
+            return Memory::new(alloc);
+        }
+        memory
+    }
+
+    /// Remembers this in place of what was remembered.
+    pub(crate) fn remember(&mut self, memory: Memory)
+        requires { IsRemembered self.old.rule.steps self.old.rule.ends self.old.kinds memory }
+        ensures { self.new ≡ self.old }
+    {
+        self.memory = memory;
+    }
+}
+
+/// The tests in ascending order, each once.
+fn ascending(alloc: Global, tests: &[u32]) -> Mem<Vec<u32>>
+    ensures { IfOk result (λ kind. (t : ℕ) → Contains kind.items t ↔ Contains tests.now t) }
+{
+    let set = set_of(alloc, tests)?;
+    let kind = listed(alloc, &set)?;
+    Ok(kind)
+}
+
+/// The tests of the set in ascending order.
+fn listed(alloc: Global, set: &BTreeSet<u32>) -> Mem<Vec<u32>>
+    ensures { IfOk result (λ list. list.items ≡ set.now.keys) }
+{
+    let list: Vec<u32> = set.iter().copied().collect(alloc)?;
+    Ok(list)
+}
+
+/// The number of the kind, which gets one if it has none.
+fn number_of(kinds: &mut IndexSet<Vec<u32>>, kind: Vec<u32>) -> Mem<usize>
+    ensures more { AreMore (kinds_in kinds.old.keys) (kinds_in kinds.new.keys) }
+    ensures inside { IfOk result (λ number. number < length (kinds_in kinds.new.keys)) }
+    ensures tests { IfOk result (λ number.
+        kind_at (kinds_in kinds.new.keys) number ≡ kind.items) }
+{
+    let (number, _is_new) = kinds.insert_full(kind)?;
+    Ok(number)
 }

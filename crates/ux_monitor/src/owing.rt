@@ -1,17 +1,18 @@
 //! What is owed since a split point.
 
 ghost use Rattle.std.specs.Prelude.{◌<◌, ◌≡◌, ◌↔◌, [], IfOk, OnOk, IsTrue, Contains};
-ghost use Rattle.ux_monitor.specs.declared.rule.Sign.{Sign};
-ghost use Rattle.ux_monitor.specs.declared.rule.Step.{Step};
 ghost use Rattle.ux_monitor.specs.declared.owing.Obligation.{Obligation};
 ghost use Rattle.ux_monitor.specs.Watches.{IsIdle, IsHere, IsOpened, IsPaid, IsLater};
-ghost use Rattle.ux_monitor.specs.Arcs.{Among, AreArcs, arcs_of, IsKept, Finds, IsWell, IsNoted, AreLater};
+ghost use Rattle.ux_monitor.specs.Steps.{Among};
+ghost use Rattle.ux_monitor.specs.Owing.{IsKept, Finds, IsWell, IsNoted, AreLater};
 
 use crate::moving::{closes, marked, moved};
 use crate::places::is_nothing;
-use crate::rule::{Sign, Step};
+use crate::rule::Sign;
+use crate::steps::Steps;
 use indexmap::IndexSet;
 use std::alloc::Global;
+use std::collections::BTreeSet;
 use ux_base::Mem;
 
 /// What is owed since a split point: whether an if-pair was found, and the places of right words.
@@ -23,27 +24,35 @@ pub struct Obligation {
 }
 
 /// Whether an if-pair was found, or is where the list ends.
-fn is_found(arcs: &[Vec<Step>], ends: &[usize], one: &Obligation) -> bool
-    requires { AreArcs arcs.now }
-    ensures { IsTrue result ↔ Finds (arcs_of arcs.now) ends.now one.now }
+fn is_found(alloc: Global, steps: &Steps, ends: &[usize], one: &Obligation) -> Mem<bool>
+    ensures { IfOk result (λ is. IsTrue is ↔ Finds steps.now ends.now one.now) }
 {
-    one.found || closes(arcs, ends, one.ifs.as_slice(), Sign::If)
+    if one.found {
+        return Ok(true);
+    }
+    let is_closed = closes(alloc, steps, ends, one.ifs.as_slice(), Sign::If)?;
+    Ok(is_closed)
 }
 
 /// Whether a then-pair is where the list ends.
-fn is_paid(arcs: &[Vec<Step>], ends: &[usize], one: &Obligation) -> bool
-    requires { AreArcs arcs.now }
-    ensures { IsTrue result ↔ IsPaid (arcs_of arcs.now) ends.now (Among []) one.now }
+fn is_paid(alloc: Global, steps: &Steps, ends: &[usize], one: &Obligation) -> Mem<bool>
+    ensures { IfOk result (λ is. IsTrue is ↔
+        IsPaid steps.now ends.now (Among []) one.now) }
 {
-    closes(arcs, ends, one.thens.as_slice(), Sign::Then)
+    let is_closed = closes(alloc, steps, ends, one.thens.as_slice(), Sign::Then)?;
+    Ok(is_closed)
 }
 
 /// Whether no if-pair is where the list ends, or a then-pair is.
-fn is_well(arcs: &[Vec<Step>], ends: &[usize], one: &Obligation) -> bool
-    requires { AreArcs arcs.now }
-    ensures { IsTrue result ↔ IsWell (arcs_of arcs.now) ends.now one.now }
+fn is_well(alloc: Global, steps: &Steps, ends: &[usize], one: &Obligation) -> Mem<bool>
+    ensures { IfOk result (λ is. IsTrue is ↔ IsWell steps.now ends.now one.now) }
 {
-    !is_found(arcs, ends, one) || is_paid(arcs, ends, one)
+    let is_owed = is_found(alloc, steps, ends, one)?;
+    if !is_owed {
+        return Ok(true);
+    }
+    let is_well = is_paid(alloc, steps, ends, one)?;
+    Ok(is_well)
 }
 
 /// Whether no if-pair was found, and none can come.
@@ -85,39 +94,38 @@ fn obligations_in(alloc: Global, owed: IndexSet<Obligation>) -> Mem<Vec<Obligati
 /// What is owed after one more reading.
 fn later(
     alloc: Global,
-    arcs: &[Vec<Step>],
+    steps: &Steps,
     ends: &[usize],
     one: &Obligation,
-    passed: &[u32],
+    passed: &BTreeSet<u32>,
 ) -> Mem<Obligation>
-    requires no_free { AreArcs arcs.now }
-    requires unpaid { IsPaid (arcs_of arcs.now) ends.now (Among []) one.now → ⊥ }
-    ensures { IfOk result (λ later. IsLater (arcs_of arcs.now) ends.now (Among passed.now) 0 one.now
+    requires { IsPaid steps.now ends.now (Among []) one.now → ⊥ }
+    ensures { IfOk result (λ later. IsLater steps.now ends.now (Among passed.now.keys) 0 one.now
         later) }
 {
-    let ifs = moved(alloc, arcs, one.ifs.as_slice(), passed)?;
-    let thens = moved(alloc, arcs, one.thens.as_slice(), passed)?;
-    let found = is_found(arcs, ends, one);
+    let ifs = moved(alloc, steps, one.ifs.as_slice(), passed)?;
+    let thens = moved(alloc, steps, one.thens.as_slice(), passed)?;
+    let found = is_found(alloc, steps, ends, one)?;
     Ok(Obligation { found, ifs, thens })
 }
 
 /// Adds what is owed after one more reading, unless it is paid.
 fn note_later(
     alloc: Global,
-    arcs: &[Vec<Step>],
+    steps: &Steps,
     ends: &[usize],
     one: &Obligation,
-    passed: &[u32],
+    passed: &BTreeSet<u32>,
     next: &mut IndexSet<Obligation>,
 ) -> Mem<()>
-    requires { AreArcs arcs.now }
-    ensures { OnOk result (IsNoted (arcs_of arcs.now) ends.now passed.now one.now next.old.keys
+    ensures { OnOk result (IsNoted steps.now ends.now passed.now.keys one.now next.old.keys
         next.new.keys) }
 {
-    if is_paid(arcs, ends, one) {
+    let is_settled = is_paid(alloc, steps, ends, one)?;
+    if is_settled {
         return Ok(());
     }
-    let after = later(alloc, arcs, ends, one, passed)?;
+    let after = later(alloc, steps, ends, one, passed)?;
     keep(next, after)?;
     Ok(())
 }
@@ -125,18 +133,17 @@ fn note_later(
 /// All that is owed after one more reading.
 pub(crate) fn owed_later(
     alloc: Global,
-    arcs: &[Vec<Step>],
+    steps: &Steps,
     ends: &[usize],
     owed: &[Obligation],
-    passed: &[u32],
+    passed: &BTreeSet<u32>,
 ) -> Mem<IndexSet<Obligation>>
-    requires { AreArcs arcs.now }
-    ensures { IfOk result (λ next. AreLater (arcs_of arcs.now) ends.now passed.now owed.now owed.now
+    ensures { IfOk result (λ next. AreLater steps.now ends.now passed.now.keys owed.now owed.now
         next.keys) }
 {
     let mut next = IndexSet::new(alloc);
     for one in owed {
-        note_later(alloc, arcs, ends, one, passed, &mut next)?;
+        note_later(alloc, steps, ends, one, passed, &mut next)?;
     }
     Ok(next)
 }
@@ -144,15 +151,14 @@ pub(crate) fn owed_later(
 /// What is owed at a split point, from the places of left words.
 fn opened(
     alloc: Global,
-    arcs: &[Vec<Step>],
+    steps: &Steps,
     if_places: &[usize],
     then_places: &[usize],
 ) -> Mem<Obligation>
-    requires { AreArcs arcs.now }
-    ensures { IfOk result (λ one. IsHere (arcs_of arcs.now) if_places.now then_places.now one) }
+    ensures { IfOk result (λ one. IsHere steps.now if_places.now then_places.now one) }
 {
-    let ifs = marked(alloc, arcs, if_places, Sign::If)?;
-    let thens = marked(alloc, arcs, then_places, Sign::Then)?;
+    let ifs = marked(alloc, steps, if_places, Sign::If)?;
+    let thens = marked(alloc, steps, then_places, Sign::Then)?;
     Ok(Obligation {
         found: false,
         ifs,
@@ -163,32 +169,36 @@ fn opened(
 /// Adds what is owed at a split point.
 pub(crate) fn open(
     alloc: Global,
-    arcs: &[Vec<Step>],
+    steps: &Steps,
     if_places: &[usize],
     then_places: &[usize],
     owed: &mut IndexSet<Obligation>,
 ) -> Mem<()>
-    requires { AreArcs arcs.now }
-    ensures opened { OnOk result (IsOpened (arcs_of arcs.now) if_places.now then_places.now
+    ensures opened { OnOk result (IsOpened steps.now if_places.now then_places.now
         (Contains owed.old.keys) owed.new.keys) }
     ensures still { OnOk result ((o : Obligation) → Contains owed.old.keys o →
         Contains owed.new.keys o) }
 {
-    let one = opened(alloc, arcs, if_places, then_places)?;
+    let one = opened(alloc, steps, if_places, then_places)?;
     keep(owed, one)?;
     Ok(())
 }
 
 /// Whether all obligations are well where the list ends.
-pub(crate) fn are_well(arcs: &[Vec<Step>], ends: &[usize], owed: &[Obligation]) -> bool
-    requires { AreArcs arcs.now }
-    ensures { IsTrue result ↔ ((o : Obligation) → Contains owed.now o →
-        IsWell (arcs_of arcs.now) ends.now o) }
+pub(crate) fn are_well(
+    alloc: Global,
+    steps: &Steps,
+    ends: &[usize],
+    owed: &[Obligation],
+) -> Mem<bool>
+    ensures { IfOk result (λ are. IsTrue are ↔ ((o : Obligation) → Contains owed.now o →
+        IsWell steps.now ends.now o)) }
 {
     for one in owed {
-        if !is_well(arcs, ends, one) {
-            return false;
+        let is_one = is_well(alloc, steps, ends, one)?;
+        if !is_one {
+            return Ok(false);
         }
     }
-    true
+    Ok(true)
 }

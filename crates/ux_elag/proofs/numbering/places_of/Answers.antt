@@ -2,7 +2,7 @@ use Rattle.std.proofs.Common.{[], ◌≡◌, ◌∙◌, ap, sym, subst, get_or}
 use Rattle.std.specs.Prelude.{Contains}
 use Rattle.std.proofs.lemmas.List.Elements.{All-contains, Contains-get_or}
 use Rattle.ux_sentence.specs.declared.sentence.Link.{Link}
-use Rattle.ux_elag.specs.Numbers.{text_of}
+use Rattle.ux_reading_table.specs.Numbered.{text_of}
 use Rattle.ux_elag.proofs.LinksLemmas.{told-more}
 use Rattle.ux_elag.proofs.NumberedLemmas.{text-from_cmp}
 use Rattle.ux_elag.proofs.numbering.places_of.Goals as goal

@@ -1,5 +1,5 @@
 use Rattle.std.proofs.Common.{take}
-use Rattle.ux_elag.specs.Numbers.{AreToldBy}
+use Rattle.ux_elag.specs.Numbering.{AreToldBy}
 use Rattle.ux_elag.proofs.numbering.places_of.Given as goal
 
 abbrev pub invariant-loop-link : goal.invariant-loop-link

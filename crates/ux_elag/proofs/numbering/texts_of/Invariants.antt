@@ -1,6 +1,6 @@
 use Rattle.std.proofs.Common.{◌≡◌, take}
 use Rattle.std.specs.Prelude.{map}
-use Rattle.ux_elag.specs.Numbers.{text_of}
+use Rattle.ux_reading_table.specs.Numbered.{text_of}
 use Rattle.ux_elag.proofs.numbering.texts_of.Given as goal
 
 abbrev pub invariant-loop-link : goal.invariant-loop-link

@@ -1,7 +1,7 @@
 use Rattle.std.proofs.Common.{ap, ◌∙◌}
 use Rattle.ux_base.proofs.Lists.{take_whole}
 use Rattle.ux_elag.specs.Ready.{numbered_steps}
-use Rattle.ux_elag.proofs.TableLemmas.{numbered-more}
+use Rattle.ux_elag.proofs.StepsLemmas.{numbered-more}
 use Rattle.ux_elag.proofs.ready.numbered_steps_of.Goals as goal
 
 pub loop-index-preserved : goal.loop-index-preserved

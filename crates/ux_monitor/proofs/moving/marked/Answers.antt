@@ -1,11 +1,10 @@
-use Rattle.std.proofs.Common.{ℕ, ◌∷◌, []}
+use Rattle.std.proofs.Common.{ℕ, List, [], ◌∷◌, ◌↔◌, sym, subst}
 use Rattle.std.specs.Prelude.{Contains}
 use Rattle.ux_monitor.specs.Rules.{Run}
-use Rattle.ux_monitor.specs.Arcs.{arcs_of}
-use Rattle.ux_monitor.proofs.NotingLemmas.{from_none}
 use Rattle.ux_monitor.proofs.moving.marked.Goals as goal
 
 pub returns : goal.returns
 returns c =
-    from_none (λ k. (p : ℕ) × Contains c.args.from.now p × Run (arcs_of c.args.arcs.now) p k (c.args.mark ∷ []))
-    c.new-found.result.keys c.add_marked.new.found.keys c.in_ok-list.list.items c.new-found.ensures.empty c.in_ok-list.ensures c.in_ok-add_marked.ensures
+    subst (λ (xs : List ℕ). (k : ℕ) → Contains xs k ↔ ((p : ℕ) × Contains c.args.from.now p
+    × Run c.args.steps.now p k (c.args.mark ∷ []))) (sym c.in_ok-list.ensures)
+    c.in_ok-found.ensures

@@ -1,11 +1,21 @@
-use Rattle.std.proofs.Common.{ℕ, []}
+use Rattle.std.proofs.Common.{ℕ, List, ◌↔◌, ◌⊎◌, subst}
 use Rattle.std.specs.Prelude.{Contains}
-use Rattle.ux_monitor.specs.Monitor.{Moves}
-use Rattle.ux_monitor.specs.Arcs.{Among, arcs_of}
-use Rattle.ux_monitor.proofs.NotingLemmas.{from_none}
+use Rattle.ux_monitor.specs.Steps.{Reads}
+use Rattle.ux_monitor.proofs.FreeStepsLemmas.{reaches_only, reads_run}
+use Rattle.ux_monitor.proofs.WordsLemmas.{both_ways}
 use Rattle.ux_monitor.proofs.moving.moved.Goals as goal
 
 pub returns : goal.returns
 returns c =
-    from_none (λ k. (p : ℕ) × Contains c.args.from.now p × Moves (arcs_of c.args.arcs.now) [] (Among c.args.passed.now) p 0 k)
-    c.new-found.result.keys c.add_moved.new.found.keys c.in_ok-list.list.items c.new-found.ensures.empty c.in_ok-list.ensures c.in_ok-add_moved.ensures
+    let steps = c.args.steps.now in
+    let here = c.in_ok-here.here.items in
+    let passed = c.args.passed.now.keys in
+    let ahead = c.push_read.new.ahead.items in
+    let more = subst (λ (xs : List ℕ). (k : ℕ) → Contains ahead k ↔
+    (Contains c.new-ahead.result.items k ⊎ ((p : ℕ) × Contains xs p × Reads steps passed p k)))
+    c.as_slice.ensures.value c.in_ok-push_read.ensures in
+    λ k. both_ways (c.in_ok-list.ensures k)
+    (both_ways
+    (reaches_only steps (λ a. (p : ℕ) × Contains here p × Reads steps passed p a)
+    c.new-ahead.result.items ahead c.new-ahead.ensures.items more k)
+    (reads_run steps c.args.from.now here c.in_ok-here.ensures passed k))

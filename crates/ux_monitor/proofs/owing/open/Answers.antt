@@ -1,10 +1,9 @@
-use Rattle.ux_monitor.specs.Arcs.{arcs_of}
 use Rattle.ux_monitor.proofs.OwingLemmas.{opened_kept}
 use Rattle.ux_monitor.proofs.owing.open.Goals as goal
 
 pub returns-clause-opened : goal.returns-clause-opened
 returns-clause-opened c =
-    opened_kept (arcs_of c.args.arcs.now) c.args.if_places.now c.args.then_places.now c.args.owed.now.keys c.keep.new.owed.keys c.in_ok-one.one
+    opened_kept c.args.steps.now c.args.if_places.now c.args.then_places.now c.args.owed.now.keys c.keep.new.owed.keys c.in_ok-one.one
     c.in_ok-one.ensures c.in_ok-keep.ensures
 
 pub returns-clause-still : goal.returns-clause-still

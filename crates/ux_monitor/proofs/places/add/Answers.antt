@@ -1,5 +1,5 @@
 use Rattle.ux_subsets.proofs.InsertingLemmas.{Contains-insert}
 use Rattle.ux_monitor.proofs.places.add.Goals as goal
 
-pub returns : goal.returns
-returns c = Contains-insert _ _ c.args.number c.in_ok-insert.ensures.updates
+pub returns-clause-exact : goal.returns-clause-exact
+returns-clause-exact c = Contains-insert _ _ c.args.place c.in_ok-is_new.ensures.updates

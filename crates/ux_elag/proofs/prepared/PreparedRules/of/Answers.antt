@@ -1,0 +1,46 @@
+use Rattle.std.proofs.Common.{ℕ, List, ◌≡◌, ◌+◌, ◌∙◌, arith, ap, sym, subst, length}
+use Rattle.std.specs.Prelude.{All}
+use Rattle.std.specs.List.{AllZip}
+use Rattle.std.proofs.lemmas.List.Elements.{length_all_zip}
+use Rattle.ux_elag.specs.declared.prepared_rule.PreparedRule.{PreparedRule}
+use Rattle.ux_elag.specs.Prepared.{ArePrepared, IsPreparedFor, Notes}
+use Rattle.ux_elag.proofs.PreparedLemmas.{fresh-prepared, noted-prepared, rules_of, written-back}
+use Rattle.ux_elag.proofs.prepared.PreparedRules.of.Goals as goal
+
+pub loop-number-init : goal.loop-number-init
+loop-number-init c =
+    let found = fresh-prepared c.args.table.now c.args.rules.items c.in_ok-prepared.prepared.items
+    c.in_ok-prepared.ensures in
+    record { same = found.0; each = found.1 }
+
+pub loop-number-preserved : goal.loop-number-preserved
+loop-number-preserved c =
+    let texts = c.args.table.now in
+    let old = c.loop-number.prepared.items in
+    let new = c.note_number.new.rules in
+    let noted = c.in_ok-note_number.ensures in
+    let all : AllZip (Notes noted.0) old new =
+    subst (λ (rs : List PreparedRule). AllZip (Notes noted.0) rs new) c.as_mut_slice.ensures.value
+    noted.2 in
+    let found = noted-prepared texts c.loop-number.number noted.0 noted.1 old new all
+    c.loop-number.invariant.each in
+    let len : c.loop-number.prepared.len ≡ length old = c.loop-number.prepared.ok.0 in
+    let is = written-back old new c.loop-number.prepared.len len
+    (sym (length_all_zip (Notes noted.0) old new all)) in
+    record {
+      same = subst (λ (rs : List PreparedRule). rules_of rs ≡ c.args.rules.items) (sym is)
+          (found.0 ∙ c.loop-number.invariant.same);
+      each = subst (All (IsPreparedFor texts (c.loop-number.number + 1))) (sym is) found.1;
+    }
+
+pub invariant_of-result : goal.invariant_of-result
+invariant_of-result c =
+    let rules = c.loop-number.prepared.items in
+    let same = c.texts-texts.ensures in
+    let all : c.loop-number.number ≡ length c.args.table.now =
+    let long = ap length same in omega (arith, long) in
+    subst (λ (ts : List (List ℕ)). ArePrepared ts rules) (sym same) (record {
+      are_texts = c.requires;
+      each = subst (λ (n : ℕ). All (IsPreparedFor c.args.table.now n) rules) all
+          c.loop-number.invariant.each;
+    })

@@ -1,0 +1,95 @@
+//! What is kept of links between places, rule by rule.
+//!
+//! The first rule makes an automaton that is determinised from its end, by two passes over the links.
+//! A later one goes over that automaton, and makes another only where it takes something away.
+
+ghost use Rattle.std.specs.Prelude.{◌≡◌, ◌<◌, [], None, Option, IfOk, IfSome, MatchOption};
+ghost use Rattle.ux_subsets.specs.Paths.{IsAscending, IsNormal};
+ghost use Rattle.ux_elag.specs.Numbers.{IsKept};
+ghost use Rattle.ux_elag.specs.Prepared.{SatisfiesAll, SatisfiesOne};
+
+use crate::prepared_rule::PreparedRule;
+use std::alloc::Global;
+use ux_base::Mem;
+use ux_monitor::{Monitor, keep_satisfying, keep_satisfying_again};
+use ux_subsets::Automaton;
+
+/// What the rules keep of the source, one after the other. Without a rule all lists are kept.
+pub(crate) fn keep_each(
+    alloc: Global,
+    rules: &mut [PreparedRule],
+    source: Automaton,
+) -> Mem<Option<Automaton>>
+    requires some { 0 < source.last }
+    requires ascending { IsAscending source.last source.links.items }
+    ensures same { rules.new ≡ rules.old }
+    ensures kept { IfOk result (IsKept (SatisfiesAll rules.old) source.last source.links.items) }
+{
+    if rules.is_empty() {
+        return keep_all(alloc, source);
+    }
+    let mut kept = keep_one(alloc, &mut rules[0], source)?;
+    for index in 1..rules.len() {
+        kept = keep_more(alloc, &mut rules[index], kept)?;
+    }
+    Ok(kept)
+}
+
+/// All lists of the source.
+fn keep_all(alloc: Global, source: Automaton) -> Mem<Option<Automaton>>
+    requires some { 0 < source.last }
+    requires ascending { IsAscending source.last source.links.items }
+    ensures { IfOk result (IsKept (SatisfiesAll []) source.last source.links.items) }
+{
+    let mut monitor = Monitor::new(alloc, &[], &[1])?;
+    keep_satisfying(
+        alloc,
+        &mut monitor,
+        &[],
+        source.links.as_slice(),
+        source.last,
+    )
+}
+
+/// What the rule keeps of the source.
+fn keep_one(alloc: Global, rule: &mut PreparedRule, source: Automaton) -> Mem<Option<Automaton>>
+    requires some { 0 < source.last }
+    requires ascending { IsAscending source.last source.links.items }
+    ensures same { rule.new ≡ rule.old }
+    ensures kept { IfOk result (IsKept (SatisfiesOne rule.old) source.last source.links.items) }
+{
+    keep_satisfying(
+        alloc,
+        &mut rule.monitor,
+        rule.kinds.as_slice(),
+        source.links.as_slice(),
+        source.last,
+    )
+}
+
+/// What the rule keeps of the source, which is what a rule kept. Where that is all of it, this is
+/// the source itself.
+fn keep_again(alloc: Global, rule: &mut PreparedRule, source: Automaton) -> Mem<Option<Automaton>>
+    requires { IsNormal source.last source.links.items }
+    ensures same { rule.new ≡ rule.old }
+    ensures kept { IfOk result (IsKept (SatisfiesOne rule.old) source.last source.links.items) }
+{
+    keep_satisfying_again(alloc, &mut rule.monitor, rule.kinds.as_slice(), source)
+}
+
+/// What the rule keeps of what was kept.
+fn keep_more(
+    alloc: Global,
+    rule: &mut PreparedRule,
+    kept: Option<Automaton>,
+) -> Mem<Option<Automaton>>
+    requires { IfSome kept (λ source. IsNormal source.last source.links.items) }
+    ensures same { rule.new ≡ rule.old }
+    ensures kept { IfOk result (λ left. MatchOption kept (left ≡ None)
+        (λ source. IsKept (SatisfiesOne rule.old) source.last source.links.items left)) }
+{
+    match kept {
+        Some(source) => keep_again(alloc, rule, source),
+        None => Ok(None),
+    }
+}

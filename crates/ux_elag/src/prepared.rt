@@ -1,0 +1,135 @@
+//! Rules, prepared for the sentences of one file.
+//!
+//! The readings of a file are in a table, by number. For each rule and reading it is found out once
+//! which tests the reading passes; sentences are then told by numbers alone.
+
+ghost use Rattle.std.specs.Prelude.{◌≡◌, ◌<◌, ◌^◌, List, All, IfOk, OnOk, length};
+ghost use Rattle.std.specs.List.{AllZip};
+ghost use Rattle.ux_sentence.specs.declared.sentence.Reading.{Reading as ReadingRecord};
+ghost use Rattle.ux_sentence.specs.declared.sentence.Sentence.{Sentence as SentenceRecord};
+ghost use Rattle.ux_sentence.specs.Paths.{IsWellFormed};
+ghost use Rattle.ux_sentence.specs.Valid.{HasSpellable};
+ghost use Rattle.ux_reading_table.specs.Numbered.{AreTexts, IsNumberedBy};
+ghost use Rattle.ux_elag.specs.Prepared.{HasText, IsFresh, LeavesNumbered, Notes};
+
+use crate::keeping::keep_each;
+use crate::naming::{ordered_sentence, without_states};
+use crate::placing::place_states;
+use crate::prepared_rule::PreparedRule;
+use crate::ready::ReadyRule;
+use std::alloc::Global;
+use std::marker::Model;
+use ux_base::{Mem, Txt};
+use ux_reading_table::{NumberedSentence, ReadingTable};
+use ux_sentence::Reading;
+
+/// Rules, prepared for the readings of a table. Contracts see them as the rules and the texts of
+/// the readings.
+#[derive(Drop)]
+pub struct PreparedRules<'a> {
+    rules: Vec<PreparedRule>,
+    texts: &'a [Txt],
+}
+
+impl<'a> Model for PreparedRules<'a> {
+    ghost use Rattle.std.specs.Prelude.{map};
+    ghost use Rattle.ux_elag.specs.Prepared.{ArePrepared, Prepared};
+
+    ghost Value = { Prepared };
+
+    ghost view = { λ prepared. record {
+      rules = map (λ rule. rule.rule) prepared.rules.items;
+      texts = prepared.texts.now;
+    } };
+
+    ghost invariant = { λ prepared. ArePrepared prepared.texts.now prepared.rules.items };
+}
+
+impl<'a> PreparedRules<'a> {
+    /// The rules, prepared for the readings of the table. Each reading is read once, and tried by
+    /// each test of each rule. Keeps a number for each reading and rule.
+    pub fn of(
+        alloc: Global,
+        rules: Vec<ReadyRule>,
+        table: &'a ReadingTable<'_>,
+    ) -> Mem<PreparedRules<'a>>
+        requires { AreTexts table.now }
+        ensures rules { IfOk result (λ prepared. prepared.rules ≡ rules.items) }
+        ensures texts { IfOk result (λ prepared. prepared.texts ≡ table.now) }
+    {
+        let mut prepared = without_kinds(alloc, rules)?;
+        let texts = table.texts();
+        for number in 0..texts.len() {
+            note_number(alloc, prepared.as_mut_slice(), table, number)?;
+        }
+        Ok(PreparedRules {
+            rules: prepared,
+            texts,
+        })
+    }
+
+    /// What the rules leave of the sentence, one after the other: exactly the reading lists that
+    /// satisfy each of them, each by one path. Without a rule all are left. No reading is looked
+    /// at. Takes time in the links, times a logarithm of their number, and in what each rule keeps
+    /// of them; and memory for the links of two automata.
+    pub fn apply(&mut self, alloc: Global, sentence: &NumberedSentence) -> Mem<NumberedSentence>
+        requires { (old : SentenceRecord) × IsNumberedBy self.old.texts old sentence.now
+            × IsWellFormed old }
+        ensures same { self.new ≡ self.old }
+        ensures left { IfOk result (λ left. (old : SentenceRecord) →
+            IsNumberedBy self.old.texts old sentence.now → All HasSpellable old.links →
+            LeavesNumbered self.old old left) }
+    {
+        if sentence.states == 0 {
+            return Ok(without_states(alloc, sentence.number));
+        }
+        let source = place_states(alloc, sentence)?;
+        let kept = keep_each(alloc, self.rules.as_mut_slice(), source)?;
+        ordered_sentence(alloc, sentence.number, kept)
+    }
+
+    /// The texts of the readings, by number.
+    pub fn texts(&self) -> &[Txt]
+        ensures { result.now ≡ self.now.texts }
+    {
+        self.texts
+    }
+}
+
+/// The rules, with no kind yet.
+fn without_kinds(alloc: Global, rules: Vec<ReadyRule>) -> Mem<Vec<PreparedRule>>
+    ensures { IfOk result (λ prepared. AllZip IsFresh rules.items prepared.items) }
+{
+    let mut prepared = Vec::new(alloc);
+    for rule in rules {
+        prepared.push(rule.without_kinds(alloc))?;
+    }
+    Ok(prepared)
+}
+
+/// Adds the kind of the reading with the number to each rule.
+fn note_number(
+    alloc: Global,
+    rules: &mut [PreparedRule],
+    table: &ReadingTable<'_>,
+    number: usize,
+) -> Mem<()>
+    requires inside { number < length table.now }
+    requires few { All (λ rule. length rule.rule.steps < 2 ^ 32) rules.old }
+    ensures { OnOk result ((reading : ReadingRecord) × HasText table.now number reading
+        × AllZip (Notes reading) rules.old rules.new) }
+{
+    let reading = table.reading(alloc, number)?;
+    note_reading(alloc, rules, &reading)
+}
+
+/// Adds the kind of the reading to each rule.
+fn note_reading(alloc: Global, rules: &mut [PreparedRule], reading: &Reading) -> Mem<()>
+    requires { All (λ rule. length rule.rule.steps < 2 ^ 32) rules.old }
+    ensures { OnOk result (AllZip (Notes reading.now) rules.old rules.new) }
+{
+    for index in 0..rules.len() {
+        rules[index].note(alloc, reading)?;
+    }
+    Ok(())
+}
