@@ -2,7 +2,8 @@
 """Times `unitex txt2tfst` over texts of 1, 2 and 4 MB with a generated dictionary of 300,000 lines, a third of them
 compounds, beside `unitex dico` with the same files and `lt-proc` (Debian's package lttoolbox) with the same dictionary
 over the same words. Then `unitex elag` with three rules over its answer, beside `vislcg3` (Debian's package cg3) with
-three rules of the same kind over the same readings of the same words. Then one rule that removes nothing over forty
+three rules of the same kind over the same readings of the same words, and both once more over texts whose words come as
+often as in running text. Then one rule that removes nothing over forty
 words of two readings each, over 4,000 and over 200,000. Then what could cost more than its size: rules of thousands of
 boxes, and an automaton whose links pass thousands of states. Prints the best of three runs in turn, and peak memory by
 the size of the files.
@@ -20,6 +21,8 @@ from measuring import DATA, OUT, PROGRAM, RUNS, apart, best, least, prepare, run
 
 LINES = 300_000
 SIZES = [1_000_000, 2_000_000, 4_000_000]
+# How the words of a text are drawn: many of them once or twice, or few of them most of the time.
+KINDS = ["random", "running"]
 # A word may have several of these, so that rules have something to choose.
 CODES = [".N+Conc:ms", ".V+t:P3s", ".A:mp", ".DET", ".ADV"]
 MARKS = ["<!>", "<=>"]
@@ -73,15 +76,27 @@ def write_dictionaries(simple, compounds, codes):
         file.write("</section>\n</dictionary>\n")
 
 
+def running(draw, simple):
+    """A word of a running text: by far most often one of the first, as people write."""
+    while True:
+        place = int(draw.paretovariate(0.45)) - 1
+        if place < len(simple):
+            return simple[place]
+
+
+def word_of(kind, draw, simple, compounds):
+    return running(draw, simple) if kind == "running" else one(draw, simple, compounds)
+
+
 def write_texts(draw, simple, compounds, codes):
     """Texts of twelve words a sentence, for unitex and for lttoolbox, and the readings of their single words for cg3."""
-    for size in SIZES:
+    for kind, size in ((kind, size) for kind in KINDS for size in SIZES):
         length = 0
-        with open(path(f"sentences{size}.txt"), "w", encoding="utf-8") as text, \
-                open(path(f"plain{size}.txt"), "w", encoding="utf-8") as plain, \
-                open(path(f"cohorts{size}.txt"), "w", encoding="utf-8") as cohorts:
+        with open(path(f"{kind}{size}.txt"), "w", encoding="utf-8") as text, \
+                open(path(f"plain-{kind}{size}.txt"), "w", encoding="utf-8") as plain, \
+                open(path(f"cohorts-{kind}{size}.txt"), "w", encoding="utf-8") as cohorts:
             while length < size:
-                words = [one(draw, simple, compounds) for _ in range(12)]
+                words = [word_of(kind, draw, simple, compounds) for _ in range(12)]
                 line = " ".join(words)
                 length += text.write(f"{line}.{{S}}\n")
                 plain.write(f"{line}.\n")
@@ -135,16 +150,16 @@ def write_rules():
     write_graph("any.grf", [["<!>", "<N>", "<!>", "<TOKEN>", "<!>"], ["<=>", "<=>", "<TOKEN>", "<=>"]])
 
 
-def automata(size):
+def automata(kind, size):
     """Writes the automata of the text of so many bytes, and gives their path."""
-    tfst = path(f"sentences{size}.tfst")
+    tfst = path(f"{kind}{size}.tfst")
     with open(tfst, "wb") as file:
-        subprocess.run(tfst_words(size), stdout=file, check=True)
+        subprocess.run(tfst_words(kind, size), stdout=file, check=True)
     return tfst
 
 
-def tfst_words(size):
-    return [PROGRAM, "txt2tfst", path(f"sentences{size}.txt"), path("letters.txt"), path("sentences.dic")]
+def tfst_words(kind, size):
+    return [PROGRAM, "txt2tfst", path(f"{kind}{size}.txt"), path("letters.txt"), path("sentences.dic")]
 
 
 def told(name, runs, files):
@@ -157,11 +172,12 @@ def sentences():
     print("automata of sentences")
     for size in SIZES:
         print(f" a text of {size / 1e6:.0f} MB")
-        texts = [path(f"sentences{size}.txt"), path("sentences.dic")]
+        texts = [path(f"random{size}.txt"), path("sentences.dic")]
+        plain = path(f"plain-random{size}.txt")
         programs = [
-            ("txt2tfst", tfst_words(size), texts),
-            ("dico", [PROGRAM, "dico", *tfst_words(size)[2:]], texts),
-            ("lt-proc", ["lt-proc", path("sentences.bin"), path(f"plain{size}.txt")], [path(f"plain{size}.txt"), path("sentences.bin")]),
+            ("txt2tfst", tfst_words("random", size), texts),
+            ("dico", [PROGRAM, "dico", *tfst_words("random", size)[2:]], texts),
+            ("lt-proc", ["lt-proc", path("sentences.bin"), plain], [plain, path("sentences.bin")]),
         ]
         runs = [[run(words) for _, words, _ in programs] for _ in range(RUNS)]
         for (name, _, files), column in zip(programs, zip(*runs)):
@@ -170,10 +186,11 @@ def sentences():
 
 def rules():
     print("three rules")
-    for size in SIZES:
-        tfst = automata(size)
-        print(f" automata of {os.path.getsize(tfst) / 1e6:.1f} MB, of a text of {size / 1e6:.0f} MB")
-        cohorts = path(f"cohorts{size}.txt")
+    for kind, size in ((kind, size) for kind in KINDS for size in SIZES):
+        tfst = automata(kind, size)
+        print(f" automata of {os.path.getsize(tfst) / 1e6:.1f} MB, of a {kind} text of {size / 1e6:.0f} MB")
+        print(f"  {different_readings(tfst)} different readings and links")
+        cohorts = path(f"cohorts-{kind}{size}.txt")
         programs = [
             ("elag", [PROGRAM, "elag", tfst, *(path(f"rule{it}.grf") for it in range(len(RULES)))], [tfst]),
             ("vislcg3", ["vislcg3", "-g", path("rules.cg3"), "-I", cohorts], [cohorts]),
@@ -181,6 +198,13 @@ def rules():
         runs = [[run(words) for _, words, _ in programs] for _ in range(RUNS)]
         for (name, _, files), column in zip(programs, zip(*runs)):
             told(name, column, files)
+
+
+def different_readings(tfst):
+    """How many different readings the links of a file have, and how many links."""
+    with open(tfst, encoding="utf-8") as file:
+        readings = [line.split(" ", 2)[2] for line in file if line[0].isdigit()]
+    return f"{len(set(readings))} and {len(readings)}"
 
 
 def long_sentences():

@@ -27,7 +27,7 @@ use Rattle.ux_reading_table.specs.declared.numbered.NumberedSentence.{NumberedSe
 use Rattle.ux_elag.specs.declared.prepared_rule.PreparedRule.{PreparedRule}
 use Rattle.ux_elag.specs.Left.{Keeps, SatisfiesEach, readings_of}
 use Rattle.ux_elag.specs.Numbers as numbered_words
-use Rattle.ux_elag.specs.Numbers.{AreBelow, AreReadings, IsEmpty, IsFormed, IsKept, IsOrdered, IsOrderedBy, IsPlaced, link_of, reading_at, sentence_of, told}
+use Rattle.ux_elag.specs.Numbers.{AreBelow, AreReadings, IsEmpty, IsFormed, IsKept, IsOrdered, IsOrderedBy, IsPlaced, HaveTexts, link_of, reading_at, sentence_of, told}
 use Rattle.ux_elag.specs.Prepared.{HasText, IsPreparedFor, SatisfiesAll, SatisfiesOne}
 use Rattle.ux_elag.specs.Ready.{AreKinds, IsMonitorOf, IsTable, numbered_steps}
 use Rattle.ux_elag.proofs.KindsLemmas.{kinds-table}
@@ -118,14 +118,15 @@ named-spellable readings links are below = all-of HasSpellable (map (link_of rea
     subst HasSpellable found.2 (are.spellable found.0.reading (Raw []) inside))
 
 -- a sentence of what is kept, by any readings
-ordered-named : (readings : List Reading) (number : ℕ) (automaton : Automaton)
-    (new : NumberedSentence) → (is : IsOrderedBy number automaton new) →
+ordered-named : (texts : List (List ℕ)) (readings : List Reading) (number : ℕ)
+    (automaton : Automaton) (new : NumberedSentence) →
+    (is : IsOrderedBy texts number automaton new) →
     sentence_of readings new ≡ record {
       number = number;
       states = automaton.last + 1;
       links = map (named (λ state. state) readings) is.sorted;
     }
-ordered-named readings number automaton new is = same_sentence (sentence_of readings new) (record {
+ordered-named texts readings number automaton new is = same_sentence (sentence_of readings new) (record {
   number = number;
   states = automaton.last + 1;
   links = map (named (λ state. state) readings) is.sorted;
@@ -143,10 +144,11 @@ module _ (old : Sentence) (IsSo : List Reading → Type 0)
     (some : 0 < old.states) (are : IsNamed old states readings links)
     (IsGood : List ℕ → Type 0)
     (good : (word : List ℕ) → AreSmall (length readings) word →
-    IsGood word ↔ IsSo (map (reading_at readings) word)) where
+    IsGood word ↔ IsSo (map (reading_at readings) word))
+    (texts : List (List ℕ)) (have : HaveTexts texts readings) where
   -- the readings of what is kept are known
   kept-below : (kept : Option Automaton) (new : NumberedSentence) →
-      IsKept IsGood (length states - 1) links kept → IsOrdered old.number kept new →
+      IsKept IsGood (length states - 1) links kept → IsOrdered texts old.number kept new →
       AreBelow (length readings) new.links.items
   kept-below None new is ordered =
       subst (AreBelow (length readings)) (sym ordered.no_links) (λ k d lt. absurd (omega arith))
@@ -161,15 +163,16 @@ module _ (old : Sentence) (IsSo : List Reading → Type 0)
 
   -- what is kept, with its names, is what is left
   kept-named : (kept : Option Automaton) (new : NumberedSentence) →
-      IsKept IsGood (length states - 1) links kept → IsOrdered old.number kept new →
+      IsKept IsGood (length states - 1) links kept → IsOrdered texts old.number kept new →
       Keeps IsSo old (sentence_of readings new)
   kept-named None new is ordered =
       subst (Keeps IsSo old) (sym (empty-named readings old.number new ordered))
       (left-none old IsSo old.number states readings links some are IsGood good refl is.nothing)
   kept-named (Some automaton) new is ordered =
-      subst (Keeps IsSo old) (sym (ordered-named readings old.number automaton new ordered))
+      subst (Keeps IsSo old) (sym (ordered-named texts readings old.number automaton new ordered))
       (left-some old IsSo old.number states readings links some are IsGood good refl
-      automaton.last automaton.links.items is.left ordered.sorted ordered.rising ordered.same)
+      automaton.last automaton.links.items is.left texts have ordered.sorted ordered.rising
+      ordered.same)
 
 both_empty : (path other : List Link) → IsPath [] 0 0 path → IsPath [] 0 0 other → path ≡ other
 both_empty [] [] p q = refl
@@ -206,13 +209,14 @@ empty-below bound number new is =
 
 -- one application, of its parts
 module _ (numbered new : NumberedSentence) (source : Automaton) (kept : Option Automaton)
-    (readings : List Reading) (some : 0 < numbered.states) (is : IsPlaced numbered source)
-    (in_order : AreReadings readings) (below : AreBelow (length readings) numbered.links.items)
+    (texts : List (List ℕ)) (readings : List Reading) (some : 0 < numbered.states)
+    (is : IsPlaced numbered source) (are_readings : AreReadings readings)
+    (have : HaveTexts texts readings) (below : AreBelow (length readings) numbered.links.items)
     (IsSo : List Reading → Type 0) (IsGood : List ℕ → Type 0)
     (good : (word : List ℕ) → AreSmall (length readings) word →
     IsGood word ↔ IsSo (map (reading_at readings) word))
     (are : IsKept IsGood source.last source.links.items kept)
-    (ordered : IsOrdered numbered.number kept new) where
+    (ordered : IsOrdered texts numbered.number kept new) where
   counted : IsKept IsGood (length is.states - 1) source.links.items kept
   counted =
       let count = is.count in
@@ -221,13 +225,13 @@ module _ (numbered new : NumberedSentence) (source : Automaton) (kept : Option A
 
   pub left-below : AreBelow (length readings) new.links.items
   left-below = kept-below (sentence_of readings numbered) IsSo is.states readings source.links.items
-      some (placed-named numbered source readings is in_order below) IsGood good kept new counted
-      ordered
+      some (placed-named numbered source readings is are_readings below) IsGood good texts have kept
+      new counted ordered
 
   pub left-keeps : Keeps IsSo (sentence_of readings numbered) (sentence_of readings new)
   left-keeps = kept-named (sentence_of readings numbered) IsSo is.states readings source.links.items
-      some (placed-named numbered source readings is in_order below) IsGood good kept new counted
-      ordered
+      some (placed-named numbered source readings is are_readings below) IsGood good texts have kept
+      new counted ordered
 
 unmapped : (readings : List Reading) (links : List NumberedLink) →
     map (link_of readings) links ≡ [] →

@@ -1,15 +1,12 @@
 -- What is left of a sentence in numbers, with its names, is left of the sentence.
 use Rattle.std.proofs.Common.{arith, ◌≡◌, ℕ, ◌+◌, ◌-◌, ◌<◌, ◌≤◌, ◌↔◌, List, [], ◌∷◌, ◌++◌, inl, inr, refl, sym, ◌∙◌, ap, subst, length, get_or}
 use Rattle.std.specs.Prelude.{All, AllPairs, Contains, map}
-use Rattle.std.specs.Cmp.Lexicographic.{nat_list_cmp_total}
-use Rattle.std.proofs.lemmas.Cmp.{tied_itself}
 use Rattle.std.proofs.lemmas.List.{get_or-map, length-map}
 use Rattle.std.proofs.lemmas.List.Elements.{Contains-append_right, Contains-get_or}
 use Rattle.std.proofs.lemmas.List.Kept.{AllPairs-from_increasing}
 use Rattle.ux_base.proofs.Lists.{nothing_in, contains_first, less_or}
 use Rattle.ux_base.proofs.JoinedLists.{contained_mapped}
 use Rattle.ux_sentence.specs.declared.sentence.Reading.{Reading}
-use Rattle.ux_sentence.specs.declared.sentence.Reading.TheVariants.{Raw}
 use Rattle.ux_sentence.specs.declared.sentence.Link.{Link}
 use Rattle.ux_sentence.specs.declared.sentence.Sentence.{Sentence}
 use Rattle.ux_sentence.specs.Paths.{IsPath, IsReadAs, LeadsOn, Spells, last_of}
@@ -17,7 +14,7 @@ use Rattle.ux_sentence.specs.Written.{reading_text}
 use Rattle.ux_subsets.specs.declared.automaton.Link as placed
 use Rattle.ux_subsets.specs.Paths as numbers
 use Rattle.ux_elag.specs.Left.{AreInOrder, IsBefore, IsTextBefore, Keeps, readings_of}
-use Rattle.ux_elag.specs.Numbers.{AreReadings, ComesBefore, reading_at, state_at}
+use Rattle.ux_elag.specs.Numbers.{AreReadings, ComesBefore, HaveTexts, reading_at, state_at, text_with}
 use Rattle.ux_elag.proofs.Named.{IsNamed, named}
 use Rattle.ux_elag.proofs.NamedPaths.{AreSmall, path-below, path-numbered, readings-named, spelled-below, spells-named, spells-numbered, words-alone}
 
@@ -59,27 +56,11 @@ states-alone states rise a b la lb e =
       ]
     ]
 
--- no text stands before itself
-pub text-irreflexive : (text : List ℕ) → IsTextBefore text text → ⊥
-text-irreflexive text less = let tied = tied_itself nat_list_cmp_total text in cc
-
--- readings in order are told apart by their numbers
+-- readings are told apart by their numbers
 pub readings-alone : (readings : List Reading) → AreReadings readings → (r k : ℕ) →
     r < length readings → k < length readings →
     reading_at readings r ≡ reading_at readings k → r ≡ k
-readings-alone readings are r k lr lk e =
-    let rise = are.rise in
-    elim (less_or r k) [
-      | inl below ↦ absurd (text-irreflexive (reading_text (reading_at readings k))
-          (subst (λ (x : Reading). IsTextBefore (reading_text x) (reading_text (reading_at readings k))) e
-          (rise r k (Raw []) below lk)))
-      | inr at_least ↦ elim (less_or k r) [
-        | inl below ↦ absurd (text-irreflexive (reading_text (reading_at readings k))
-            (subst (λ (x : Reading). IsTextBefore (reading_text (reading_at readings k)) (reading_text x)) e
-            (rise k r (Raw []) below lr)))
-        | inr at_most ↦ omega arith
-      ]
-    ]
+readings-alone readings are r k lr lk e = are.different r k lr lk (ap reading_text e)
 
 -- what is so of all elements
 pub all-of : {A : Type 0} (P : A → Type 0) (xs : List A) → ((x : A) → Contains xs x → P x) → All P xs
@@ -179,7 +160,8 @@ module _ (old : Sentence) (IsSo : List Reading → Type 0) (number : ℕ)
         AreSmall (length readings) word
     below-left a b word s = spelled-below (length readings) left_links a b word known-left s
 
-    module _ (sorted : List placed.Link) (rising : AllPairs ComesBefore sorted)
+    module _ (texts : List (List ℕ)) (have : HaveTexts texts readings) (sorted : List placed.Link)
+        (rising : AllPairs (ComesBefore texts) sorted)
         (same : (link : placed.Link) → Contains sorted link ↔ Contains left_links link) where
       -- the lists of what is left, with their names
       new-read : (a b : ℕ) (word : List ℕ) → numbers.Spells left_links a b word →
@@ -214,7 +196,7 @@ module _ (old : Sentence) (IsSo : List Reading → Type 0) (number : ℕ)
       same-word : (word other : List ℕ) → AreSmall (length readings) word →
           AreSmall (length readings) other →
           map (reading_at readings) word ≡ map (reading_at readings) other → word ≡ other
-      same-word = words-alone readings (readings-alone readings are.in_order)
+      same-word = words-alone readings (readings-alone readings are.are_readings)
 
       -- what follows for names follows for numbers
       numbered-alike : (a b c d : ℕ) → c ≤ last → d ≤ last → (word : List ℕ) →
@@ -226,14 +208,29 @@ module _ (old : Sentence) (IsSo : List Reading → Type 0) (number : ℕ)
           subst (λ (ws : List ℕ). numbers.Spells left_links c d ws)
           (same-word w.0 word (below-left c d w.0 w.2) (below-left a b word s) w.1) w.2
 
-      -- links in the order of their numbers are in order
+      -- links in the order of their texts are in order
       before-named : (link other : placed.Link) → link.reading < length readings →
-          other.reading < length readings → ComesBefore link other →
+          other.reading < length readings → ComesBefore texts link other →
           IsBefore (named (λ state. state) readings link) (named (λ state. state) readings other)
       before-named link other lk lo (inl from) = inl from
       before-named link other lk lo (inr (same_from, inl to)) = inr (same_from, inl to)
-      before-named link other lk lo (inr (same_from, inr (same_to, less))) =
-          inr (same_from, inr (same_to, are.in_order.rise link.reading other.reading (Raw []) less lo))
+      before-named link other lk lo (inr (same_from, inr (same_to, inl less))) =
+          inr (
+            same_from,
+            inr (
+              same_to,
+              subst (λ (t : List ℕ). IsTextBefore t
+                  (reading_text (reading_at readings other.reading)))
+                  (have link.reading lk)
+                  (subst (λ (t : List ℕ). IsTextBefore (text_with texts link.reading) t)
+                  (have other.reading lo) less),
+            ),
+          )
+      before-named link other lk lo (inr (same_from, inr (same_to, inr tied))) =
+          let alike : link.reading ≡ other.reading =
+          are.are_readings.different link.reading other.reading lk lo
+          (sym (have link.reading lk) ∙ (tied.0 ∙ have other.reading lo)) in
+          absurd (omega (arith, alike, tied.1))
 
       ordered-named : AreInOrder (map (named (λ state. state) readings) sorted)
       ordered-named i j d lt lj =

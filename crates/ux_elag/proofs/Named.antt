@@ -36,7 +36,7 @@ pub record IsNamed (sentence : Sentence) (states : List ℕ) (readings : List Re
   pub first : state_at states 0 ≡ 0
   pub last : state_at states (length states - 1) ≡ last_of sentence
   pub states_rise : IsStrictlyIncreasing states
-  pub in_order : AreReadings readings
+  pub are_readings : AreReadings readings
   pub within : (link : placed.Link) → Contains links link →
       AreInside (length states) (length readings) link
 
@@ -61,7 +61,7 @@ pub placed-named : (numbered : NumberedSentence) (source : Automaton) (readings 
     (is : IsPlaced numbered source) → AreReadings readings →
     AreBelow (length readings) numbered.links.items →
     IsNamed (sentence_of readings numbered) is.states readings source.links.items
-placed-named numbered source readings is in_order below =
+placed-named numbered source readings is are_readings below =
     let count = is.count in
     let some = is.some in
     let back : source.last ≡ length is.states - 1 = omega (arith, count) in
@@ -72,7 +72,7 @@ placed-named numbered source readings is in_order below =
       first = is.first;
       last = ap (state_at is.states) (sym back) ∙ is.last;
       states_rise = is.rise;
-      in_order = in_order;
+      are_readings = are_readings;
       within = λ link has.
           let ends = All-contains (IsWithin (length is.states)) source.links.items link is.within
           has in

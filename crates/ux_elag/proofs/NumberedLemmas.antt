@@ -1,12 +1,13 @@
 -- The readings of a sentence are told by their places.
 use Rattle.std.proofs.Common.{arith, ◌≡◌, ℕ, suc, ◌<◌, ◌↔◌, List, [], ◌∷◌, inl, inr, refl, sym, ◌∙◌, ap, subst, length, get_or, true}
-use Rattle.std.specs.Prelude.{All, AllPairs, Contains, map}
+use Rattle.std.specs.Prelude.{All, Contains, map}
 use Rattle.std.specs.Ordering.{is_eq, nat_cmp}
 use Rattle.std.specs.Str.{bytes_eq}
-use Rattle.std.specs.Cmp.Lexicographic.{slice_cmp, texts_ties}
+use Rattle.std.specs.Cmp.Lexicographic.{nat_list_cmp_total, slice_cmp, texts_ties}
 use Rattle.std.specs.List.Sorted.{IsStrictlySortedBy}
 use Rattle.std.specs.declared.cmp.Ordering.TheVariants.{Equal}
 use Rattle.std.proofs.lemmas.Slice.Eq.{bytes_eq-Decides}
+use Rattle.std.proofs.lemmas.Cmp.{tied_itself}
 use Rattle.std.proofs.lemmas.List.{get_or-map, get_or_default, length-map}
 use Rattle.std.proofs.lemmas.List.Elements.{All-contains, Contains-get_or}
 use Rattle.std.proofs.lemmas.Map.Keys.{Less-from_sorted}
@@ -24,9 +25,9 @@ use Rattle.ux_reading_table.specs.Numbered.{text_of}
 use Rattle.ux_reading_table.specs.declared.numbered.NumberedLink.{NumberedLink}
 use Rattle.ux_reading_table.specs.declared.numbered.NumberedSentence.{NumberedSentence}
 use Rattle.ux_elag.specs.Left.{IsTextBefore}
-use Rattle.ux_elag.specs.Numbers.{AreBelow, AreReadings, link_of, reading_at, sentence_of}
+use Rattle.ux_elag.specs.Numbers.{AreBelow, AreReadings, HaveTexts, link_of, reading_at, sentence_of}
 use Rattle.ux_elag.specs.Numbering.{AreToldBy, IsNumbered, IsShownBy, link_at}
-use Rattle.ux_elag.proofs.Leaving.{all-of, text-irreflexive}
+use Rattle.ux_elag.proofs.Leaving.{all-of}
 
 -- two lists with the same elements at each place
 pub same-places : {A : Type 0} (xs ys : List A) (d : A) → length xs ≡ length ys →
@@ -83,6 +84,10 @@ links-told readings (one ∷ made) (link ∷ links) places f t r g =
     (sym to)
     (sym reading) in
     ap (λ (z : Link). z ∷ links) first ∙ ap (λ (zs : List Link). link_of readings one ∷ zs) later
+
+-- no text stands before itself
+text-irreflexive : (text : List ℕ) → IsTextBefore text text → ⊥
+text-irreflexive text less = let tied = tied_itself nat_list_cmp_total text in cc
 
 module _ (links : List Link) (spellable : All HasSpellable links)
     (texts : List (List ℕ)) (rise : IsStrictlySortedBy (slice_cmp nat_cmp) texts)
@@ -197,25 +202,17 @@ module _ (links : List Link) (spellable : All HasSpellable links)
             ∙ (ap reading_text (reading-told by.0 by.1)
             ∙ (sym (told-at by.0 by.1) ∙ ap (λ (m : ℕ). get_or texts m []) by.2))
 
-        readings-rise : AllPairs (λ reading other. IsTextBefore (reading_text reading)
-            (reading_text other))
-            readings
-        readings-rise i j d lt lj =
+        readings-different : (n k : ℕ) → n < length readings → k < length readings →
+            reading_text (reading_at readings n) ≡ reading_text (reading_at readings k) → n ≡ k
+        readings-different n k ln lk e =
             let count = readings-count in
-            let li : i < length readings = omega (arith, lt, lj) in
-            let ti : i < length texts = omega (arith, li, count) in
-            let tj : j < length texts = omega (arith, lj, count) in
-            let less = Less-from_sorted (slice_cmp nat_cmp) texts i j [] rise lt tj in
-            subst (λ (r : Reading). IsTextBefore (reading_text r)
-            (reading_text (get_or readings j d)))
-            (get_or_default readings i (Raw []) d li)
-            (subst (λ (r : Reading). IsTextBefore (reading_text (reading_at readings i))
-            (reading_text r))
-            (get_or_default readings j (Raw []) d lj)
-            (subst (λ (t : List ℕ). IsTextBefore t (reading_text (reading_at readings j)))
-            (sym (reading-text i ti))
-            (subst (λ (t : List ℕ). IsTextBefore (get_or texts i []) t) (sym (reading-text j tj))
-            less)))
+            let tn : n < length texts = omega (arith, ln, count) in
+            let tk : k < length texts = omega (arith, lk, count) in
+            texts-alone n k tn tk (sym (reading-text n tn) ∙ (e ∙ reading-text k tk))
+
+        pub have-texts : HaveTexts texts readings
+        have-texts n lt =
+            let count = readings-count in sym (reading-text n (omega (arith, lt, count)))
 
         pub readings-told : map (reading_at readings) places ≡ map (λ (link : Link). link.reading)
             links
@@ -243,7 +240,7 @@ module _ (links : List Link) (spellable : All HasSpellable links)
             (spellable index (record { from = 0; to = 0; reading = Raw [] }) (shown-at k inside))
 
         pub readings-are : AreReadings readings
-        readings-are = record { rise = readings-rise; spellable = readings-spellable }
+        readings-are = record { different = readings-different; spellable = readings-spellable }
 
         pub places-below : (made : List NumberedLink) →
             map (λ (one : NumberedLink). one.reading) made ≡ places →
@@ -280,7 +277,7 @@ pub numbered-whole : (sentence : Sentence) (links : List Link) → links ≡ sen
     map (λ (one : NumberedLink). one.to) numbered.links.items ≡ map (λ (link : Link). link.to)
     links →
     map (λ (one : NumberedLink). one.reading) numbered.links.items ≡ places →
-    IsNumbered sentence readings numbered
+    IsNumbered sentence texts readings numbered
 numbered-whole sentence links links_are spellable texts rise same places told shown are readings
     readings_are numbered number states froms tos made_places =
     let made = numbered.links.items in
@@ -290,7 +287,9 @@ numbered-whole sentence links links_are spellable texts rise same places told sh
     record {
       is = same_sentence sentence (sentence_of readings numbered) (sym number) (sym states)
           (sym links_are ∙ all);
-      in_order = readings-are links spellable texts rise same places told shown are readings
+      are_readings = readings-are links spellable texts rise same places told shown are readings
+          readings_are;
+      texts_are = have-texts links spellable texts rise same places told shown are readings
           readings_are;
       below = places-below links spellable texts rise same places told shown are readings
           readings_are

@@ -28,7 +28,7 @@ use Rattle.ux_elag.specs.Prepared.{ArePrepared, HasText, IsFresh, IsPreparedFor,
 use Rattle.ux_elag.specs.Ready.{AreKinds, IsMonitorOf}
 use Rattle.ux_elag.proofs.KindsLemmas.{kinds-more, kinds-none}
 use Rattle.ux_elag.proofs.LeaveLemmas.{all-tell, empty-kept, left-below, left-keeps, named-spellable}
-use Rattle.ux_elag.proofs.TextsLemmas.{AreReadingsOf, readings_of, sentence-is, sentence-told}
+use Rattle.ux_elag.proofs.TextsLemmas.{AreReadingsOf, have-texts, readings_of, sentence-is, sentence-told}
 
 abbrev pub rules_of : List PreparedRule → List RuleSteps
 rules_of rules = map (λ (rule : PreparedRule). rule.rule) rules
@@ -224,7 +224,7 @@ pub prepared-leaves : (texts : List (List ℕ)) (rules : List PreparedRule) →
     (numbered new : NumberedSentence) (source : Automaton) (kept : Option Automaton) →
     0 < numbered.states → IsPlaced numbered source →
     IsKept (SatisfiesAll rules) source.last source.links.items kept →
-    IsOrdered numbered.number kept new → (old : Sentence) → IsNumberedBy texts old numbered →
+    IsOrdered texts numbered.number kept new → (old : Sentence) → IsNumberedBy texts old numbered →
     All HasSpellable old.links →
     LeavesNumbered (record { rules = rules_of rules; texts = texts }) old new
 prepared-leaves texts rules are numbered new source kept some placed is ordered old stands
@@ -233,16 +233,18 @@ prepared-leaves texts rules are numbered new source kept some placed is ordered 
     let of_texts : AreReadingsOf texts readings = (readings_of texts are.are_texts).1 in
     let here = sentence-is texts readings of_texts old numbered stands spellable in
     let tells = all-tell texts readings of_texts rules are.each in
-    let below = left-below numbered new source kept readings some placed of_texts.in_order here.0
+    let have = have-texts texts readings of_texts in
+    let below = left-below numbered new source kept texts readings some placed
+    of_texts.are_readings have here.0
     (SatisfiesEach (rules_of rules)) (SatisfiesAll rules) tells is ordered in
     record {
       left = sentence_of readings new;
       is_numbered = sentence-told texts readings of_texts new below;
       are_left = subst (λ (s : Sentence). AreLeft (rules_of rules) s (sentence_of readings new))
-          (sym here.1) (left-keeps numbered new source kept readings some placed of_texts.in_order
-          here.0
+          (sym here.1) (left-keeps numbered new source kept texts readings some placed
+          of_texts.are_readings have here.0
           (SatisfiesEach (rules_of rules)) (SatisfiesAll rules) tells is ordered);
-      spellable = named-spellable readings new.links.items of_texts.in_order below;
+      spellable = named-spellable readings new.links.items of_texts.are_readings below;
     }
 
 -- a sentence without states stays as it is

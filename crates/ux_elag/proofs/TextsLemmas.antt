@@ -1,12 +1,9 @@
 -- The readings of a table, from their texts.
-use Rattle.std.proofs.Common.{arith, ◌≡◌, ℕ, ◌<◌, List, [], ◌∷◌, refl, sym, ◌∙◌, ap, subst, length, get_or}
+use Rattle.std.proofs.Common.{arith, ◌≡◌, ℕ, ◌<◌, List, [], ◌∷◌, refl, sym, ◌∙◌, ap, length, get_or}
 use Rattle.std.specs.Prelude.{All, Some, map, slice_get}
 use Rattle.std.specs.List.{AllZip}
-use Rattle.std.specs.Ordering.{nat_cmp}
-use Rattle.std.specs.Cmp.Lexicographic.{slice_cmp}
-use Rattle.std.proofs.lemmas.List.{get_or-map, get_or_default, length-map}
+use Rattle.std.proofs.lemmas.List.{get_or-map, length-map}
 use Rattle.std.proofs.lemmas.List.Elements.{All-cons, All-head, All-nil, All-tail}
-use Rattle.std.proofs.lemmas.Map.Keys.{Less-from_sorted}
 use Rattle.std.proofs.lemmas.Option.{get_or_from_slice_get, slice_get-get_or, slice_get_within}
 use Rattle.ux_sentence.specs.declared.sentence.Reading.{Reading}
 use Rattle.ux_sentence.specs.declared.sentence.Reading.TheVariants.{Raw}
@@ -19,15 +16,14 @@ use Rattle.ux_sentence.proofs.ReadingLemmas.{spelled_once}
 use Rattle.ux_reading_table.specs.Numbered.{AreTexts, IsNumberedBy, IsReadingText, IsTold}
 use Rattle.ux_reading_table.specs.declared.numbered.NumberedLink.{NumberedLink}
 use Rattle.ux_reading_table.specs.declared.numbered.NumberedSentence.{NumberedSentence}
-use Rattle.ux_elag.specs.Left.{IsTextBefore}
-use Rattle.ux_elag.specs.Numbers.{AreBelow, AreReadings, link_of, reading_at, sentence_of}
+use Rattle.ux_elag.specs.Numbers.{AreBelow, AreReadings, HaveTexts, link_of, reading_at, sentence_of}
 use Rattle.ux_elag.specs.Prepared.{HasText}
 use Rattle.ux_elag.proofs.NumberedLemmas.{same_link, same_sentence}
 
 -- the readings are those of these texts
 pub record AreReadingsOf (texts : List (List ℕ)) (readings : List Reading) : Type 0 where
   pub texts_are : map reading_text readings ≡ texts
-  pub in_order : AreReadings readings
+  pub are_readings : AreReadings readings
 
 -- readings that can be spelled, of texts
 said : (texts : List (List ℕ)) → All IsReadingText texts →
@@ -54,7 +50,7 @@ counted : (texts : List (List ℕ)) (readings : List Reading) → map reading_te
     length readings ≡ length texts
 counted texts readings are = sym (length-map readings reading_text) ∙ ap length are
 
--- the readings of texts in order
+-- the readings of different texts
 pub readings_of : (texts : List (List ℕ)) → AreTexts texts →
     (readings : List Reading) × AreReadingsOf texts readings
 readings_of texts are =
@@ -63,21 +59,11 @@ readings_of texts are =
       found.0,
       record {
         texts_are = found.1;
-        in_order = record {
-          rise = λ i j d lt lj.
-              let li : i < length found.0 = omega (arith, lt, lj) in
-              let inside : j < length texts = omega (arith, lj, count) in
-              let less = Less-from_sorted (slice_cmp nat_cmp) texts i j [] are.in_order lt inside in
-              subst (λ (r : Reading). IsTextBefore (reading_text r)
-              (reading_text (get_or found.0 j d)))
-              (get_or_default found.0 i (Raw []) d li)
-              (subst (λ (r : Reading). IsTextBefore (reading_text (reading_at found.0 i))
-              (reading_text r))
-              (get_or_default found.0 j (Raw []) d lj)
-              (subst (λ (t : List ℕ). IsTextBefore t (reading_text (reading_at found.0 j)))
-              (text-at texts found.0 found.1 i li)
-              (subst (λ (t : List ℕ). IsTextBefore (get_or texts i []) t)
-              (text-at texts found.0 found.1 j lj) less)));
+        are_readings = record {
+          different = λ number other lt lo same. are.different number other
+              (omega (arith, lt, count)) (omega (arith, lo, count))
+              (text-at texts found.0 found.1 number lt
+              ∙ (same ∙ sym (text-at texts found.0 found.1 other lo)));
           spellable = found.2;
         };
       },
@@ -88,12 +74,15 @@ module _ (texts : List (List ℕ)) (readings : List Reading) (are : AreReadingsO
     pub readings-count : length readings ≡ length texts
     readings-count = counted texts readings are.texts_are
 
+    pub have-texts : HaveTexts texts readings
+    have-texts number lt = text-at texts readings are.texts_are number lt
+
     -- each reading has its text
     pub reading-text : (number : ℕ) → number < length readings →
         HasText texts number (reading_at readings number)
     reading-text number lt =
         let count = readings-count in record {
-          spellable = are.in_order.spellable number (Raw []) lt;
+          spellable = are.are_readings.spellable number (Raw []) lt;
           text = slice_get-get_or texts number [] (omega (arith, lt, count))
               ∙ ap Some (text-at texts readings are.texts_are number lt);
         }
@@ -108,7 +97,7 @@ module _ (texts : List (List ℕ)) (readings : List Reading) (are : AreReadingsO
         let lt : number < length readings = omega (arith, inside, count) in (
           lt,
           spelled_once reading (reading_at readings number) spellable
-              (are.in_order.spellable number (Raw []) lt)
+              (are.are_readings.spellable number (Raw []) lt)
               (sym (get_or_from_slice_get texts number (reading_text reading) [] text)
               ∙ text-at texts readings are.texts_are number lt),
         )

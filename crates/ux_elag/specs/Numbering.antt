@@ -6,13 +6,14 @@ use Rattle.ux_sentence.specs.declared.sentence.Link.{Link}
 use Rattle.ux_sentence.specs.declared.sentence.Sentence.{Sentence}
 use Rattle.ux_reading_table.specs.declared.numbered.NumberedSentence.{NumberedSentence}
 use Rattle.ux_reading_table.specs.Numbered.{text_of}
-use Rattle.ux_elag.specs.Numbers.{AreBelow, AreReadings, sentence_of}
+use Rattle.ux_elag.specs.Numbers.{AreBelow, AreReadings, HaveTexts, sentence_of}
 
--- the numbered sentence stands for the sentence, by these readings
-pub record IsNumbered (sentence : Sentence) (readings : List Reading)
+-- the numbered sentence stands for the sentence, by these readings, which have these texts
+pub record IsNumbered (sentence : Sentence) (texts : List (List ℕ)) (readings : List Reading)
     (numbered : NumberedSentence) : Type 0 where
   pub is : sentence ≡ sentence_of readings numbered
-  pub in_order : AreReadings readings
+  pub are_readings : AreReadings readings
+  pub texts_are : HaveTexts texts readings
   pub below : AreBelow (length readings) numbered.links.items
 
 -- the link with the index

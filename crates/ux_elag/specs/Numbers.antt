@@ -2,6 +2,9 @@
 -- own functions alone speak of it.
 use Rattle.std.specs.Prelude.{◌≡◌, ℕ, ◌+◌, ◌-◌, ◌<◌, ◌≤◌, ◌↔◌, ◌⊎◌, List, [], ◌∷◌, All, AllPairs, Contains, IfNone, IfSome, None, Option, Some, flat_map, get_or, length, map}
 use Rattle.std.specs.List.Sorted.{IsStrictlyIncreasing}
+use Rattle.std.specs.Ordering.{nat_cmp, ordering_then}
+use Rattle.std.specs.Cmp.Lexicographic.{slice_cmp}
+use Rattle.std.specs.declared.cmp.Ordering.{Ordering}
 use Rattle.ux_sentence.specs.declared.sentence.Reading.{Reading}
 use Rattle.ux_sentence.specs.declared.sentence.Reading.TheVariants.{Raw}
 use Rattle.ux_sentence.specs.declared.sentence.Link.{Link}
@@ -35,10 +38,11 @@ sentence_of readings sentence = record {
   links = map (link_of readings) sentence.links.items;
 }
 
--- readings in the order of their texts, none twice, each of which can be spelled
+-- readings whose texts differ, each of which can be spelled
 pub record AreReadings (readings : List Reading) : Type 0 where
-  pub rise : AllPairs (λ reading other. IsTextBefore (reading_text reading) (reading_text other))
-      readings
+  pub different : (number other : ℕ) → number < length readings → other < length readings →
+      reading_text (reading_at readings number) ≡ reading_text (reading_at readings other) →
+      number ≡ other
   pub spellable : All IsSpellable readings
 
 -- the numbers of the readings are below the bound
@@ -101,22 +105,43 @@ pub record IsKept (IsSo : List ℕ → Type 0) (last : ℕ) (links : List placed
   pub left : IfSome kept (λ left. IsLeft IsSo last links left.last left.links.items)
   pub nothing : IfNone kept ((word : List ℕ) → Spells links 0 last word → IsSo word → ⊥)
 
--- the one link stands before the other: by from, then by to, then by the number of the reading
-abbrev pub ComesBefore : (link other : placed.Link) → Type 0
-ComesBefore link other = (link.from < other.from) ⊎ ((link.from ≡ other.from)
-    × ((link.to < other.to) ⊎ ((link.to ≡ other.to) × (link.reading < other.reading))))
+-- the text with the number
+abbrev pub text_with : List (List ℕ) → (number : ℕ) → List ℕ
+text_with texts number = get_or texts number []
+
+-- each reading has the text with its number
+abbrev pub HaveTexts : (texts : List (List ℕ)) → List Reading → Type 0
+HaveTexts texts readings = (number : ℕ) → number < length readings →
+    text_with texts number ≡ reading_text (reading_at readings number)
+
+-- the one link stands before the other: by from, then by to, then by the text of the reading, and
+-- last by its number
+abbrev pub ComesBefore : (texts : List (List ℕ)) → (link other : placed.Link) → Type 0
+ComesBefore texts link other = (link.from < other.from) ⊎ ((link.from ≡ other.from)
+    × ((link.to < other.to) ⊎ ((link.to ≡ other.to)
+    × (IsTextBefore (text_with texts link.reading) (text_with texts other.reading)
+    ⊎ ((text_with texts link.reading ≡ text_with texts other.reading)
+    × (link.reading < other.reading))))))
+
+-- compared in this order
+abbrev pub link_cmp : (texts : List (List ℕ)) → (link other : placed.Link) → Ordering
+link_cmp texts link other = ordering_then (nat_cmp link.from other.from)
+    (ordering_then (nat_cmp link.to other.to)
+    (ordering_then
+    (slice_cmp nat_cmp (text_with texts link.reading) (text_with texts other.reading))
+    (nat_cmp link.reading other.reading)))
 
 -- the link of a sentence that leads as this one does
 abbrev pub told : placed.Link → NumberedLink
 told link = record { from = link.from; to = link.to; reading = link.reading }
 
--- the links of the sentence are these, in the order of their numbers, none twice
-pub record IsOrderedBy (number : ℕ) (automaton : Automaton) (sentence : NumberedSentence) :
-    Type 0 where
+-- the links of the sentence are these, in the order of their texts, none twice
+pub record IsOrderedBy (texts : List (List ℕ)) (number : ℕ) (automaton : Automaton)
+    (sentence : NumberedSentence) : Type 0 where
   pub number_is : sentence.number ≡ number
   pub states_are : sentence.states ≡ automaton.last + 1
   pub sorted : List placed.Link
-  pub rising : AllPairs ComesBefore sorted
+  pub rising : AllPairs (ComesBefore texts) sorted
   pub same : (link : placed.Link) → Contains sorted link ↔ Contains automaton.links.items link
   pub links_are : sentence.links.items ≡ map told sorted
 
@@ -127,6 +152,7 @@ pub record IsEmpty (number : ℕ) (sentence : NumberedSentence) : Type 0 where
   pub no_links : sentence.links.items ≡ []
 
 -- the sentence of what is kept
-abbrev pub IsOrdered : (number : ℕ) → Option Automaton → NumberedSentence → Type 0
-IsOrdered number None sentence = IsEmpty number sentence
-IsOrdered number (Some automaton) sentence = IsOrderedBy number automaton sentence
+abbrev pub IsOrdered : (texts : List (List ℕ)) → (number : ℕ) → Option Automaton →
+    NumberedSentence → Type 0
+IsOrdered texts number None sentence = IsEmpty number sentence
+IsOrdered texts number (Some automaton) sentence = IsOrderedBy texts number automaton sentence

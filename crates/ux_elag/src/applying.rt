@@ -22,8 +22,12 @@ pub fn apply(alloc: Global, sentence: &Sentence, rule: &mut ReadyRule) -> Mem<Se
     ensures spellable { IfOk result (λ left. All HasSpellable left.links) }
     ensures same { rule.new ≡ rule.old }
 {
-    let Numbered { readings, sentence } = number(alloc, sentence)?;
-    let left = rule.leave(alloc, readings.as_slice(), &sentence)?;
+    let Numbered {
+        texts,
+        readings,
+        sentence,
+    } = number(alloc, sentence)?;
+    let left = rule.leave(alloc, texts.as_slice(), readings.as_slice(), &sentence)?;
     named_sentence(alloc, readings.as_slice(), &left)
 }
 

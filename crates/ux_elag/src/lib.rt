@@ -2,13 +2,13 @@
 //!
 //! A sentence goes in, and a sentence comes out that spells exactly those of its reading lists that
 //! satisfy the rules, each by one path. All work is done on numbers: a reading is its place among
-//! readings in the order of their texts, so that links in the order of their numbers are in the
-//! order in which they are printed.
+//! different readings. Texts are compared at the end alone, to put the links that lead from one
+//! state to one other in the order in which they are printed.
 //!
 //! ```text
 //! sentence --number--> readings, numbered sentence     (or read so from a file, beside a table)
 //! numbered sentence --place_states--> links between places --keep_satisfying, rule by rule-->
-//! links that are left --order--> numbered sentence --name--> sentence
+//! links that are left --in_text_order--> numbered sentence --name--> sentence
 //! ```
 //!
 //! The automaton that comes out is determinised from its end (Brzozowski's construction without its
@@ -33,6 +33,7 @@ pub mod prepared;
 mod prepared_rule;
 mod ranks;
 pub mod ready;
+mod text_order;
 
 pub use applying::{apply, has_path};
 pub use prepared::PreparedRules;

@@ -1,23 +1,24 @@
 //! What is kept, as a numbered sentence, and the sentence for which a numbered one stands.
 
-ghost use Rattle.std.specs.Prelude.{◌≡◌, ◌↔◌, ◌<◌, ◌+◌, [], ℕ, All, IfOk, Option, map, length};
-ghost use Rattle.std.specs.List.Sorted.{IsStrictlySortedBy};
+ghost use Rattle.std.specs.Prelude.{◌≡◌, ◌<◌, IfOk, map, length};
 ghost use Rattle.ux_elag.specs.Numbers.{AreBelow, IsEmpty, IsOrdered, link_of, sentence_of, told};
 
-use crate::ranks::in_order;
+use crate::text_order::in_text_order;
 use std::alloc::Global;
-use ux_base::{Lst, Mem, NoMemory};
+use ux_base::{Lst, Mem, NoMemory, Txt};
 use ux_reading_table::{NumberedLink, NumberedSentence};
 use ux_sentence::{Link, Reading, Sentence};
 use ux_subsets::{Automaton, Link as PlacedLink};
 
-/// The sentence of what is kept, its links in order. Without anything it has no states.
+/// The sentence of what is kept, its links in the order of their texts. Without anything it has no
+/// states.
 pub(crate) fn ordered_sentence(
     alloc: Global,
     number: u32,
     kept: Option<Automaton>,
+    texts: &[Txt],
 ) -> Mem<NumberedSentence>
-    ensures { IfOk result (IsOrdered number kept) }
+    ensures { IfOk result (IsOrdered texts.now number kept) }
 {
     let Some(automaton) = kept else {
         return Ok(without_states(alloc, number));
@@ -26,7 +27,7 @@ pub(crate) fn ordered_sentence(
     let Some(states) = (last as u64).checked_add(1) else {
         return Err(NoMemory);
     };
-    let links = in_order(links);
+    let links = in_text_order(links, texts);
     Ok(NumberedSentence {
         number,
         states,

@@ -1,7 +1,6 @@
 //! The readings of a sentence by their places in a list.
 //!
-//! The readings stand in the order in which they are printed, so that the order of numbers is that
-//! of texts.
+//! The readings stand in the order of their texts.
 
 ghost use Rattle.std.specs.Prelude.{◌≡◌, ◌↔◌, ◌<◌, ◌≤◌, ◌^◌, [], ℕ, All, Contains, IfOk, length, map, get_or};
 ghost use Rattle.std.specs.List.Sorted.{IsStrictlySortedBy};
@@ -21,7 +20,9 @@ use ux_sentence::{Link, Reading, Sentence, print_reading};
 /// A sentence, its readings by their places.
 #[derive(Drop)]
 pub(crate) struct Numbered {
-    /// The different readings, in the order of their texts.
+    /// The texts of the different readings, in order.
+    pub texts: Vec<Txt>,
+    /// The readings, in the order of their texts.
     pub readings: Vec<Reading>,
     /// The sentence, with the places of its readings.
     pub sentence: NumberedSentence,
@@ -30,8 +31,8 @@ pub(crate) struct Numbered {
 /// The sentence, its readings by their places.
 pub(crate) fn number(alloc: Global, sentence: &Sentence) -> Mem<Numbered>
     requires { All HasSpellable sentence.now.links }
-    ensures { IfOk result (λ numbered. IsNumbered sentence.now numbered.readings.items
-        numbered.sentence) }
+    ensures { IfOk result (λ numbered. IsNumbered sentence.now numbered.texts.items
+        numbered.readings.items numbered.sentence) }
 {
     let links = sentence.links.as_slice();
     let texts = in_order(texts_of(alloc, links)?);
@@ -43,6 +44,7 @@ pub(crate) fn number(alloc: Global, sentence: &Sentence) -> Mem<Numbered>
     let readings = readings_of(alloc, links, shown.as_slice())?;
     let links = numbered_links(alloc, links, places.as_slice())?;
     Ok(Numbered {
+        texts,
         readings,
         sentence: NumberedSentence {
             number: sentence.number,

@@ -85,7 +85,7 @@ impl<'a> PreparedRules<'a> {
         }
         let source = place_states(alloc, sentence)?;
         let kept = keep_each(alloc, self.rules.as_mut_slice(), source)?;
-        ordered_sentence(alloc, sentence.number, kept)
+        ordered_sentence(alloc, sentence.number, kept, self.texts)
     }
 
     /// The texts of the readings, by number.

@@ -2,7 +2,7 @@
 
 ghost use Rattle.std.specs.Prelude.{◌≡◌, ◌<◌, ◌^◌, [], ◌∷◌, All, IfOk, length};
 ghost use Rattle.ux_elag.specs.Left.{IsLeft};
-ghost use Rattle.ux_elag.specs.Numbers.{AreBelow, AreReadings, IsFormed, sentence_of};
+ghost use Rattle.ux_elag.specs.Numbers.{AreBelow, AreReadings, HaveTexts, IsFormed, sentence_of};
 ghost use Rattle.ux_elag.specs.Prepared.{IsFresh};
 ghost use Rattle.ux_elag.specs.Ready.{IsMonitorOf, numbered_steps};
 ghost use Rattle.ux_elag.specs.Ready as specs;
@@ -13,7 +13,7 @@ use crate::placing::place_states;
 use crate::prepared_rule::PreparedRule;
 use std::alloc::Global;
 use std::marker::Model;
-use ux_base::{Mem, NoMemory};
+use ux_base::{Mem, NoMemory, Txt};
 use ux_monitor::{Monitor, Sign as NumberedSign, Step as NumberedStep, keep_satisfying};
 use ux_reading_table::NumberedSentence;
 use ux_rules::{Rule, Sign, Step};
@@ -58,15 +58,17 @@ impl ReadyRule {
         }
     }
 
-    /// What the rule leaves of the sentence, which numbers these readings.
+    /// What the rule leaves of the sentence, which numbers these readings, which have these texts.
     pub(crate) fn leave(
         &mut self,
         alloc: Global,
+        texts: &[Txt],
         readings: &[Reading],
         sentence: &NumberedSentence,
     ) -> Mem<NumberedSentence>
         requires formed { IsFormed sentence.now }
         requires readings { AreReadings readings.now }
+        requires texts { HaveTexts texts.now readings.now }
         requires below { AreBelow (length readings.now) sentence.now.links.items }
         ensures same { self.new ≡ self.old }
         ensures below { IfOk result (λ left. AreBelow (length readings.now) left.links.items) }
@@ -85,7 +87,7 @@ impl ReadyRule {
             source.links.as_slice(),
             source.last,
         )?;
-        ordered_sentence(alloc, sentence.number, kept)
+        ordered_sentence(alloc, sentence.number, kept, texts)
     }
 }
 

@@ -4,5 +4,4 @@ pub mod NextLemmas
 pub mod NotingLemmas
 pub mod PlacesLemmas
 pub mod PrintedLemmas
-pub mod RanksLemmas
 pub mod TableLemmas

@@ -1,7 +1,8 @@
 -- Texts in a set, and what is noted of them.
-use Rattle.std.proofs.Common.{◌≡◌, ℕ, ◌<◌, Bool, true, false, cond, List, [], ◌∷◌, ◌++◌, Bor, map, length, get_or, Option, None, Some, inl, inr, refl, sym, ◌∙◌, ap, subst}
-use Rattle.std.specs.Prelude.{Contains, IfSome, slice_get, position}
-use Rattle.std.specs.List.{AllZip, list_any}
+use lib.Pointwise.{bytes_decides, pointwise}
+use Rattle.std.proofs.Common.{arith, ◌≡◌, ℕ, zero, suc, ◌<◌, Bool, true, false, cond, List, [], ◌∷◌, ◌++◌, Bor, map, length, get_or, Option, None, Some, inl, inr, refl, sym, ◌∙◌, ap, subst}
+use Rattle.std.specs.Prelude.{Contains, IfSome, nat_eq, slice_get, position}
+use Rattle.std.specs.List.{AllZip, IsDistinct, list_any}
 use Rattle.std.specs.Str.{bytes_eq}
 use Rattle.std.specs.Cmp.Lexicographic.{same_text}
 use Rattle.std.specs.Option.{option_map}
@@ -9,16 +10,20 @@ use Rattle.std.proofs.lemmas.Slice.Eq.{bytes_eq-Decides}
 use Rattle.std.proofs.lemmas.List.{length-map, map-append}
 use Rattle.std.proofs.Math.ListN.{get_or-map}
 use Rattle.std.proofs.lemmas.List.Folds.{list_any_at, Any-from_list_any}
-use Rattle.std.proofs.lemmas.List.Elements.{AllZip-push, Contains-push, Contains-push_cases, Contains-append_left}
+use Rattle.std.proofs.lemmas.Slice.Zip.{all_zipped_more}
+use Rattle.std.proofs.lemmas.List.Elements.{Contains-push, Contains-push_cases, Contains-append_left}
 use Rattle.std.proofs.lemmas.List.Quantifiers.{position-Some}
-use Rattle.std.proofs.lemmas.Option.{slice_get-map, slice_get-get_or}
-use Rattle.ux_base.proofs.Lists.{nothing_in, first_or_later, contains_first, contains_later}
+use Rattle.std.proofs.lemmas.Bool.{false≢true}
+use Rattle.std.proofs.lemmas.Map.Keys.{apart_from_distinct}
+use Rattle.std.proofs.lemmas.Option.{get_or_from_slice_get, slice_get-map, slice_get-get_or, slice_get_within}
+use Rattle.ux_base.proofs.Lists.{nothing_in, first_or_later, less_or}
 use Rattle.ux_base.proofs.JoinedLists.{contains_mapped}
 use Rattle.indexmap.specs.IndexSet.{insert_key}
 use Rattle.ux_sentence.specs.declared.sentence.Reading.{Reading}
 use Rattle.ux_sentence.specs.Readings.{IsReading}
 use Rattle.ux_sentence.specs.Written.{reading_text}
-use Rattle.ux_reading_table.specs.Noting.{AddsText, IsSpelling, NotesText}
+use Rattle.ux_reading_table.specs.Noting.{AddsText, IsNumbered, IsSpelling, KeepsPlaces, NotesText}
+use Rattle.ux_reading_table.specs.Numbered.{AreDifferent, IsPlaceOfText}
 
 -- the texts of slices
 abbrev pub texts_of : List (Bor (List ℕ)) → List (List ℕ)
@@ -72,23 +77,30 @@ texts_of-insert slices text none = by (list_any (is_text text.now) slices) refl
         ap (λ (b : Bool). texts_of (cond b slices (slices ++ text ∷ []))) is
         ∙ map-append (λ (s : Bor (List ℕ)). s.now) slices (text ∷ [])
 
--- a text that was noted says a reading, whose printed text was noted with it
-pub noted_reading : (spelled printed : List (List ℕ)) (text : List ℕ) →
-    AllZip IsSpelling spelled printed → Contains spelled text →
-    (reading : Reading) × IsReading text reading × Contains printed (reading_text reading)
-noted_reading [] printed text are has = absurd (nothing_in has)
-noted_reading (x ∷ spelled) [] text are has = absurd are
-noted_reading (x ∷ spelled) (y ∷ printed) text are has =
+-- a text with a place is there
+placed_there : (texts : List (List ℕ)) (text : List ℕ) (place : ℕ) →
+    IsPlaceOfText texts text place → Contains texts text
+placed_there texts text place at = (
+  place,
+  slice_get_within texts place text at,
+  get_or_from_slice_get texts place text text at,
+)
+
+-- a text that was noted says a reading, whose printed text was noted too
+noted_reading : (texts spelled : List (List ℕ)) (numbers : List ℕ) (text : List ℕ) →
+    AllZip (IsNumbered texts) spelled numbers → Contains spelled text →
+    (reading : Reading) × IsReading text reading × Contains texts (reading_text reading)
+noted_reading texts [] numbers text are has = absurd (nothing_in has)
+noted_reading texts (x ∷ spelled) [] text are has = absurd are
+noted_reading texts (x ∷ spelled) (number ∷ numbers) text are has =
     elim (first_or_later x spelled text has) [
       | inl here ↦
-          let (reading, is, shown) = are.0 in (
+          let (reading, is, at) = are.0 in (
             reading,
             subst (λ (t : List ℕ). IsReading t reading) here is,
-            subst (Contains (y ∷ printed)) shown (contains_first y printed),
+            placed_there texts (reading_text reading) number at,
           )
-      | inr later ↦
-          let (reading, is, there) = noted_reading spelled printed text are.1 later in
-          (reading, is, contains_later y printed (reading_text reading) there)
+      | inr later ↦ noted_reading texts spelled numbers text are.1 later
     ]
 
 -- nothing is added where the text was there
@@ -116,28 +128,109 @@ AddsText-push texts text one = (
 )
 
 -- a text that was noted
-pub notes_known : (spelled printed : List (List ℕ)) (text : List ℕ) →
-    AllZip IsSpelling spelled printed → Contains spelled text → NotesText true printed text printed
-notes_known spelled printed text are has =
-    let (reading, is, there) = noted_reading spelled printed text are has in
-    (reading, is, AddsText-there printed (reading_text reading) there)
+pub notes_known : (texts spelled : List (List ℕ)) (numbers : List ℕ) (text : List ℕ) →
+    AllZip (IsNumbered texts) spelled numbers → Contains spelled text →
+    NotesText true texts text texts
+notes_known texts spelled numbers text are has =
+    let (reading, is, there) = noted_reading texts spelled numbers text are has in
+    (reading, is, AddsText-there texts (reading_text reading) there)
 
 -- a new text
-pub notes_new : (printed new : List (List ℕ)) (text shown : List ℕ) → IsSpelling text shown →
-    new ≡ printed ++ shown ∷ [] → NotesText true printed text new
-notes_new printed new text shown (reading, is, same) added = (
-  reading,
-  is,
-  subst (AddsText printed (reading_text reading)) (sym added)
-      (subst (λ (t : List ℕ). AddsText printed t (printed ++ shown ∷ [])) same
-      (AddsText-push printed shown)),
-)
+pub notes_new : (texts new : List (List ℕ)) (text shown : List ℕ) → IsSpelling text shown →
+    AddsText texts shown new → NotesText true texts text new
+notes_new texts new text shown (reading, is, same) added =
+    (reading, is, subst (λ (t : List ℕ). AddsText texts t new) same added)
 
-pub noted_more : (spelled printed more new : List (List ℕ)) (text shown : List ℕ) →
-    AllZip IsSpelling spelled printed → IsSpelling text shown → more ≡ spelled ++ text ∷ [] →
-    new ≡ printed ++ shown ∷ [] → AllZip IsSpelling more new
-noted_more spelled printed more new text shown are is longer added =
-    rw (longer, added) (AllZip-push IsSpelling spelled printed text shown are is)
+-- readings that were numbered are so still
+numbered_still : (texts new spelled : List (List ℕ)) (numbers : List ℕ) → KeepsPlaces texts new →
+    AllZip (IsNumbered texts) spelled numbers → AllZip (IsNumbered new) spelled numbers
+numbered_still texts new [] [] kept are = tt
+numbered_still texts new [] (number ∷ numbers) kept are = absurd are
+numbered_still texts new (x ∷ spelled) [] kept are = absurd are
+numbered_still texts new (x ∷ spelled) (number ∷ numbers) kept are =
+    let (reading, is, at) = are.0 in (
+      (reading, is, kept number (reading_text reading) at),
+      numbered_still texts new spelled numbers kept are.1,
+    )
+
+-- and the reading of one more text
+pub numbered_more : (texts new spelled more : List (List ℕ)) (numbers longer : List ℕ)
+    (text shown : List ℕ) (number : ℕ) → AllZip (IsNumbered texts) spelled numbers →
+    KeepsPlaces texts new → IsSpelling text shown → IsPlaceOfText new shown number →
+    more ≡ spelled ++ text ∷ [] → longer ≡ numbers ++ number ∷ [] →
+    AllZip (IsNumbered new) more longer
+numbered_more texts new spelled more numbers longer text shown number are kept (reading, is, same)
+    at added grown =
+    rw (added, grown)
+    (all_zipped_more (IsNumbered new) spelled numbers text number
+    (numbered_still texts new spelled numbers kept are)
+    (reading, is, subst (λ (t : List ℕ). IsPlaceOfText new t number) same at))
+
+-- places stay where one more text comes
+KeepsPlaces-push : (texts : List (List ℕ)) (text : List ℕ) → KeepsPlaces texts (texts ++ text ∷ [])
+KeepsPlaces-push [] text place one at = cc
+KeepsPlaces-push (x ∷ texts) text zero one at = at
+KeepsPlaces-push (x ∷ texts) text (suc place) one at = KeepsPlaces-push texts text place one at
+
+-- a text that is inserted is added, and places stay
+pub inserted : (texts new : List (List ℕ)) (text : List ℕ) →
+    new ≡ insert_key (pointwise nat_eq) texts text →
+    AddsText texts text new × KeepsPlaces texts new
+inserted texts new text is = by (list_any (pointwise nat_eq text) texts) refl
+  where
+    by : (b : Bool) → list_any (pointwise nat_eq text) texts ≡ b →
+        AddsText texts text new × KeepsPlaces texts new
+    by true any =
+        let (k, one, within, at, passes) = Any-from_list_any (pointwise nat_eq text) texts any in
+        let there : Contains texts text =
+        subst (Contains texts) (sym ((bytes_decides text one).0 passes)) (k, within, at) in
+        let same : new ≡ texts =
+        is ∙ ap (λ (b : Bool). cond b texts (texts ++ text ∷ [])) any in (
+          subst (AddsText texts text) (sym same) (AddsText-there texts text there),
+          subst (KeepsPlaces texts) (sym same) (λ place one at. at),
+        )
+    by false none =
+        let more : new ≡ texts ++ text ∷ [] =
+        is ∙ ap (λ (b : Bool). cond b texts (texts ++ text ∷ [])) none in (
+          subst (AddsText texts text) (sym more) (AddsText-push texts text),
+          subst (KeepsPlaces texts) (sym more) (KeepsPlaces-push texts text),
+        )
+
+-- where it is stored, it has its place
+pub stored_at : (texts : List (List ℕ)) (text one : List ℕ) (place : ℕ) →
+    slice_get texts place ≡ Some one → pointwise nat_eq text one ≡ true →
+    IsPlaceOfText texts text place
+stored_at texts text one place at same = at ∙ ap Some (sym ((bytes_decides text one).0 same))
+
+-- no two texts of a set are the same
+pub different_texts : (texts : List (List ℕ)) → IsDistinct (pointwise nat_eq) texts →
+    AreDifferent texts
+different_texts texts distinct place other lp lo same = elim (less_or place other) [
+  | inl below ↦ absurd (false≢true
+      (sym (apart_from_distinct (pointwise nat_eq) texts place other [] distinct below lo)
+      ∙ (bytes_decides (get_or texts place []) (get_or texts other [])).1 same))
+  | inr at_least ↦ elim (less_or other place) [
+    | inl below ↦ absurd (false≢true
+        (sym (apart_from_distinct (pointwise nat_eq) texts other place [] distinct below lp)
+        ∙ (bytes_decides (get_or texts other []) (get_or texts place [])).1 (sym same)))
+    | inr at_most ↦ omega arith
+  ]
+]
+
+-- the place of a text that is found
+pub placed_if_found : (texts : List (List ℕ)) (text : List ℕ) (place : ℕ) →
+    position (pointwise nat_eq text) texts ≡ Some place → IsPlaceOfText texts text place
+placed_if_found texts text place found =
+    let at = position-Some (pointwise nat_eq text) texts place text found in
+    slice_get-get_or texts place text at.0
+    ∙ ap Some (sym ((bytes_decides text (get_or texts place text)).0 at.1))
+
+-- a text that isn't found isn't there
+pub not_there : (texts : List (List ℕ)) (text : List ℕ) →
+    list_any (pointwise nat_eq text) texts ≡ false → Contains texts text → ⊥
+not_there texts text none (place, within, is) =
+    false≢true (sym none ∙ list_any_at (pointwise nat_eq text) texts place text within
+    ((bytes_decides text (get_or texts place text)).1 (sym is)))
 
 pub found_if_some : (slices : List (Bor (List ℕ))) (text : Bor (List ℕ)) (found : Option ℕ) →
     found ≡ position (is_text text.now) slices →

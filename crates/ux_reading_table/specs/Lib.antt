@@ -1,5 +1,5 @@
+pub mod Kept
 pub mod Noted
 pub mod Noting
 pub mod Numbered
-pub mod Ranked
 pub mod Sentences

@@ -1,6 +1,6 @@
 -- How the texts of links are noted, and the sentences read by them. Inner: the crate's own
 -- functions alone speak of it.
-use Rattle.std.specs.Prelude.{◌≡◌, ◌↔◌, ◌⊎◌, ℕ, ◌+◌, ◌<◌, Bool, true, false, List, ◌∷◌, Contains, Some, length, map, slice_get}
+use Rattle.std.specs.Prelude.{◌≡◌, ◌↔◌, ◌⊎◌, ℕ, ◌+◌, ◌<◌, Bool, true, false, List, ◌∷◌, Contains, length, map}
 use Rattle.std.specs.List.{flat_map}
 use Rattle.indexmap.specs.IndexSet.{IndexSet}
 use denote.Ref.{Bor}
@@ -14,7 +14,7 @@ use Rattle.ux_sentence.specs.Readings.{IsReading}
 use Rattle.ux_sentence.specs.Written.{link_line, reading_text}
 use Rattle.ux_reading_table.specs.declared.fields.Fields.{Fields}
 use Rattle.ux_reading_table.specs.declared.numbered.NumberedLink.{NumberedLink}
-use Rattle.ux_reading_table.specs.Numbered.{IsTold, text_of, texts_in}
+use Rattle.ux_reading_table.specs.Numbered.{IsPlaceOfText, IsTold, text_of, texts_in}
 
 -- the line has these fields, and its link leads between states of its sentence
 pub record HasFields (states : ℕ) (line : List ℕ) (fields : Fields) : Type 0 where
@@ -80,19 +80,21 @@ pub record AreNotedOf (text : List ℕ) (texts : List (List ℕ)) : Type 0 where
   pub said : AreSentences text sentences
   pub same : (one : List ℕ) → Contains texts one ↔ Contains (flat_map texts_in sentences) one
 
--- the text of a reading stands at the place
-abbrev pub IsRank : (texts : List (List ℕ)) (text : List ℕ) (rank : ℕ) → Type 0
-IsRank texts text rank = slice_get texts rank ≡ Some text
+-- places of texts go on being theirs
+abbrev pub KeepsPlaces : (old new : List (List ℕ)) → Type 0
+KeepsPlaces old new =
+    (place : ℕ) (text : List ℕ) → IsPlaceOfText old text place → IsPlaceOfText new text place
 
 -- the text says a reading, and its printed text stands at the place
-abbrev pub IsRanked : (texts : List (List ℕ)) (spelled : List ℕ) (rank : ℕ) → Type 0
-IsRanked texts spelled rank =
-    (reading : Reading) × IsReading spelled reading × IsRank texts (reading_text reading) rank
+abbrev pub IsNumbered : (texts : List (List ℕ)) (spelled : List ℕ) (place : ℕ) → Type 0
+IsNumbered texts spelled place =
+    (reading : Reading) × IsReading spelled reading
+    × IsPlaceOfText texts (reading_text reading) place
 
 -- the text says a reading, whose printed text stands at the place if it is there at all
-abbrev pub IsRankIfKnown : (texts : List (List ℕ)) (spelled : List ℕ) (rank : ℕ) → Type 0
-IsRankIfKnown texts spelled rank = (reading : Reading) × IsReading spelled reading
-    × (Contains texts (reading_text reading) → IsRank texts (reading_text reading) rank)
+abbrev pub IsNumberIfKnown : (texts : List (List ℕ)) (spelled : List ℕ) (place : ℕ) → Type 0
+IsNumberIfKnown texts spelled place = (reading : Reading) × IsReading spelled reading
+    × (Contains texts (reading_text reading) → IsPlaceOfText texts (reading_text reading) place)
 
 -- the link is told, if the printed text of its reading is there at all
 abbrev pub IsToldIfKnown : (texts : List (List ℕ)) → NumberedLink → Link → Type 0

@@ -1,10 +1,7 @@
 -- Sentences whose readings are told by numbers: the places of their printed texts among those of a
 -- file. Public: the crate's public contracts speak of it.
-use Rattle.std.specs.Prelude.{◌≡◌, ◌↔◌, ℕ, List, All, Contains, Some, map, slice_get}
+use Rattle.std.specs.Prelude.{◌≡◌, ◌↔◌, ◌<◌, ℕ, List, [], All, Contains, Some, get_or, length, map, slice_get}
 use Rattle.std.specs.List.{AllZip, flat_map}
-use Rattle.std.specs.List.Sorted.{IsStrictlySortedBy}
-use Rattle.std.specs.Ordering.{nat_cmp}
-use Rattle.std.specs.Cmp.Lexicographic.{slice_cmp}
 use Rattle.ux_sentence.specs.declared.sentence.Reading.{Reading}
 use Rattle.ux_sentence.specs.declared.sentence.Link.{Link}
 use Rattle.ux_sentence.specs.declared.sentence.Sentence.{Sentence}
@@ -36,9 +33,18 @@ pub record IsNumberedBy (texts : List (List ℕ)) (sentence : Sentence)
 abbrev pub IsReadingText : List ℕ → Type 0
 IsReadingText text = (reading : Reading) × IsSpellable reading × (text ≡ reading_text reading)
 
--- printed texts of readings, in the order of their bytes, none twice
+-- the text stands at the place
+abbrev pub IsPlaceOfText : (texts : List (List ℕ)) (text : List ℕ) (place : ℕ) → Type 0
+IsPlaceOfText texts text place = slice_get texts place ≡ Some text
+
+-- no text stands at two places
+abbrev pub AreDifferent : (texts : List (List ℕ)) → Type 0
+AreDifferent texts = (place other : ℕ) → place < length texts → other < length texts →
+    get_or texts place [] ≡ get_or texts other [] → place ≡ other
+
+-- printed texts of readings, none twice
 pub record AreTexts (texts : List (List ℕ)) : Type 0 where
-  pub in_order : IsStrictlySortedBy (slice_cmp nat_cmp) texts
+  pub different : AreDifferent texts
   pub each : All IsReadingText texts
 
 -- the printed texts of the readings of the sentence's links

@@ -1,7 +1,7 @@
 //! The readings of a file of sentence automata by number, and its sentences in these numbers.
 //!
 //! A file has many links and few different readings. `ReadingTable::of` goes over the file once,
-//! reads each different text once, and numbers the readings in the order of their printed texts.
+//! reads each different text once, and numbers the readings in the order in which they come.
 //! `NumberedSentences` then reads the file sentence by sentence, each link's reading told by its
 //! number, and `print_numbered` writes such a sentence. Begin with `table`; `specs/Numbered.antt`
 //! says what these numbers are, and `proofs/CallerLemmas.antt` has what a caller's proof cites.
@@ -10,10 +10,10 @@
 //! the file             table.texts()     sentences.next(alloc, &table)
 //! #TFST 1
 //! S 1 4 4                                number 1, 4 states
-//! 0 1 he               0  dogs           0 1 1
-//! 1 2 {run,.V}         1  he             1 2 2
-//! 1 2 {run,run.V}      2  {run,.V}       1 2 2
-//! 2 3 dogs                               2 3 0
+//! 0 1 he               0  he             0 1 0
+//! 1 2 {run,.V}         1  {run,.V}       1 2 1
+//! 1 2 {run,run.V}      2  dogs           1 2 1
+//! 2 3 dogs                               2 3 2
 //!
 //! let table = ReadingTable::of(alloc, text)?;
 //! let mut sentences = NumberedSentences::open(text);
@@ -23,16 +23,14 @@
 //! ```
 //!
 //! Costs: a line of a link takes two numbers and one look-up, in `of` and in `next`, and no memory
-//! but its 24 bytes in the sentence that is read. A different reading takes some 150 bytes beside
-//! its printed text, and while the table is made its text once more. `print_numbered` takes no
-//! memory but the file's.
+//! but its 24 bytes in the sentence that is read. A different reading takes some 130 bytes beside
+//! its printed text. `print_numbered` takes no memory but the file's.
 #![tactic(auto)]
 
 mod fields;
 mod noting;
 pub mod numbered;
 pub mod printing;
-mod ranks;
 pub mod sentences;
 pub mod table;
 

@@ -1,40 +1,44 @@
 //! The texts of links, noted as they come.
 //!
-//! A text is read where it comes for the first time. Its reading is printed, and thrown away.
+//! A text is read where it comes for the first time. Readings are told apart by their printed
+//! texts, and numbered as they come.
 
-ghost use Rattle.std.specs.Prelude.{◌≡◌, ◌⊎◌, ◌↔◌, ◌++◌, ◌∷◌, [], IsTrue, IfErr, IfOk, MatchOption, OnOk, Contains};
+ghost use Rattle.std.specs.Prelude.{◌≡◌, ◌⊎◌, ◌↔◌, ◌++◌, ◌∷◌, ◌<◌, ◌^◌, [], IsTrue, IfErr, IfOk, MatchOption, OnOk, Contains, length};
 ghost use Rattle.ux_sentence.specs.Files.{LinkSays, RefusesLink};
 ghost use Rattle.ux_sentence.specs.Readings.{IsReading};
-ghost use Rattle.ux_sentence.specs.declared.error.SentenceError.TheVariants.{NoMemory};
+ghost use Rattle.ux_sentence.specs.declared.error.SentenceError.TheVariants.{NoMemory as OutOfMemory};
 ghost use Rattle.ux_sentence.specs.declared.sentence.Link.{Link as LinkRecord};
 ghost use Rattle.ux_sentence.specs.declared.sentence.Reading.{Reading as ReadingRecord};
 ghost use Rattle.ux_reading_table.specs.Noted.{AreNoted};
-ghost use Rattle.ux_reading_table.specs.Noting.{AddsText, IsSpelling, NotesText, spellings};
-ghost use Rattle.ux_reading_table.specs.Numbered.{text_of};
+ghost use Rattle.ux_reading_table.specs.Noting.{AddsText, IsSpelling, KeepsPlaces, NotesText, spellings};
+ghost use Rattle.ux_reading_table.specs.Numbered.{AreDifferent, IsPlaceOfText, text_of};
 
 use crate::fields::fields_of;
 use indexmap::IndexSet;
 use std::alloc::Global;
-use ux_base::{Mem, Txt};
+use ux_base::{Mem, NoMemory, Txt};
 use ux_sentence::{SentenceError, print_reading, read_reading};
 
-/// The different texts so far that say readings.
+/// The different texts so far that say readings, and these readings by number.
 #[derive(Drop)]
 pub(crate) struct Noted<'a> {
     /// The texts, as they are spelled in the file.
     pub spelled: IndexSet<&'a str>,
-    /// For each the printed text of its reading, in the same order.
-    pub printed: Vec<Txt>,
+    /// For each the number of its reading, in the same order.
+    pub numbers: Vec<u32>,
+    /// The printed texts of the readings, by number.
+    pub printed: IndexSet<Txt>,
 }
 
 /// No text.
 pub(crate) fn nothing_noted<'a>(alloc: Global) -> Noted<'a>
     ensures noted { AreNoted result }
-    ensures none { result.printed.items ≡ [] }
+    ensures none { result.printed.keys ≡ [] }
 {
     Noted {
         spelled: IndexSet::new(alloc),
-        printed: Vec::new(alloc),
+        numbers: Vec::new(alloc),
+        printed: IndexSet::new(alloc),
     }
 }
 
@@ -49,9 +53,9 @@ pub(crate) fn note_link<'a>(
     requires { AreNoted noted.old }
     ensures noted { OnOk result (AreNoted noted.new) }
     ensures ok { OnOk result ((link : LinkRecord) × LinkSays states line.now link
-        × AddsText noted.old.printed.items (text_of link) noted.new.printed.items) }
+        × AddsText noted.old.printed.keys (text_of link) noted.new.printed.keys) }
     ensures err { IfErr result (λ error.
-        (error ≡ NoMemory) ⊎ RefusesLink states line.now number error) }
+        (error ≡ OutOfMemory) ⊎ RefusesLink states line.now number error) }
 {
     let Some(fields) = fields_of(line, states) else {
         return Err(SentenceError::BadEdge { line: number });
@@ -70,7 +74,7 @@ fn note<'a>(alloc: Global, noted: &mut Noted<'a>, text: &'a str) -> Mem<bool>
     requires { AreNoted noted.old }
     ensures noted { OnOk result (AreNoted noted.new) }
     ensures says { IfOk result (λ says.
-        NotesText says noted.old.printed.items text.now noted.new.printed.items) }
+        NotesText says noted.old.printed.keys text.now noted.new.printed.keys) }
 {
     if is_known(&noted.spelled, text) {
         return Ok(true);
@@ -78,9 +82,25 @@ fn note<'a>(alloc: Global, noted: &mut Noted<'a>, text: &'a str) -> Mem<bool>
     let Some(printed) = printed_of(alloc, text)? else {
         return Ok(false);
     };
-    noted.printed.push(printed)?;
+    let number = number_of(&mut noted.printed, printed)?;
+    noted.numbers.push(number)?;
     add(&mut noted.spelled, text)?;
     Ok(true)
+}
+
+/// The number of the text, which is the next one if it has none.
+fn number_of(texts: &mut IndexSet<Txt>, text: Txt) -> Mem<u32>
+    ensures number { IfOk result (IsPlaceOfText texts.new.keys text) }
+    ensures kept { OnOk result (KeepsPlaces texts.old.keys texts.new.keys) }
+    ensures added { OnOk result (AddsText texts.old.keys text texts.new.keys) }
+    ensures different { OnOk result (AreDifferent texts.new.keys) }
+    ensures few { OnOk result (length texts.new.keys < 2 ^ 32) }
+{
+    let (number, _is_new) = texts.insert_full(text)?;
+    if texts.len() > u32::MAX as usize {
+        return Err(NoMemory);
+    }
+    Ok(number as u32)
 }
 
 /// The printed text of the reading that the text says, or nothing where it says none.

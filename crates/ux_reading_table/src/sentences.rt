@@ -181,7 +181,7 @@ impl<'a> NumberedSentences<'a> {
         requires { AreNoted noted.old }
         ensures noted { OnOk result (AreNoted noted.new) }
         ensures ok { IfOk result (λ more. NotesSentence more self.old self.new
-            noted.old.printed.items noted.new.printed.items) }
+            noted.old.printed.keys noted.new.printed.keys) }
         ensures err { IfErr result (λ error. (error ≡ OutOfMemory) ⊎ Stops self.old error) }
     {
         let Some(opening) = self.opening()? else {
@@ -208,7 +208,7 @@ impl<'a> NumberedSentences<'a> {
         ensures noted { OnOk result (AreNoted noted.new) }
         ensures ok { OnOk result ((links : List LinkRecord)
             × ReadsLinks states count self.old links self.new
-            × AddsTexts noted.old.printed.items (map text_of links) noted.new.printed.items) }
+            × AddsTexts noted.old.printed.keys (map text_of links) noted.new.printed.keys) }
         ensures err { IfErr result (λ error. (error ≡ OutOfMemory)
             ⊎ RefusesLinks states count self.old.lines (self.old.passed + 1) error) }
     {
@@ -229,7 +229,7 @@ impl<'a> NumberedSentences<'a> {
         ensures noted { OnOk result (AreNoted noted.new) }
         ensures ok { OnOk result ((line : List ℕ) × (link : LinkRecord)
             × IsPast line self.old self.new × LinkSays states line link
-            × AddsText noted.old.printed.items (text_of link) noted.new.printed.items) }
+            × AddsText noted.old.printed.keys (text_of link) noted.new.printed.keys) }
         ensures err { IfErr result (λ error. (error ≡ OutOfMemory)
             ⊎ RefusesNext states self.old.lines (self.old.passed + 1) error) }
     {

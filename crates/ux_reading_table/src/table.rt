@@ -1,14 +1,10 @@
 //! The different readings of a file of sentence automata, by number.
 //!
-//! A reading is known by its printed text, and its number is the place of this text in the order
-//! of bytes. One reading may be spelled in several ways in a file, as `{run,run.V}` and `{run,.V}`:
-//! all of them have one number. Texts are looked up as they are spelled, so that none is read twice.
+//! A reading is known by its printed text. Readings are numbered in the order in which they come
+//! in the file. One reading may be spelled in several ways, as `{run,run.V}` and `{run,.V}`: all of
+//! them have one number. Texts are looked up as they are spelled, so that none is read twice.
 
-ghost use Rattle.std.specs.Prelude.{◌≡◌, ◌⊎◌, ◌↔◌, ◌<◌, ◌^◌, ℕ, List, All, Contains, Some, IfErr, IfOk, IfSome, MatchOption, length, slice_get};
-ghost use Rattle.std.specs.List.{AllZip};
-ghost use Rattle.std.specs.List.Sorted.{IsStrictlySortedBy};
-ghost use Rattle.std.specs.Ordering.{nat_cmp};
-ghost use Rattle.std.specs.Cmp.Lexicographic.{slice_cmp};
+ghost use Rattle.std.specs.Prelude.{◌≡◌, ◌⊎◌, ◌<◌, ◌^◌, Contains, Some, IfErr, IfOk, IfSome, MatchOption, length, slice_get};
 ghost use Rattle.ux_sentence.specs.Files.{LinkSays, Refuses, RefusesLink};
 ghost use Rattle.ux_sentence.specs.Readings.{IsReading, IsSpellable};
 ghost use Rattle.ux_sentence.specs.Written.{reading_text};
@@ -17,55 +13,63 @@ ghost use Rattle.ux_sentence.specs.declared.error.SentenceError.TheVariants.{NoM
 ghost use Rattle.ux_sentence.specs.declared.sentence.Link.{Link as LinkRecord};
 ghost use Rattle.ux_sentence.specs.declared.sentence.Reading.{Reading as ReadingRecord};
 ghost use Rattle.ux_reading_table.specs.Noted.{AreNoted};
-ghost use Rattle.ux_reading_table.specs.Noting.{AreNotedOf, IsRank, IsRankIfKnown, IsToldIfKnown, spellings};
-ghost use Rattle.ux_reading_table.specs.Numbered.{AreTexts, IsReadingText, IsTableOf};
+ghost use Rattle.ux_reading_table.specs.Noting.{AreNotedOf, IsNumberIfKnown, IsToldIfKnown, spellings};
+ghost use Rattle.ux_reading_table.specs.Numbered.{IsPlaceOfText, IsTableOf};
 
 use crate::fields::fields_of;
 use crate::noting::{Noted, nothing_noted, printed_of};
 use crate::numbered::NumberedLink;
-use crate::ranks::{in_order, place_of};
 use crate::sentences::NumberedSentences;
 use indexmap::IndexSet;
 use std::alloc::Global;
 use std::marker::Model;
-use ux_base::{Mem, NoMemory, Txt};
+use ux_base::{Mem, Txt};
 use ux_sentence::{Reading, SentenceError, read_reading};
 
-/// The different readings of a file, each once, in the order of their printed texts. Contracts see
-/// it as these texts.
+/// The different readings of a file, each once, in the order in which they come. Contracts see it
+/// as their printed texts.
 #[derive(Drop)]
 pub struct ReadingTable<'a> {
     /// The texts of links, as they are spelled in the file.
     spelled: IndexSet<&'a str>,
     /// For each the number of its reading, in the same order.
-    ranks: Vec<u32>,
-    /// The printed texts, in the order of bytes.
-    texts: Vec<Txt>,
+    numbers: Vec<u32>,
+    /// The printed texts of the readings, by number.
+    texts: IndexSet<Txt>,
 }
 
 impl<'a> Model for ReadingTable<'a> {
     ghost use Rattle.std.specs.Prelude.{List, ℕ};
-    ghost use Rattle.ux_reading_table.specs.Ranked.{AreRanked};
+    ghost use Rattle.ux_reading_table.specs.Kept.{IsKept};
 
     ghost Value = { List (List ℕ) };
 
-    ghost view = { λ table. table.texts.items };
+    ghost view = { λ table. table.texts.keys };
 
     ghost invariant = { λ table.
-        AreRanked table.texts.items table.spelled.keys table.ranks.items };
+        IsKept table.texts.keys table.spelled.keys table.numbers.items };
 }
 
 impl<'a> ReadingTable<'a> {
     /// The readings of a file of sentences, or why its first bad line is refused. Takes time in the
-    /// text, and in the different readings, times a logarithm of their number. Each takes some 150
-    /// bytes beside its printed text. More than 4,294,967,295 readings are want of memory.
+    /// text. Each different reading takes some 130 bytes beside its printed text. More than
+    /// 4,294,967,295 readings are want of memory.
     pub fn of(alloc: Global, text: &'a str) -> Result<ReadingTable<'a>, SentenceError>
         ensures ok { IfOk result (λ table. IsTableOf text.now table) }
         ensures refused { IfErr result (λ error. (error ≡ OutOfMemory) ⊎ Refuses text.now error) }
         ensures exact { IfOk result (λ _. (error : ErrorRecord) → Refuses text.now error → ⊥) }
     {
         let noted = noted_of(alloc, text)?;
-        Ok(ranked(alloc, noted)?)
+        let Noted {
+            spelled,
+            numbers,
+            printed,
+        } = noted;
+        Ok(ReadingTable {
+            spelled,
+            numbers,
+            texts: printed,
+        })
     }
 
     /// The printed texts of the readings, by number.
@@ -82,7 +86,8 @@ impl<'a> ReadingTable<'a> {
         ensures text { IfOk result (λ reading.
             slice_get self.now number ≡ Some (reading_text reading)) }
     {
-        match read_reading(alloc, self.texts[number].as_str())? {
+        let texts = self.texts.as_slice();
+        match read_reading(alloc, texts[number].as_str())? {
             Some(reading) => Ok(reading),
             None => unreachable!(),
         }
@@ -123,15 +128,15 @@ impl<'a> ReadingTable<'a> {
     fn number_of(&self, alloc: Global, text: &str) -> Mem<Option<u32>>
         ensures { IfOk result (λ found. MatchOption found
             ((reading : ReadingRecord) → IsReading text.now reading → ⊥)
-            (IsRankIfKnown self.now text.now)) }
+            (IsNumberIfKnown self.now text.now)) }
     {
         if let Some(index) = index_of(&self.spelled, text) {
-            return Ok(Some(self.ranks[index]));
+            return Ok(Some(self.numbers[index]));
         }
         let Some(printed) = printed_of(alloc, text)? else {
             return Ok(None);
         };
-        Ok(Some(place_of(self.texts.as_slice(), &printed) as u32))
+        Ok(Some(place_of(&self.texts, &printed)))
     }
 }
 
@@ -142,10 +147,21 @@ fn index_of(set: &IndexSet<&str>, text: &str) -> Option<usize>
     set.get_index_of(text)
 }
 
+/// The place of the text among these, or 0 where it isn't there.
+fn place_of(texts: &IndexSet<Txt>, text: &Txt) -> u32
+    requires { length texts.now.keys < 2 ^ 32 }
+    ensures { Contains texts.now.keys text.now → IsPlaceOfText texts.now.keys text.now result }
+{
+    match texts.get_index_of(text) {
+        Some(index) => index as u32,
+        None => 0,
+    }
+}
+
 /// The texts of the links of a file of sentences, or why its first bad line is refused.
 fn noted_of<'a>(alloc: Global, text: &'a str) -> Result<Noted<'a>, SentenceError>
     ensures noted { IfOk result AreNoted }
-    ensures ok { IfOk result (λ noted. AreNotedOf text.now noted.printed.items) }
+    ensures ok { IfOk result (λ noted. AreNotedOf text.now noted.printed.keys) }
     ensures refused { IfErr result (λ error. (error ≡ OutOfMemory) ⊎ Refuses text.now error) }
     ensures exact { IfOk result (λ _. (error : ErrorRecord) → Refuses text.now error → ⊥) }
 {
@@ -153,39 +169,4 @@ fn noted_of<'a>(alloc: Global, text: &'a str) -> Result<Noted<'a>, SentenceError
     let mut noted = nothing_noted(alloc);
     while file.note_next(alloc, &mut noted)? {}
     Ok(noted)
-}
-
-/// The readings of these texts, by number.
-fn ranked<'a>(alloc: Global, noted: Noted<'a>) -> Mem<ReadingTable<'a>>
-    requires noted { AreNoted noted }
-    requires readings { All IsReadingText noted.printed.items }
-    ensures texts { IfOk result AreTexts }
-    ensures same { IfOk result (λ table. (one : List ℕ) →
-        Contains table one ↔ Contains noted.entry.printed.items one) }
-{
-    let Noted { spelled, printed } = noted;
-    let texts = in_order(printed.clone()?);
-    if texts.len() > u32::MAX as usize {
-        return Err(NoMemory);
-    }
-    let ranks = ranks_of(alloc, printed.as_slice(), texts.as_slice())?;
-    Ok(ReadingTable {
-        spelled,
-        ranks,
-        texts,
-    })
-}
-
-/// The place of each text among these texts in order.
-fn ranks_of(alloc: Global, texts: &[Txt], sorted: &[Txt]) -> Mem<Vec<u32>>
-    requires in_order { IsStrictlySortedBy (slice_cmp nat_cmp) sorted.now }
-    requires there { All (Contains sorted.now) texts.now }
-    requires few { length sorted.now < 2 ^ 32 }
-    ensures { IfOk result (λ ranks. AllZip (IsRank sorted.now) texts.now ranks.items) }
-{
-    let mut ranks = Vec::new(alloc);
-    for text in texts {
-        ranks.push(place_of(sorted, text) as u32)?;
-    }
-    Ok(ranks)
 }

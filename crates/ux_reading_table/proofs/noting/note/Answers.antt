@@ -1,21 +1,28 @@
 use Rattle.ux_reading_table.specs.Noting.{spellings}
-use Rattle.ux_reading_table.proofs.NotingLemmas.{noted_more, notes_known, notes_new}
+use Rattle.ux_reading_table.proofs.NotingLemmas.{notes_known, notes_new, numbered_more}
 use Rattle.ux_reading_table.proofs.noting.note.Goals as goal
 
 pub returns-then-is_known-clause-says : goal.returns-then-is_known-clause-says
 returns-then-is_known-clause-says c =
-    notes_known (spellings c.args.noted.now.spelled) c.args.noted.now.printed.items c.args.text.now
-    c.requires (c.is_known.ensures.0 c.if-is_known.true)
+    notes_known c.args.noted.now.printed.keys (spellings c.args.noted.now.spelled)
+    c.args.noted.now.numbers.items c.args.text.now c.requires.numbered
+    (c.is_known.ensures.0 c.if-is_known.true)
 
 pub returns-clause-noted : goal.returns-clause-noted
 returns-clause-noted c =
     let is = rw c.in-Some.is at c.in_ok-printed.ensures in
-    noted_more (spellings c.args.noted.now.spelled) c.args.noted.now.printed.items
-    (spellings c.add.new.set) c.push.new.self.items c.args.text.now c.in-Some.printed c.requires
-    is c.in_ok-add.ensures c.in_ok-push.ensures.items
+    record {
+      numbered = numbered_more c.args.noted.now.printed.keys c.number_of.new.texts.keys
+          (spellings c.args.noted.now.spelled) (spellings c.add.new.set)
+          c.args.noted.now.numbers.items c.push.new.self.items c.args.text.now c.in-Some.printed
+          c.in_ok-number.number c.requires.numbered c.in_ok-number.ensures.kept is
+          c.in_ok-number.ensures.number c.in_ok-add.ensures c.in_ok-push.ensures.items;
+      different = c.in_ok-number.ensures.different;
+      few = c.in_ok-number.ensures.few;
+    }
 
 pub returns-clause-says : goal.returns-clause-says
 returns-clause-says c =
     let is = rw c.in-Some.is at c.in_ok-printed.ensures in
-    notes_new c.args.noted.now.printed.items c.push.new.self.items c.args.text.now
-    c.in-Some.printed is c.in_ok-push.ensures.items
+    notes_new c.args.noted.now.printed.keys c.number_of.new.texts.keys c.args.text.now
+    c.in-Some.printed is c.in_ok-number.ensures.added

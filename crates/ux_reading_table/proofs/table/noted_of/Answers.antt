@@ -10,7 +10,7 @@ loop-noted-init c = record {
   so_far = [];
   read = read_start c.args.text.now c.in_ok-file.file c.in_ok-file.ensures.ok;
   noted = c.nothing_noted-noted.ensures.noted;
-  same = none_noted c.nothing_noted-noted.result.printed.items c.nothing_noted-noted.ensures.none;
+  same = none_noted c.nothing_noted-noted.result.printed.keys c.nothing_noted-noted.ensures.none;
 }
 
 -- one more sentence is read
@@ -23,7 +23,7 @@ loop-noted-preserved c =
       read = read_more c.args.text.now c.loop-noted.file c.note_next.new.self so_far.so_far sentence
           behind so_far.read tells is;
       noted = c.in_ok-note_next.ensures.noted;
-      same = adds_sentence c.loop-noted.noted.printed.items c.note_next.new.noted.printed.items
+      same = adds_sentence c.loop-noted.noted.printed.keys c.note_next.new.noted.printed.keys
           so_far.so_far sentence so_far.same adds;
     }
 
@@ -31,8 +31,8 @@ pub returns-clause-ok : goal.returns-clause-ok
 returns-clause-ok c =
     let so_far = c.loop-noted.invariant in
     let (over, same) = rw c.if-branch.false at c.in_ok-note_next.ensures.ok in
-    noted_whole c.args.text.now c.loop-noted.file so_far.so_far c.loop-noted.noted.printed.items
-    c.note_next.new.noted.printed.items so_far.read over so_far.same same
+    noted_whole c.args.text.now c.loop-noted.file so_far.so_far c.loop-noted.noted.printed.keys
+    c.note_next.new.noted.printed.keys so_far.read over so_far.same same
 
 pub returns-clause-exact : goal.returns-clause-exact
 returns-clause-exact c = λ error refuses.

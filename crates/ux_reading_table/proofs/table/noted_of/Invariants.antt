@@ -14,7 +14,7 @@ invariant-loop-noted l = record {
   read : IsReadTo l.text l.file so_far;
   noted : AreNoted l.noted;
   same : (one : List ℕ) →
-      Contains l.noted.printed.items one ↔ Contains (flat_map texts_in so_far) one;
+      Contains l.noted.printed.keys one ↔ Contains (flat_map texts_in so_far) one;
 }
 
 abbrev pub decreases-loop-noted : goal.decreases-loop-noted

@@ -55,7 +55,8 @@ pub returns-clause-below : goal.returns-clause-below
 returns-clause-below c =
     IfOk-weaker c.ordered_sentence.result _ _
     (λ new ordered. left-below c.args.sentence.now new c.in_ok-source.source c.in_ok-kept.kept
-    c.args.readings.now (some c) c.in_ok-source.ensures c.requires.readings c.requires.below
+    c.args.texts.now c.args.readings.now (some c) c.in_ok-source.ensures c.requires.readings
+    c.requires.texts c.requires.below
     (SatisfiesRule c.args.self.now) (is_good c) (tells c) (is_kept c) ordered)
     c.ordered_sentence.ensures
 
@@ -63,6 +64,7 @@ pub returns-clause-left : goal.returns-clause-left
 returns-clause-left c =
     IfOk-weaker c.ordered_sentence.result _ _
     (λ new ordered. left-keeps c.args.sentence.now new c.in_ok-source.source c.in_ok-kept.kept
-    c.args.readings.now (some c) c.in_ok-source.ensures c.requires.readings c.requires.below
+    c.args.texts.now c.args.readings.now (some c) c.in_ok-source.ensures c.requires.readings
+    c.requires.texts c.requires.below
     (SatisfiesRule c.args.self.now) (is_good c) (tells c) (is_kept c) ordered)
     c.ordered_sentence.ensures

@@ -12,8 +12,8 @@ loop-done-preserved c =
       noted = c.in_ok-note_link.ensures.noted;
       reads = ReadsLinks-more c.args.states c.loop-done.done c.args.self.now c.loop-done.self
           c.note_link.new.self so_far.links line link so_far.reads past says;
-      adds = adds_link c.args.noted.now.printed.items c.loop-done.noted.printed.items
-          c.note_link.new.noted.printed.items so_far.links link so_far.adds adds;
+      adds = adds_link c.args.noted.now.printed.keys c.loop-done.noted.printed.keys
+          c.note_link.new.noted.printed.keys so_far.links link so_far.adds adds;
     }
 
 pub returns-in_err-note_link-clause-err : goal.returns-in_err-note_link-clause-err

@@ -11,5 +11,5 @@ invariant-loop-done l = record {
   links : List Link;
   noted : AreNoted l.noted;
   reads : ReadsLinks l.states l.done l.fn.self links l.self;
-  adds : AddsTexts l.fn.noted.printed.items (map text_of links) l.noted.printed.items;
+  adds : AddsTexts l.fn.noted.printed.keys (map text_of links) l.noted.printed.keys;
 }

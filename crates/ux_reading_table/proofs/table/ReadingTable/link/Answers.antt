@@ -15,18 +15,18 @@ returns-in_default-2-clause-err c =
 -- the link leads to no greater state
 pub returns-then-fields-clause-err : goal.returns-then-fields-clause-err
 returns-then-fields-clause-err c =
-    let rank = rw c.in-Some-2.is at c.in_ok-reading.ensures in
-    inr (leads_back c.args.states c.args.line.now c.args.number c.in-Some.fields rank.0
-    c.in-Some.ensures rank.1 c.if-fields.true)
+    let number = rw c.in-Some-2.is at c.in_ok-reading.ensures in
+    inr (leads_back c.args.states c.args.line.now c.args.number c.in-Some.fields number.0
+    c.in-Some.ensures number.1 c.if-fields.true)
 
 pub returns-clause-ok : goal.returns-clause-ok
 returns-clause-ok c =
-    let rank = rw c.in-Some-2.is at c.in_ok-reading.ensures in (
-      link_with c.in-Some.fields rank.0,
+    let number = rw c.in-Some-2.is at c.in_ok-reading.ensures in (
+      link_with c.in-Some.fields number.0,
       (
-        line_of_fields c.args.states c.args.line.now c.in-Some.fields rank.0 c.in-Some.ensures
-            rank.1,
+        line_of_fields c.args.states c.args.line.now c.in-Some.fields number.0 c.in-Some.ensures
+            number.1,
         c.if-fields.false,
       ),
-      λ there. record { from = refl; to = refl; reading = rank.2 there },
+      λ there. record { from = refl; to = refl; reading = number.2 there },
     )

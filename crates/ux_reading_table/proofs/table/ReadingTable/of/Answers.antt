@@ -1,11 +1,17 @@
-use Rattle.ux_reading_table.proofs.TableLemmas.{noted_readings, table_of_noted}
+use Rattle.ux_reading_table.proofs.TableLemmas.{table_of_noted}
 use Rattle.ux_reading_table.proofs.table.ReadingTable.of.Goals as goal
 
-pub ranked-requires-clause-readings : goal.ranked-requires-clause-readings
-ranked-requires-clause-readings c =
-    noted_readings c.args.text.now c.in_ok-noted.noted.printed.items c.in_ok-noted.ensures.ok
+pub invariant_of-result : goal.invariant_of-result
+invariant_of-result c =
+    let noted = c.in_ok-noted.ensures in
+    record {
+      are_texts = (table_of_noted c.args.text.now c.in_ok-noted.noted.printed.keys
+          noted.noted.different noted.ok).are_texts;
+      numbered = noted.noted.numbered;
+      few = noted.noted.few;
+    }
 
 pub returns-clause-ok : goal.returns-clause-ok
 returns-clause-ok c =
-    table_of_noted c.args.text.now c.in_ok-ranked.field-0 c.in_ok-noted.noted.printed.items
-    c.in_ok-ranked.ensures.texts c.in_ok-noted.ensures.ok c.in_ok-ranked.ensures.same
+    let noted = c.in_ok-noted.ensures in
+    table_of_noted c.args.text.now c.in_ok-noted.noted.printed.keys noted.noted.different noted.ok

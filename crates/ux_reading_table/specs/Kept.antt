@@ -2,13 +2,13 @@
 use Rattle.std.specs.Prelude.{ℕ, ◌<◌, ◌^◌, List, length, map}
 use Rattle.std.specs.List.{AllZip}
 use denote.Ref.{Bor}
-use Rattle.ux_reading_table.specs.Noting.{IsRanked}
+use Rattle.ux_reading_table.specs.Noting.{IsNumbered}
 use Rattle.ux_reading_table.specs.Numbered.{AreTexts}
 
--- the texts are in order, and beside each spelled text stands the place of its reading's printed
--- text
-pub record AreRanked (texts : List (List ℕ)) (spelled : List (Bor (List ℕ))) (ranks : List ℕ) :
+-- the texts are those of different readings, and beside each spelled text stands the number of its
+-- reading
+pub record IsKept (texts : List (List ℕ)) (spelled : List (Bor (List ℕ))) (numbers : List ℕ) :
     Type 0 where
   pub are_texts : AreTexts texts
-  pub ranked : AllZip (IsRanked texts) (map (λ text. text.now) spelled) ranks
+  pub numbered : AllZip (IsNumbered texts) (map (λ text. text.now) spelled) numbers
   pub few : length texts < 2 ^ 32
