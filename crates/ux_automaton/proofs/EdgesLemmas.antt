@@ -21,10 +21,10 @@ module _ (setting : Setting) (p : ℕ) where
   refused : (x : Label) (token : Token) →
       slice_get setting.tokens (skip setting.tokens p) ≡ Some token →
       Refuses setting.alphabet x token.text → (k : ℕ) → Takes setting x p k → ⊥
-  refused (label.Fold entry) token at refuses k (plain, t) = refuses.1
+  refused (label.CaseFolded entry) token at refuses k (plain, t) = refuses.1
       (subst (λ (x : Token). FoldsTo setting.alphabet entry x)
       (same_Some t.0 token (sym t.1 ∙ at)) t.2.1)
-  refused (label.Exact exact) token at refuses k (plain, t) = refuses.1
+  refused (label.CaseExact exact) token at refuses k (plain, t) = refuses.1
       (subst (λ (x : Token). x.text ≡ exact) (same_Some t.0 token (sym t.1 ∙ at)) t.2.1)
   refused _ token at refuses k takes = absurd refuses.0
 

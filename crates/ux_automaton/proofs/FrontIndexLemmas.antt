@@ -122,10 +122,10 @@ module _ (masked : MaskedText) (p k : ℕ) (token : Token)
     (there : slice_get masked.text.now (skip masked.text.now p) ≡ Some token) where
   takes_likely : (x : Label) → Takes (masked_setting masked) x p k →
       FitsText masked.alphabet.now x token.text ⊎ (IsLiteral x → ⊥)
-  takes_likely (label.Fold entry) (plain, t) = inl
+  takes_likely (label.CaseFolded entry) (plain, t) = inl
       (subst (λ (x : Token). FoldsTo masked.alphabet.now entry x)
       (same_Some t.0 token (sym t.1 ∙ there)) t.2.1)
-  takes_likely (label.Exact exact) (plain, t) = inl
+  takes_likely (label.CaseExact exact) (plain, t) = inl
       (subst (λ (x : Token). x.text ≡ exact) (same_Some t.0 token (sym t.1 ∙ there)) t.2.1)
   takes_likely _ takes = inr (λ no. no)
 

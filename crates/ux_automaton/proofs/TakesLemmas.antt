@@ -56,8 +56,8 @@ module _ (tokens : List Token) where
 -- a label that may take no token takes a space alone, if anything
 pub takes_space : (setting : Setting) (x : Label) (p k : ℕ) → (MayTakeToken x → ⊥) →
     Takes setting x p k → IsSpaceAt setting.tokens p × (k ≡ p + 1)
-takes_space setting (label.Fold text) p k never takes = absurd (never tt)
-takes_space setting (label.Exact text) p k never takes = absurd (never tt)
+takes_space setting (label.CaseFolded text) p k never takes = absurd (never tt)
+takes_space setting (label.CaseExact text) p k never takes = absurd (never tt)
 takes_space setting (label.Mask mask) p k never takes = absurd (never tt)
 takes_space setting (label.Brace text) p k never takes = absurd (never tt)
 takes_space setting (label.Space) p k never (plain, t) = t
@@ -90,8 +90,8 @@ module _ (setting : Setting)
           let inside = slice_get_within setting.tokens p token at in omega (arith, inside)
 
   pub reach : (x : Label) (p k : ℕ) → Takes setting x p k → Reach setting x p k
-  reach (label.Fold text) p k (plain, t) = one_reach (label.Fold text) p k t.0 t.1 t.3
-  reach (label.Exact text) p k (plain, t) = one_reach (label.Exact text) p k t.0 t.1 t.3
+  reach (label.CaseFolded text) p k (plain, t) = one_reach (label.CaseFolded text) p k t.0 t.1 t.3
+  reach (label.CaseExact text) p k (plain, t) = one_reach (label.CaseExact text) p k t.0 t.1 t.3
   reach (label.Brace text) p k (plain, t) = one_reach (label.Brace text) p k t.0 t.1 t.3
   reach (label.Space) p k (plain, t) =
       let inside = space_within p t.0 in
@@ -117,9 +117,9 @@ module _ (setting : Setting)
   -- what is taken where a space stands, to the position behind it, is taken at each space
   pub space_alike : (x : Label) (p q : ℕ) → IsSpaceAt setting.tokens p →
       IsSpaceAt setting.tokens q → Takes setting x p (p + 1) → Takes setting x q (q + 1)
-  space_alike (label.Fold text) p q here there (plain, t) =
+  space_alike (label.CaseFolded text) p q here there (plain, t) =
       absurd (let s = skip_space setting.tokens p here in let is = t.3 in omega (arith, s, is))
-  space_alike (label.Exact text) p q here there (plain, t) =
+  space_alike (label.CaseExact text) p q here there (plain, t) =
       absurd (let s = skip_space setting.tokens p here in let is = t.3 in omega (arith, s, is))
   space_alike (label.Brace text) p q here there (plain, t) =
       absurd (let s = skip_space setting.tokens p here in let is = t.3 in omega (arith, s, is))
@@ -145,8 +145,8 @@ module _ (setting : Setting)
         × IsAlone setting.tokens setting.tables (skip setting.tokens q)) →
         Takes setting x p (skip setting.tokens p + 1) →
         Takes setting x q (skip setting.tokens q + 1)
-    token_alike (label.Fold text) alone (plain, t) = (plain, (token, there, move (λ t. MayStandFor t.kind × FoldsTo setting.alphabet text t) t.0 t.1 t.2, refl))
-    token_alike (label.Exact text) alone (plain, t) =
+    token_alike (label.CaseFolded text) alone (plain, t) = (plain, (token, there, move (λ t. MayStandFor t.kind × FoldsTo setting.alphabet text t) t.0 t.1 t.2, refl))
+    token_alike (label.CaseExact text) alone (plain, t) =
         (plain, (token, there, move (λ t. MayStandFor t.kind × (t.text ≡ text)) t.0 t.1 t.2, refl))
     token_alike (label.Brace text) alone (plain, t) =
         (plain, (token, there, move (λ t. IsBraced t.kind × (t.text ≡ text)) t.0 t.1 t.2, refl))

@@ -4,7 +4,7 @@ use Rattle.ux_closure.specs.declared.stand.Stand.{Stand}
 use Rattle.ux_closure.specs.Passing.{behind}
 use Rattle.ux_masks.specs.declared.mask.Mask as masks
 use Rattle.ux_net.specs.declared.label.Label.{Label}
-use Rattle.ux_net.specs.declared.label.Label.TheVariants.{Fold, Exact, Mask, Brace}
+use Rattle.ux_net.specs.declared.label.Label.TheVariants.{CaseFolded, CaseExact, Mask, Brace}
 use Rattle.ux_net.specs.declared.net_graph.NetGraph.{NetGraph}
 use Rattle.ux_net.specs.declared.state.Edge.{Edge}
 use Rattle.ux_net.specs.declared.state.State.{State}
@@ -43,8 +43,8 @@ HaveNoMask net IsThere = (f : Frame) (fs : Stack) (edge : Edge) (mask : masks.Ma
 
 -- a label that may take a token, and not a space alone
 abbrev pub MayTakeToken : Label → Type 0
-MayTakeToken (Fold text) = Unit {0}
-MayTakeToken (Exact text) = Unit {0}
+MayTakeToken (CaseFolded text) = Unit {0}
+MayTakeToken (CaseExact text) = Unit {0}
 MayTakeToken (Mask mask) = Unit {0}
 MayTakeToken (Brace text) = Unit {0}
 MayTakeToken other = ⊥

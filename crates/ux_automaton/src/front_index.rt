@@ -232,7 +232,7 @@ fn is_other_among(edges: &[Edge]) -> bool
 fn is_literal(label: &Label) -> bool
     ensures { IsTrue result ↔ IsLiteral label.now }
 {
-    matches!(label, Label::Fold(_) | Label::Exact(_))
+    matches!(label, Label::CaseFolded(_) | Label::CaseExact(_))
 }
 
 /// Puts them in the order of the tokens' numbers.

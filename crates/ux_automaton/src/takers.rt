@@ -50,10 +50,10 @@ fn may_label_take(label: &Label) -> bool
     ensures { IsTrue result ↔ MayTakeToken label.now }
 {
     match label {
-        Label::Fold(_) | Label::Exact(_) | Label::Mask(_) | Label::Brace(_) => true,
+        Label::CaseFolded(_) | Label::CaseExact(_) | Label::Mask(_) | Label::Brace(_) => true,
         Label::Empty
         | Label::Space
-        | Label::Glue
+        | Label::NoSpace
         | Label::Begin(_)
         | Label::End(_)
         | Label::Positive

@@ -19,18 +19,18 @@ pub fn ends_of(alloc: Global, masked: &MaskedText, label: &Label, at: usize) -> 
         Contains ends.items k ↔ Takes (masked_setting masked.now) label.now at k) }
 {
     match label {
-        Label::Fold(entry) => {
+        Label::CaseFolded(entry) => {
             listed(
                 alloc,
                 after_fold(masked.text, masked.alphabet, entry.as_str(), at),
             )
         },
-        Label::Exact(exact) => listed(alloc, after_exact(masked.text, exact.as_str(), at)),
+        Label::CaseExact(exact) => listed(alloc, after_exact(masked.text, exact.as_str(), at)),
         Label::Brace(brace) => listed(alloc, after_brace(masked.text, brace.as_str(), at)),
         Label::Space => listed(alloc, after_space(masked.text, at)),
         Label::Mask(mask) => masked.mask_ends(alloc, mask, skip(masked.text, at)),
         Label::Empty
-        | Label::Glue
+        | Label::NoSpace
         | Label::Begin(_)
         | Label::End(_)
         | Label::Positive

@@ -56,7 +56,7 @@ unspaced_rest (context sign g opening closing) word u = u
 -- what stays at a position stays at another, unless it asks for spaces
 stays_elsewhere : (input : Input) (x : Letter) (word : List Letter) → Unspaced (x ∷ word) →
     (p q : ℕ) (here : List Event) → Stays input x p here → Stays input x q here
-stays_elsewhere input (plain label.Glue) word u p q here s = absurd (u.0 tt)
+stays_elsewhere input (plain label.NoSpace) word u p q here s = absurd (u.0 tt)
 stays_elsewhere input (piece (Chars text)) word u p q here s = s
 stays_elsewhere input (piece (Value name)) word u p q here s = s
 stays_elsewhere input x word u p q here s = s

@@ -63,7 +63,7 @@ nothing_taken = record {
 
 -- a label leads where it stands, if it takes nothing by itself
 plain_iff : (x : Label) (p k : ℕ) → Plain empty_input x p k ↔ (MayStay (plain x) × (k ≡ p))
-plain_iff label.Glue p k = (
+plain_iff label.NoSpace p k = (
   λ h. elim h [ inl t ↦ absurd t | inr s ↦ (tt, s.0) ],
   λ h. inr (h.1, [], (λ n. n, refl)),
 )

@@ -63,10 +63,10 @@ module _ (input : Input) (net : List NetGraph) (levels g : ℕ) (v : Config) (st
   -- a label that refuses leads nowhere
   refuses_all : (x : Label) (i to b k : ℕ) → Refuses input x i →
       NextBy input (net_grammar net) levels g x to i b k → ⊥
-  refuses_all (label.Fold text) i to b k refuses (same, inl t) = refuses k t
-  refuses_all (label.Fold text) i to b k refuses (same, inr s) = absurd s.2
-  refuses_all (label.Exact text) i to b k refuses (same, inl t) = refuses k t
-  refuses_all (label.Exact text) i to b k refuses (same, inr s) = absurd s.2
+  refuses_all (label.CaseFolded text) i to b k refuses (same, inl t) = refuses k t
+  refuses_all (label.CaseFolded text) i to b k refuses (same, inr s) = absurd s.2
+  refuses_all (label.CaseExact text) i to b k refuses (same, inl t) = refuses k t
+  refuses_all (label.CaseExact text) i to b k refuses (same, inr s) = absurd s.2
   refuses_all x i to b k refuses next = absurd refuses
 
   -- so it is where the places are enough

@@ -2,7 +2,7 @@
 -- contracts of an input speak of it.
 use Rattle.std.specs.Prelude.{◌≡◌, ℕ, ◌↔◌, List, Some, slice_get, Contains}
 use Rattle.ux_net.specs.declared.label.Label.{Label}
-use Rattle.ux_net.specs.declared.label.Label.TheVariants.{Space, Glue}
+use Rattle.ux_net.specs.declared.label.Label.TheVariants.{Space, NoSpace}
 use Rattle.ux_net.specs.declared.net_graph.NetGraph.{NetGraph}
 use Rattle.ux_net.specs.declared.state.Edge.{Edge}
 use Rattle.ux_net.specs.declared.state.State.{State}
@@ -14,7 +14,7 @@ use Rattle.ux_chart.specs.declared.sharing.Sharing.TheVariants as sharing
 -- a space, or the sign `#` that forbids one
 abbrev pub IsSpacing : Label → Type 0
 IsSpacing Space = Unit {0}
-IsSpacing Glue = Unit {0}
+IsSpacing NoSpace = Unit {0}
 IsSpacing other = ⊥
 
 -- the label doesn't ask for spaces

@@ -2,7 +2,7 @@
 -- input speak of it.
 use Rattle.std.specs.Prelude.{◌≡◌, ℕ, ◌⊎◌, List, Some, slice_get, Contains}
 use Rattle.ux_net.specs.declared.label.Label.{Label}
-use Rattle.ux_net.specs.declared.label.Label.TheVariants.{Fold, Exact}
+use Rattle.ux_net.specs.declared.label.Label.TheVariants.{CaseFolded, CaseExact}
 use Rattle.ux_net.specs.declared.net_graph.NetGraph.{NetGraph}
 use Rattle.ux_net.specs.declared.state.Edge.{Edge}
 use Rattle.ux_net.specs.declared.state.State.{State}
@@ -18,8 +18,8 @@ AreEdgesOf net g n edges =
 
 -- a literal that takes nothing from position i; any other label may apply
 abbrev pub Refuses : Input → Label → (i : ℕ) → Type 0
-Refuses input (Fold text) i = (k : ℕ) → input.Takes (Fold text) i k → ⊥
-Refuses input (Exact text) i = (k : ℕ) → input.Takes (Exact text) i k → ⊥
+Refuses input (CaseFolded text) i = (k : ℕ) → input.Takes (CaseFolded text) i k → ⊥
+Refuses input (CaseExact text) i = (k : ℕ) → input.Takes (CaseExact text) i k → ⊥
 Refuses input label i = ⊥
 
 -- each edge stands at one of the places, or its label refuses

@@ -103,7 +103,7 @@ fn may_stay(label: &Label) -> bool
 {
     matches!(
         label,
-        Label::Glue | Label::Begin(_) | Label::End(_) | Label::Cut
+        Label::NoSpace | Label::Begin(_) | Label::End(_) | Label::Cut
     )
 }
 

@@ -64,10 +64,10 @@ fn is_unspaced(label: &Label) -> bool
     ensures { IsTrue result → IsUnspaced label.now }
 {
     match label {
-        Label::Space | Label::Glue => false,
+        Label::Space | Label::NoSpace => false,
         Label::Empty
-        | Label::Fold(_)
-        | Label::Exact(_)
+        | Label::CaseFolded(_)
+        | Label::CaseExact(_)
         | Label::Mask(_)
         | Label::Brace(_)
         | Label::Begin(_)

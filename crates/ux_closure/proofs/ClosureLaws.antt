@@ -29,7 +29,7 @@ module _ (setting : Setting) (at : ℕ) (is_spaced : Bool) (tells : TellsSpace s
     passes_lets (label.Begin name) p = tt
     passes_lets (label.End name) p = tt
     passes_lets label.Cut p = tt
-    passes_lets label.Glue p = go is_spaced tells.0
+    passes_lets label.NoSpace p = go is_spaced tells.0
       where
         go : (b : Bool) → (IsTrue b → IsSpaceAt setting.tokens at) → b ≡ false
         go true is = absurd (p (is refl))
@@ -41,7 +41,7 @@ module _ (setting : Setting) (at : ℕ) (is_spaced : Bool) (tells : TellsSpace s
     lets_passes (label.Begin name) l = tt
     lets_passes (label.End name) l = tt
     lets_passes label.Cut l = tt
-    lets_passes label.Glue l = λ space. let yes = tells.1 space in cc
+    lets_passes label.NoSpace l = λ space. let yes = tells.1 space in cc
     lets_passes _ l = absurd l
 
     -- what a walk from the stack does

@@ -13,7 +13,7 @@ module _ (net : List NetGraph) (is_spaced : Bool) (measured : IsMeasured net) wh
   lower_of : (g from to : ℕ) (x : Label) → Falls net g from to x → LetsPass is_spaced x →
       IsLower net g from to
   lower_of g from to label.Empty falls lets = falls
-  lower_of g from to label.Glue falls lets = falls
+  lower_of g from to label.NoSpace falls lets = falls
   lower_of g from to (label.Begin name) falls lets = falls
   lower_of g from to (label.End name) falls lets = falls
   lower_of g from to label.Cut falls lets = falls

@@ -5,7 +5,7 @@ use Rattle.std.specs.Prelude.{Contains}
 use Rattle.std.proofs.lemmas.Option.{same_Some}
 use Rattle.std.proofs.lemmas.List.Elements.{Contains-push, Contains-push_cases}
 use Rattle.ux_net.specs.declared.label.Label.{Label}
-use Rattle.ux_net.specs.declared.label.Label.TheVariants.{Empty, Glue, Call}
+use Rattle.ux_net.specs.declared.label.Label.TheVariants.{Empty, NoSpace, Call}
 use Rattle.ux_net.specs.declared.state.Edge.{Edge}
 use Rattle.ux_net.specs.declared.state.State.{State}
 use Rattle.ux_net.specs.declared.net_graph.NetGraph.{NetGraph}
@@ -28,7 +28,8 @@ abbrev last : State
 last = record { is_final = true; edges = [] }
 
 abbrev drawn : List State → NetGraph
-drawn states = record { name = []; states = states; ranks = []; free = []; closings = [] }
+drawn states =
+    record { name = []; states = states; ranks = []; free = []; closings = []; unmet = [] }
 
 only : (edge : Edge) → Contains (edge ∷ []) edge
 only edge = Contains-push [] edge
@@ -55,29 +56,29 @@ through_call is_spaced =
 
 -- `#` is passed where no space stands
 abbrev glued : List NetGraph
-glued = drawn (before (to Glue 1) ∷ last ∷ []) ∷ []
+glued = drawn (before (to NoSpace 1) ∷ last ∷ []) ∷ []
 
 past_glue : Reaches glued false main_stack (at 1 1 ∷ [])
 past_glue = passes (at 1 1 ∷ [])
-    (before (to Glue 1), refl, inl (to Glue 1, only _, inl (refl, refl))) stays
+    (before (to NoSpace 1), refl, inl (to NoSpace 1, only _, inl (refl, refl))) stays
 
 -- and not where one stands
 stopped_by_space : (next : Stack) → PassesOn glued true main_stack next → ⊥
 stopped_by_space next (state, found, inr (final, is)) =
-    let same : before (to Glue 1) ≡ state = same_Some (before (to Glue 1)) state found in
+    let same : before (to NoSpace 1) ≡ state = same_Some (before (to NoSpace 1)) state found in
     let no : false ≡ true = ap (λ (s : State). s.is_final) same ∙ final in
     cc
 stopped_by_space next (state, found, inl (edge, inside, past)) =
-    let same : before (to Glue 1) ≡ state = same_Some (before (to Glue 1)) state found in
-    let among : Contains (to Glue 1 ∷ []) edge =
+    let same : before (to NoSpace 1) ≡ state = same_Some (before (to NoSpace 1)) state found in
+    let among : Contains (to NoSpace 1 ∷ []) edge =
     subst (λ (s : State). Contains s.edges edge) (sym same) inside in
-    elim (Contains-push_cases [] (to Glue 1) edge among) [
+    elim (Contains-push_cases [] (to NoSpace 1) edge among) [
       | inl none ↦ nothing_in edge none
       | inr is ↦ elim past [
         | inl p ↦
             let no : true ≡ false =
             subst (λ (e : Edge). LetsPass true e.label) (sym is) p.0 in
             cc
-        | inr c ↦ let no : Glue ≡ Call c.0 = ap (λ (e : Edge). e.label) is ∙ c.1 in cc
+        | inr c ↦ let no : NoSpace ≡ Call c.0 = ap (λ (e : Edge). e.label) is ∙ c.1 in cc
       ]
     ]

@@ -1,7 +1,7 @@
 -- Steps of a walk that take no token. Public: the contracts of the automaton speak of it.
 use Rattle.std.specs.Prelude.{◌≡◌, ℕ, List, [], ◌∷◌, ◌⊎◌, Bool, false, Some, slice_get, Contains, IsTrue}
 use Rattle.ux_net.specs.declared.label.Label.{Label}
-use Rattle.ux_net.specs.declared.label.Label.TheVariants.{Empty, Glue, Begin, End, Cut, Call}
+use Rattle.ux_net.specs.declared.label.Label.TheVariants.{Empty, NoSpace, Begin, End, Cut, Call}
 use Rattle.ux_net.specs.declared.state.Edge.{Edge}
 use Rattle.ux_net.specs.declared.state.State.{State}
 use Rattle.ux_net.specs.declared.net_graph.NetGraph.{NetGraph}
@@ -13,7 +13,7 @@ use Rattle.ux_walk.specs.Leads.{Stack}
 -- begin or end, and a cut
 abbrev pub LetsPass : (is_spaced : Bool) → Label → Type 0
 LetsPass is_spaced Empty = Unit {0}
-LetsPass is_spaced Glue = is_spaced ≡ false
+LetsPass is_spaced NoSpace = is_spaced ≡ false
 LetsPass is_spaced (Begin name) = Unit {0}
 LetsPass is_spaced (End name) = Unit {0}
 LetsPass is_spaced Cut = Unit {0}

@@ -164,9 +164,9 @@ fn lets_pass(label: &Label, is_spaced: bool) -> bool
 {
     match label {
         Label::Empty | Label::Begin(_) | Label::End(_) | Label::Cut => true,
-        Label::Glue => !is_spaced,
-        Label::Fold(_)
-        | Label::Exact(_)
+        Label::NoSpace => !is_spaced,
+        Label::CaseFolded(_)
+        | Label::CaseExact(_)
         | Label::Mask(_)
         | Label::Brace(_)
         | Label::Space
@@ -184,12 +184,12 @@ fn called(label: &Label) -> Option<u32>
     match label {
         Label::Call(graph) => Some(*graph),
         Label::Empty
-        | Label::Fold(_)
-        | Label::Exact(_)
+        | Label::CaseFolded(_)
+        | Label::CaseExact(_)
         | Label::Mask(_)
         | Label::Brace(_)
         | Label::Space
-        | Label::Glue
+        | Label::NoSpace
         | Label::Begin(_)
         | Label::End(_)
         | Label::Positive

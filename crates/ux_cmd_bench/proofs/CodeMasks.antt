@@ -10,7 +10,7 @@ use Rattle.std.proofs.lemmas.Slice.Eq.{bytes_eq-Decides}
 use Rattle.ux_dela.specs.Written.{Written, bare, written}
 use Rattle.ux_masks.specs.Equal.{IsEquivalence-decided}
 use Rattle.ux_masks.specs.Texts.{IsCodeName, IsName, IsNamed, a_code, lexical, plain, refused_texts}
-use Rattle.ux_net.specs.MaskTexts.{IsMask}
+use Rattle.ux_boxes.specs.MaskTexts.{IsMask}
 use Rattle.ux_masks.proofs.CodeNameLemmas.{code_name_back}
 use Rattle.ux_masks.proofs.NamesLemmas.{meaning, names_mean}
 

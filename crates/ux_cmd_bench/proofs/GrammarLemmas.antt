@@ -8,7 +8,7 @@ use Rattle.ux_apply.specs.declared.priority.Priority.TheVariants.{Normal}
 use Rattle.ux_dela.specs.declared.entry.Entry.{Entry}
 use Rattle.ux_dict.specs.FileContent.{IsFileContent}
 use Rattle.ux_tokens.specs.Tokens.{Token}
-use Rattle.ux_net.specs.Boxes.{box_grammar}
+use Rattle.ux_boxes.specs.Boxes.{box_grammar}
 use Rattle.ux_net.specs.Nets.{net_grammar}
 use Rattle.ux_net.specs.Words.{Grammar, SayTheSame}
 use Rattle.ux_net.specs.declared.net_graph.NetGraph.{NetGraph}

@@ -4,6 +4,7 @@ use Rattle.std.specs.Prelude.{AllPairs, codes}
 use Rattle.ux_base.specs.Distinct.{AreFirsts}
 use Rattle.ux_base.specs.Lines.{lines_of}
 use Rattle.ux_base.proofs.FirstsLemmas.{AreFirsts-itself, AreFirsts-nil, Contains-after, Contains-first}
+use Rattle.ux_grf.specs.declared.graph.GraphKind.TheVariants.{Plain}
 use Rattle.ux_grf.specs.BoxLine.{BoxText}
 use Rattle.ux_grf.specs.Content.{IsBoxOf, is_read}
 use Rattle.ux_grf.specs.File.{Draws, HasTexts, IsGraphOf, ways_in}
@@ -111,14 +112,14 @@ has_ap_texts = record {
 
 -- the contents of the start and the end are not read
 outer_box : (content targets : List ℕ) (node : ℕ) → is_read node true ≡ false →
-    IsBoxOf (written_box content targets) node (drawn_box [] targets)
+    IsBoxOf Plain (written_box content targets) node (drawn_box [] targets)
 outer_box content targets node outer =
     record { targets = refl; read = λ inner. cc; bare = λ _. (refl, refl) }
 
 -- that of another box is read, and is one line with no output
 inner_box : (content targets : List ℕ) (line : List Item) (node : ℕ) → is_read node true ≡ true →
-    AreLines (resolved File false content) (line ∷ []) [] →
-    IsBoxOf (written_box content targets) node (drawn_box (line ∷ []) targets)
+    AreLines Plain (resolved File false content) (line ∷ []) [] →
+    IsBoxOf Plain (written_box content targets) node (drawn_box (line ∷ []) targets)
 inner_box content targets line node inner lines = record {
   targets = refl;
   read = λ _. record {
@@ -148,7 +149,7 @@ np_4 = step np_2 (Contains-after 3 4 (4 ∷ []) (Contains-first 4 []))
 np_1 : Reached (ways_in np_texts) 1
 np_1 = step np_3 (Contains-first 1 [])
 
-drawn_np : Draws np_texts np_graph
+drawn_np : Draws Plain np_texts np_graph
 drawn_np = record {
   len = refl;
   reached = below_five _ (marked np_texts 0 start) (marked np_texts 1 np_1)
@@ -172,7 +173,7 @@ ap_1 = step ap_2 (Contains-first 1 (3 ∷ []))
 ap_3 : Reached (ways_in ap_texts) 3
 ap_3 = step ap_2 (Contains-after 1 3 (3 ∷ []) (Contains-first 3 []))
 
-drawn_ap : Draws ap_texts ap_graph
+drawn_ap : Draws Plain ap_texts ap_graph
 drawn_ap = record {
   len = refl;
   reached = below_four _ (marked ap_texts 0 start) (marked ap_texts 1 ap_1)
@@ -184,8 +185,8 @@ drawn_ap = record {
       (last_line (of_mark refl refl)));
 }
 
-pub np_drawn : IsGraphOf NP np_graph
+pub np_drawn : IsGraphOf Plain NP np_graph
 np_drawn = (np_texts, has_np_texts, drawn_np)
 
-pub ap_drawn : IsGraphOf AP ap_graph
+pub ap_drawn : IsGraphOf Plain AP ap_graph
 ap_drawn = (ap_texts, has_ap_texts, drawn_ap)

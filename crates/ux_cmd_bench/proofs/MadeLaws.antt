@@ -16,12 +16,12 @@ use Rattle.ux_dict.proofs.ContentLemmas.{IsContent-only}
 use Rattle.ux_dict.proofs.ReadLemmas.{content_not_refused}
 use Rattle.ux_grammars.proofs.GraphRefusals.{drawn_once}
 use Rattle.ux_grf.specs.declared.graph.Graph.{Graph}
-use Rattle.ux_net.specs.Boxes.{Drawn}
-use Rattle.ux_net.specs.Refusing as net
-use Rattle.ux_net.specs.Refusing.{IsCompilable}
-use Rattle.ux_net.specs.declared.error.NetError.{NetError}
-use Rattle.ux_net.specs.declared.error.NetError.TheVariants as net_error
-use Rattle.ux_net.proofs.RefusingLemmas.{compilable_not_refused}
+use Rattle.ux_boxes.specs.Boxes.{Drawn}
+use Rattle.ux_compile.specs.Refusing as net
+use Rattle.ux_compile.specs.Refusing.{IsCompilable}
+use Rattle.ux_boxes.specs.declared.error.NetError.{NetError}
+use Rattle.ux_boxes.specs.declared.error.NetError.TheVariants as net_error
+use Rattle.ux_compile.proofs.RefusingLemmas.{compilable_not_refused}
 use Rattle.ux_cmd_bench.specs.Bench.{ALPHABET, AP, AreGraphs, AreLetters, AreMade, DICTIONARY, Made, NP, grammar_of}
 use Rattle.ux_cmd_bench.proofs.ContentSaid.{CONTENT, content_said, entries_in_order}
 use Rattle.ux_cmd_bench.proofs.EntriesSaid.{ENTRIES, entries_said}

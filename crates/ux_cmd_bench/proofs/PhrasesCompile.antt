@@ -10,9 +10,10 @@ use Rattle.ux_base.proofs.FirstsLemmas.{Contains-after, Contains-cases, Contains
 use Rattle.ux_grf.specs.declared.graph.GrfBox.{GrfBox}
 use Rattle.ux_grf.specs.declared.item.Item.{Item}
 use Rattle.ux_grf.specs.declared.item.Item.TheVariants as item
-use Rattle.ux_net.specs.Boxes.{Drawn, IsBoxStep, IsSplitLine, box_grammar, boxes_of, lines_at, names_of, targets_at}
-use Rattle.ux_net.specs.MaskTexts.{AreMasks, HaveMasks, IsMask, mask_texts_of}
-use Rattle.ux_net.specs.Refusing.{AreMasked, AreWhole, IsCompilable}
+use Rattle.ux_boxes.specs.Boxes.{Drawn, IsBoxStep, IsSplitLine, box_grammar, boxes_of, lines_at, names_of, targets_at}
+use Rattle.ux_boxes.specs.MaskTexts.{AreMasks, HaveMasks, IsMask, mask_texts_of}
+use Rattle.ux_boxes.specs.Refusing.{AreMasked, AreWhole}
+use Rattle.ux_compile.specs.Refusing.{IsCompilable}
 use Rattle.ux_net.specs.Words.{Step}
 use Rattle.ux_net.specs.declared.label.Label.TheVariants.{Call, Mask}
 use Rattle.ux_cmd_bench.specs.Bench.{grammar_of}

@@ -4,11 +4,11 @@ use Rattle.std.proofs.Common.{◌≡◌, ◌≢◌, ◌∙◌, inl, inr, ℕ, Li
 use Rattle.ux_masks.specs.declared.mask.Mask as masks
 use Rattle.ux_net.specs.declared.label.Label.{Label}
 use Rattle.ux_net.specs.declared.label.Label.TheVariants.{Call, Mask}
-use Rattle.ux_net.specs.Admissible.{EntersAt, Enters, IsAdmissible, IsFree, IsOnMove, IsSilent, IsUnit, MovesFreely, along_step, at_opening, by_call, by_opening, call, in_front, none, over_context, silent}
-use Rattle.ux_net.specs.ContextClose.{AreClosed}
-use Rattle.ux_net.specs.NegativeRecursion.{HasNoNegativeRecursion}
+use Rattle.ux_admission.specs.Admissible.{EntersAt, Enters, IsAdmissible, IsFree, IsOnMove, IsSilent, IsUnit, MovesFreely, along_step, at_opening, by_call, by_opening, call, in_front, none, over_context, silent}
+use Rattle.ux_admission.specs.ContextClose.{AreClosed}
+use Rattle.ux_admission.specs.NegativeRecursion.{HasNoNegativeRecursion}
 use Rattle.ux_net.specs.Words.{Grammar, IsWord, Letter, Run, Sign, Step, across, along, closes, letters, mark_of, negative, opens, ordinary, plain, put_by, stop}
-use Rattle.ux_net.proofs.FreeLemmas.{free_parts}
+use Rattle.ux_admission.proofs.FreeLemmas.{free_parts}
 
 -- the step takes a token, or calls a graph and doesn't lead from this place
 pub data Takes (start : ℕ) (step : Step) : Type 0 where

@@ -6,10 +6,11 @@ use Rattle.ux_alphabet.specs.Letters.{Letters}
 use Rattle.ux_apply.specs.declared.priority.Priority.TheVariants.{Normal}
 use Rattle.ux_dela.specs.declared.entry.Entry.{Entry}
 use Rattle.ux_dict.specs.FileContent.{IsFileContent}
+use Rattle.ux_grf.specs.declared.graph.GraphKind.TheVariants.{Plain}
 use Rattle.ux_grf.specs.File.{IsGraphOf}
 use Rattle.ux_grf.specs.declared.graph.Graph.{Graph}
-use Rattle.ux_net.specs.Boxes.{Drawn, box_grammar}
-use Rattle.ux_net.specs.Refusing.{IsCompilable}
+use Rattle.ux_boxes.specs.Boxes.{Drawn, box_grammar}
+use Rattle.ux_compile.specs.Refusing.{IsCompilable}
 use Rattle.ux_cmd_bench.specs.Summaries.{IsSummary}
 
 -- WHAT IS MADE UP, AS THE TEXTS OF FILES
@@ -44,8 +45,8 @@ grammar_of np ap = record { name = codes "NP"; boxes = np.boxes }
 pub record AreGraphs (graphs : List Drawn) : Type 0 where
   pub np : Graph
   pub ap : Graph
-  pub draws_np : IsGraphOf NP np
-  pub draws_ap : IsGraphOf AP ap
+  pub draws_np : IsGraphOf Plain NP np
+  pub draws_ap : IsGraphOf Plain AP ap
   pub are : graphs ≡ grammar_of np ap
 
 -- the letters, the content of the dictionary and the graphs of a grammar

@@ -6,8 +6,9 @@ ghost use Rattle.ux_apply.specs.declared.priority.Priority.TheVariants.{Normal};
 ghost use Rattle.ux_dela.specs.declared.entry.Entry.{Entry};
 ghost use Rattle.ux_dict.specs.FileContent.{IsFileContent};
 ghost use Rattle.ux_grammars.specs.Reading.{IsGiven, IsGivenGraph};
+ghost use Rattle.ux_grf.specs.declared.graph.GraphKind.TheVariants.{Plain};
 ghost use Rattle.ux_grf.specs.File.{IsGraphOf};
-ghost use Rattle.ux_net.specs.Refusing.{drawn};
+ghost use Rattle.ux_boxes.specs.Refusing.{drawn};
 ghost use Rattle.ux_cmd_bench.specs.Bench.{AreGraphs, AreLetters, DICTIONARY, grammar_of};
 ghost use Rattle.ux_cmd_bench.specs.Compiled.{DrawsGraph, IsPhraseNet};
 
@@ -15,10 +16,11 @@ use std::alloc::Global;
 use ux_alphabet::{Alphabet, AlphabetError};
 use ux_apply::Priority;
 use ux_base::{Mem, NoMemory};
+use ux_boxes::NetError;
 use ux_dela::DelaError;
 use ux_dict::ListLexicon;
 use ux_grf::{Graph, GrfError, read_grf};
-use ux_net::{Net, NetError};
+use ux_net::Net;
 
 /// The letters, upper and lower.
 const LETTERS: &str =
@@ -62,7 +64,7 @@ pub(crate) fn net(alloc: Global, alphabet: &Alphabet) -> Mem<Net>
     ensures { IfOk result (IsPhraseNet alphabet.now) }
 {
     let graphs = graphs(alloc)?;
-    match Net::compile(alloc, graphs, alphabet) {
+    match ux_compile::compile(alloc, graphs, alphabet) {
         Ok(net) => Ok(net),
         Err(NetError::NoMemory) => Err(NoMemory),
         // No graph calls another before it takes a token.
@@ -116,7 +118,7 @@ fn named(alloc: Global, np: Graph, ap: Graph) -> Mem<Vec<(String, Graph)>>
 fn graph(alloc: Global, text: &str) -> Mem<Graph>
     requires short { length text.now ≤ 1000 }
     requires draws { DrawsGraph text.now }
-    ensures draws { IfOk result (IsGraphOf text.now) }
+    ensures draws { IfOk result (IsGraphOf Plain text.now) }
     ensures given { IfOk result IsGivenGraph }
 {
     match read_grf(alloc, text) {

@@ -8,7 +8,6 @@ ghost use Rattle.ux_lexical_tables.specs.Belonging.{Belongs};
 ghost use Rattle.ux_net.specs.Nets.{net_grammar};
 ghost use Rattle.ux_tokens.specs.Tokens.{AreTokens};
 ghost use Rattle.ux_locate.specs.Hits.{IsHit};
-ghost use Rattle.ux_locate.specs.Searchable.{IsSearchable};
 ghost use Rattle.ux_locate.specs.Spans.{LiesIn, hit_at};
 ghost use Rattle.ux_cmd_bench.specs.Counted.{AreCounts};
 ghost use Rattle.ux_cmd_bench.specs.MadeText.{made_text};
@@ -37,7 +36,6 @@ pub(crate) fn summary(
     dics: &[(Priority, ListLexicon)],
     net: &Net,
 ) -> Mem<Vec<u8>>
-    requires { IsSearchable net.now }
     ensures { IfOk result (λ summary. IsSummary n alphabet.now dics.now (net_grammar net.now)
         summary.items) }
 {
@@ -73,7 +71,6 @@ fn counts<L: Ledger>(
     requires parts { blank.parts ≡ L.parts }
     requires some { 0 < blank.parts }
     requires belongs { Belongs alphabet.now text.now applied.now }
-    requires searchable { IsSearchable net.now }
     ensures { IfOk result (λ counts. AreCounts
         (IsHit alphabet.now text.now applied.now (net_grammar net.now) Ignore Nothing)
         counts.0 counts.1) }

@@ -5,7 +5,7 @@ use Rattle.ux_base.specs.declared.settings.Mode.{Mode}
 use Rattle.ux_base.specs.declared.settings.NoVar.{NoVar}
 use Rattle.ux_base.specs.declared.settings.Policy.{Policy}
 use Rattle.ux_tokens.specs.Tokens.{Token}
-use Rattle.ux_net.specs.Boxes.{box_grammar}
+use Rattle.ux_boxes.specs.Boxes.{box_grammar}
 use Rattle.ux_net.specs.Nets.{net_grammar}
 use Rattle.ux_net.specs.declared.net_graph.NetGraph.{NetGraph}
 use Rattle.ux_walk.specs.Settings.{applied_text}

@@ -6,7 +6,7 @@ use Rattle.ux_base.specs.declared.settings.NoVar.{NoVar}
 use Rattle.ux_base.specs.declared.settings.Policy.{Policy}
 use Rattle.ux_plan.specs.Commands.{Command}
 use Rattle.ux_reasons.specs.declared.reason.Reason.{Reason}
-use Rattle.ux_net.specs.Boxes.{box_grammar}
+use Rattle.ux_boxes.specs.Boxes.{box_grammar}
 use Rattle.ux_cmd_locate.specs.Reading.{Searched, search_plan}
 use Rattle.ux_cmd_locate.specs.Laws.{search_laws}
 use Rattle.ux_cmd_concord.specs.Applied.{IsAppliedConcordance}

@@ -6,7 +6,6 @@ ghost use Rattle.ux_net.specs.Nets.{net_grammar};
 ghost use Rattle.ux_plan.specs.Commands.{Answers};
 ghost use Rattle.ux_plan.specs.Plans.{Halts};
 ghost use Rattle.ux_dictionaries.specs.Dictionaries.{contents_of};
-ghost use Rattle.ux_locate.specs.Searchable.{IsSearchable};
 ghost use Rattle.ux_cmd_concord.specs.Applied.{IsAppliedConcordance};
 ghost use Rattle.ux_cmd_concord.specs.Concord.{concord as concord_command};
 
@@ -62,7 +61,6 @@ fn concordance_of(
     novar: NoVar,
     layout: Layout,
 ) -> Mem<Vec<u8>>
-    requires { IsSearchable files.net }
     ensures { IfOk result (λ answer. IsAppliedConcordance files.alphabet files.text
         (contents_of files.dics.items) (net_grammar files.net) mode policy novar layout
         answer.items) }

@@ -8,7 +8,6 @@ ghost use Rattle.ux_net.specs.Nets.{net_grammar};
 ghost use Rattle.ux_lexical_tables.specs.Belonging.{Belongs};
 ghost use Rattle.ux_locate.specs.Hits.{IsHit};
 ghost use Rattle.ux_locate.specs.Index.{IsKeptListing};
-ghost use Rattle.ux_locate.specs.Searchable.{IsSearchable};
 ghost use Rattle.ux_locate.specs.Spans.{LiesIn, hit_at};
 
 use std::alloc::Global;
@@ -37,7 +36,6 @@ pub(crate) fn hits_of<L: Ledger>(
     requires parts { blank.parts ≡ L.parts }
     requires some { 0 < blank.parts }
     requires belongs { Belongs alphabet.now text.now applied.now }
-    requires searchable { IsSearchable net.now }
     ensures { IfOk result (λ hits. IsKeptListing policy
         (IsHit alphabet.now text.now applied.now (net_grammar net.now) mode novar) hits.items) }
 {

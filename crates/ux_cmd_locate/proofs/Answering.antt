@@ -6,7 +6,7 @@ use Rattle.ux_base.specs.declared.settings.NoVar.{NoVar}
 use Rattle.ux_base.specs.declared.settings.Policy.{Policy}
 use Rattle.ux_base.specs.declared.settings.Policy.TheVariants.{Shortest, Longest, All}
 use Rattle.ux_tokens.specs.Tokens.{Token}
-use Rattle.ux_net.specs.Boxes.{box_grammar}
+use Rattle.ux_boxes.specs.Boxes.{box_grammar}
 use Rattle.ux_net.specs.Nets.{net_grammar}
 use Rattle.ux_net.specs.Words.{Grammar}
 use Rattle.ux_net.specs.declared.net_graph.NetGraph.{NetGraph}

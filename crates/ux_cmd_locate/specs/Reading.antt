@@ -7,7 +7,7 @@ use Rattle.ux_tokens.specs.Tokens.{Token}
 use Rattle.ux_apply.specs.declared.priority.Priority.{Priority}
 use Rattle.ux_dela.specs.declared.entry.Entry.{Entry}
 use Rattle.ux_dictionaries.specs.Dictionaries.{dictionary_format}
-use Rattle.ux_net.specs.Boxes.{Drawn}
+use Rattle.ux_boxes.specs.Boxes.{Drawn}
 use Rattle.ux_net.specs.declared.net_graph.NetGraph.{NetGraph}
 use Rattle.ux_grammars.specs.Graphs.{grammar_plan}
 use Rattle.ux_grammars.specs.Reading.{Compiles}

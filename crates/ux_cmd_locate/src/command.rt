@@ -9,7 +9,6 @@ ghost use Rattle.ux_lexical_tables.specs.Belonging.{Belongs};
 ghost use Rattle.ux_dictionaries.specs.Dictionaries.{contents_of};
 ghost use Rattle.ux_locate.specs.Hits.{IsHit};
 ghost use Rattle.ux_locate.specs.Index.{IsIndex};
-ghost use Rattle.ux_locate.specs.Searchable.{IsSearchable};
 ghost use Rattle.ux_cmd_locate.specs.Indexes.{IsAppliedIndex};
 ghost use Rattle.ux_cmd_locate.specs.Locate.{locate as locate_command};
 
@@ -58,7 +57,6 @@ pub fn locate<F: Folder>(
 /// The index of the grammar's hits in the text with the entries that apply to it. The dictionaries
 /// are freed before it is searched.
 fn index_of(alloc: Global, files: Files, mode: Mode, policy: Policy, novar: NoVar) -> Mem<Vec<u8>>
-    requires { IsSearchable files.net }
     ensures { IfOk result (λ index. IsAppliedIndex files.alphabet files.text
         (contents_of files.dics.items) (net_grammar files.net) mode policy novar index.items) }
 {
@@ -94,7 +92,6 @@ fn hits_index<L: Ledger>(
     requires parts { blank.parts ≡ L.parts }
     requires some { 0 < blank.parts }
     requires belongs { Belongs alphabet.now text.now applied.now }
-    requires searchable { IsSearchable net.now }
     ensures { IfOk result (λ index. IsIndex mode policy
         (IsHit alphabet.now text.now applied.now (net_grammar net.now) mode novar)
         (string_bytes index)) }

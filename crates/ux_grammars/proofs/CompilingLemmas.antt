@@ -2,10 +2,11 @@
 use Rattle.std.proofs.Common.{List}
 use Rattle.std.specs.Prelude.{slice_get}
 use Rattle.std.proofs.lemmas.Option.{get_or_from_slice_get, slice_get_within}
-use Rattle.ux_net.specs.Boxes.{Drawn}
-use Rattle.ux_net.specs.Refusing.{AreWhole, Refuses, calls_in}
-use Rattle.ux_net.specs.declared.error.NetError.{NetError}
-use Rattle.ux_net.specs.declared.error.NetError.TheVariants.{MissingGraph, BadMask, ContextClose, NegativeRecursion, EmptyLoop, LeftRecursion, NoMemory}
+use Rattle.ux_boxes.specs.Boxes.{Drawn}
+use Rattle.ux_boxes.specs.Refusing.{AreWhole, calls_in}
+use Rattle.ux_compile.specs.Refusing.{Refuses}
+use Rattle.ux_boxes.specs.declared.error.NetError.{NetError}
+use Rattle.ux_boxes.specs.declared.error.NetError.TheVariants.{MissingGraph, BadMask, ContextClose, NegativeRecursion, EmptyLoop, LeftRecursion, NoMemory}
 use Rattle.ux_alphabet.specs.Letters.{Letters}
 use Rattle.ux_grammars.specs.Reading.{IsPlaced}
 

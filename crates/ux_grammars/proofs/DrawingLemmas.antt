@@ -8,7 +8,7 @@ use Rattle.ux_plan.specs.Plans.{HasFile, IsLong, Reads, StopsFile, StopsTest, by
 use Rattle.ux_reasons.specs.declared.reason.Reason.{Reason}
 use Rattle.ux_reasons.specs.declared.reason.Reason.TheVariants.{TooManyGraphs}
 use Rattle.ux_grf.specs.declared.graph.Graph.{Graph}
-use Rattle.ux_net.specs.Refusing.{drawn_of}
+use Rattle.ux_boxes.specs.Refusing.{drawn_of}
 use Rattle.ux_grammars.specs.Graphs.{MOST_GRAPHS, drawing_format, graph_format}
 
 -- The file of a graph after so many others.

@@ -5,12 +5,13 @@ use Rattle.ux_plan.specs.Plans.{gives, refusing, said_as, tests}
 use Rattle.ux_plan.proofs.PlanLaws.{decoded_sound, laws_grows, laws_then, refusing_sound, said_sound}
 use Rattle.ux_reasons.specs.declared.reason.Reason.{Reason}
 use Rattle.ux_reasons.specs.declared.reason.Reason.TheVariants.{Decode, Grf, Net, TooManyGraphs}
+use Rattle.ux_grf.specs.declared.graph.GraphKind.TheVariants.{Plain}
 use Rattle.ux_grf.specs.File.{IsGraphOf}
 use Rattle.ux_grf.specs.declared.graph.Graph.{Graph}
 use Rattle.ux_grf.specs.declared.graph.GrfBox.{GrfBox}
-use Rattle.ux_net.specs.Boxes.{Drawn}
-use Rattle.ux_net.specs.Refusing.{IsCompilable}
-use Rattle.ux_net.proofs.RefusingLemmas.{compilable_not_refused}
+use Rattle.ux_boxes.specs.Boxes.{Drawn}
+use Rattle.ux_compile.specs.Refusing.{IsCompilable}
+use Rattle.ux_compile.proofs.RefusingLemmas.{compilable_not_refused}
 use Rattle.ux_grammars.specs.Graphs.{IsNoGraph, MOST_GRAPHS, MOST_READS, RefusesGrammar, drawing_format, grammar_plan, graph_format, graphs_plan}
 use Rattle.ux_alphabet.specs.Letters.{Letters}
 use Rattle.ux_grammars.specs.Naming.{file_of, next_name}
@@ -26,8 +27,8 @@ same_drawn a b names boxes =
 -- a text draws one graph, and is then not refused; one that is refused is so for one cause
 pub drawing_sound : IsSound drawing_format
 drawing_sound =
-    decoded_sound Decode (said_as Grf IsGraphOf IsNoGraph)
-    (said_sound Grf IsGraphOf IsNoGraph (λ text v error is refused.
+    decoded_sound Decode (said_as Grf (IsGraphOf Plain) IsNoGraph)
+    (said_sound Grf (IsGraphOf Plain) IsNoGraph (λ text v error is refused.
     drawn_not_refused text v error is refused.not_memory refused.refuses) drawn_once
     (λ text error other a b. graph_refused_once text error other a.not_memory b.not_memory a.refuses
     b.refuses))

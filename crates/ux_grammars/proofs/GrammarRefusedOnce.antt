@@ -4,14 +4,14 @@ use Rattle.std.specs.Prelude.{Contains, slice_get}
 use Rattle.std.proofs.lemmas.Bool.{cases_order}
 use Rattle.std.proofs.lemmas.Option.{get_or_from_slice_get, same_Some, slice_get_within}
 use Rattle.ux_alphabet.specs.Letters.{Letters}
-use Rattle.ux_net.specs.Admissible.{IsFirst}
-use Rattle.ux_net.specs.Boxes.{Drawn, names_of}
-use Rattle.ux_net.specs.MaskTexts.{HaveMasks, IsFirstBad}
-use Rattle.ux_net.specs.Refusing.{AreMasked, AreWhole, HasBadMask, IsFirstAmong, IsFirstBadMask, IsFirstMissing, Refuses, calls_in, is_name_at, mask_texts_at}
-use Rattle.ux_net.specs.declared.error.NetError.{NetError}
-use Rattle.ux_net.specs.declared.error.NetError.TheVariants.{MissingGraph, BadMask, ContextClose, NegativeRecursion, EmptyLoop, LeftRecursion, NoMemory}
-use Rattle.ux_net.proofs.MaskTextsLemmas.{HasBadText, no_box_bad, none_bad}
-use Rattle.ux_net.proofs.RefusingLemmas.{good_none}
+use Rattle.ux_boxes.specs.Refusing.{IsFirst, AreMasked, AreWhole, HasBadMask, IsFirstAmong, IsFirstBadMask, IsFirstMissing, calls_in, is_name_at, mask_texts_at}
+use Rattle.ux_boxes.specs.Boxes.{Drawn, names_of}
+use Rattle.ux_boxes.specs.MaskTexts.{HaveMasks, IsFirstBad}
+use Rattle.ux_compile.specs.Refusing.{Refuses}
+use Rattle.ux_boxes.specs.declared.error.NetError.{NetError}
+use Rattle.ux_boxes.specs.declared.error.NetError.TheVariants.{MissingGraph, BadMask, ContextClose, NegativeRecursion, EmptyLoop, LeftRecursion, NoMemory}
+use Rattle.ux_boxes.proofs.MaskTextsLemmas.{HasBadText, no_box_bad, none_bad}
+use Rattle.ux_boxes.proofs.RefusingLemmas.{good_none}
 use Rattle.ux_grammars.specs.Graphs.{NamesFile}
 use Rattle.ux_grammars.proofs.MaskRefusedOnce.{first_place}
 

@@ -2,6 +2,7 @@
 use Rattle.std.proofs.Common.{arith, ◌≡◌, ◌≢◌, ℕ, suc, ◌<◌, ◌↔◌, Bool, true, false, length, get_or, List, [], ◌∷◌, Option, Some, None, refl, sym, ap, ◌∙◌, subst}
 use Rattle.std.proofs.lemmas.Bool.{false≢true, both_ways, lt-ltb}
 use Rattle.std.proofs.lemmas.Option.{none-some, same_Some}
+use Rattle.ux_grf.specs.declared.graph.GraphKind.TheVariants.{Plain}
 use Rattle.ux_grf.specs.declared.error.GrfError.{GrfError}
 use Rattle.ux_grf.specs.declared.error.GrfError.TheVariants.{NoHeader, BadCount, BadBoxLine, BadTarget, BadContent, NoMemory}
 use Rattle.ux_grf.specs.declared.graph.Graph.{Graph}
@@ -29,8 +30,8 @@ no_target count None good bad = bad
 no_target count (Some text) good bad = both_ways _ bad good
 
 -- a text that draws a graph is refused for want of memory alone
-pub drawn_not_refused : (text : List ℕ) (graph : Graph) (error : GrfError) → IsGraphOf text graph →
-    error ≢ NoMemory → Refuses text error → ⊥
+pub drawn_not_refused : (text : List ℕ) (graph : Graph) (error : GrfError) → IsGraphOf Plain text graph →
+    error ≢ NoMemory → Refuses Plain text error → ⊥
 drawn_not_refused text graph NoHeader is other refused =
     none-some (is.1.has.first ∷ is.1.lines) (sym refused ∙ is.1.has.header)
 drawn_not_refused text graph BadCount is other refused =
@@ -58,8 +59,8 @@ drawn_not_refused text graph (BadTarget node) is other refused =
     no_target count (box_at lines node) (is.1.good node inside) bad
 drawn_not_refused text graph (BadContent node place) is other refused =
     let texts = is.0 in
-    let first : IsFirstBad texts node place =
-    subst (λ (ts : List BoxText). IsFirstBad ts node place)
+    let first : IsFirstBad Plain texts node place =
+    subst (λ (ts : List BoxText). IsFirstBad Plain ts node place)
     (HasTexts-once text refused.0 texts refused.1 is.1) refused.2 in
     let read = (is.2.reached node first.box.inside).1 first.box.reached in
     let inner = lt-ltb 1 node first.box.inner in
@@ -88,7 +89,7 @@ made_of r s l m o p t u e f g h =
 
 -- a text draws one box
 box_once : (text : BoxText) (node : ℕ) (a b : GrfBox) → a.reached ≡ b.reached →
-    IsBoxOf text node a → IsBoxOf text node b → a ≡ b
+    IsBoxOf Plain text node a → IsBoxOf Plain text node b → a ≡ b
 box_once text node a b same one other = by (is_read node a.reached) refl
   where
     by : (r : Bool) → is_read node a.reached ≡ r → a ≡ b
@@ -117,12 +118,12 @@ same_boxes d (x ∷ xs) (y ∷ ys) len each =
     (same_boxes d xs ys (omega (arith, len)) (λ n low. each (suc n) (omega (arith, low))))
 
 -- a text draws one graph
-pub drawn_once : (text : List ℕ) (one other : Graph) → IsGraphOf text one →
-    IsGraphOf text other → one ≡ other
+pub drawn_once : (text : List ℕ) (one other : Graph) → IsGraphOf Plain text one →
+    IsGraphOf Plain text other → one ≡ other
 drawn_once text one other is also =
     let texts = is.0 in
-    let draws : Draws texts other =
-    subst (λ (ts : List BoxText). Draws ts other) (HasTexts-once text also.0 texts also.1 is.1) also.2
+    let draws : Draws Plain texts other =
+    subst (λ (ts : List BoxText). Draws Plain ts other) (HasTexts-once text also.0 texts also.1 is.1) also.2
     in
     ap (λ (boxes : List GrfBox). record { boxes = boxes })
     (same_boxes _ one.boxes other.boxes (is.2.len ∙ sym draws.len) (λ n low.

@@ -2,6 +2,7 @@
 use Rattle.std.proofs.Common.{arith, ◌≡◌, ◌≢◌, inl, inr, ℕ, ◌<◌, List, ◌∷◌, true, false, Option, Some, None, refl, sym, ap, ◌∙◌, subst}
 use Rattle.std.proofs.lemmas.Bool.{both_ways, cases_order}
 use Rattle.std.proofs.lemmas.Option.{none-some, same_Some}
+use Rattle.ux_grf.specs.declared.graph.GraphKind.TheVariants.{Plain}
 use Rattle.ux_grf.specs.declared.error.GrfError.{GrfError}
 use Rattle.ux_grf.specs.declared.error.GrfError.TheVariants.{NoHeader, BadCount, BadBoxLine, BadTarget, BadContent, NoMemory}
 use Rattle.ux_grf.specs.BoxLine.{BoxText}
@@ -35,19 +36,19 @@ record IsFirstBadLine (text : List ℕ) (node : ℕ) : Type 0 where
 
 module _ (text : List ℕ) where
   -- no text lacks a header and has box lines
-  no_header : {count : ℕ} {lines : List (List ℕ)} → Refuses text NoHeader →
+  no_header : {count : ℕ} {lines : List (List ℕ)} → Refuses Plain text NoHeader →
       HasBoxLines text count lines → ⊥
   no_header {count} {lines} refused has = none-some (has.first ∷ lines) (sym refused ∙ has.header)
 
   -- nor tells no number of boxes and has box lines
-  no_count : {count : ℕ} {lines : List (List ℕ)} → Refuses text BadCount →
+  no_count : {count : ℕ} {lines : List (List ℕ)} → Refuses Plain text BadCount →
       HasBoxLines text count lines → ⊥
   no_count {count} {lines} refused has =
       let same = same_Some refused.0 (has.first ∷ lines) (sym refused.1 ∙ has.header) in
       none-some count (sym refused.2 ∙ (ap count_at same ∙ has.told))
 
   -- each refusal by a box line is by the first bad one
-  line_bad : (node : ℕ) → Refuses text (BadBoxLine node) → IsFirstBadLine text node
+  line_bad : (node : ℕ) → Refuses Plain text (BadBoxLine node) → IsFirstBadLine text node
   line_bad node refused = record {
     count = refused.0;
     lines = refused.1;
@@ -57,7 +58,7 @@ module _ (text : List ℕ) where
     bad = none_bad refused.0 (box_at refused.1 node) refused.3.2;
   }
 
-  target_line_bad : (node : ℕ) → Refuses text (BadTarget node) → IsFirstBadLine text node
+  target_line_bad : (node : ℕ) → Refuses Plain text (BadTarget node) → IsFirstBadLine text node
   target_line_bad node refused = record {
     count = refused.0;
     lines = refused.1;
@@ -86,7 +87,7 @@ module _ (text : List ℕ) where
   ]
 
   -- a line that is no box line has no bad target
-  no_line_target : (node : ℕ) → Refuses text (BadBoxLine node) → Refuses text (BadTarget node) → ⊥
+  no_line_target : (node : ℕ) → Refuses Plain text (BadBoxLine node) → Refuses Plain text (BadTarget node) → ⊥
   no_line_target node one other =
       let counts = count_same text one.0 other.0 one.1 other.1 one.2 other.2 in
       let same = lines_same text one.0 other.0 one.1 other.1 one.2 other.2 in
@@ -104,18 +105,18 @@ module _ (text : List ℕ) where
       good_at node has.count has.lines one has.has (has.good node inside)
 
 -- of two boxes with a bad content, the later isn't the first
-not_first : (texts : List BoxText) (node place other at : ℕ) → IsFirstBad texts node place →
-    IsFirstBad texts other at → node < other → ⊥
+not_first : (texts : List BoxText) (node place other at : ℕ) → IsFirstBad Plain texts node place →
+    IsFirstBad Plain texts other at → node < other → ⊥
 not_first texts node place other at one also low =
     let read = also.first node low one.box in
     IsContent-IsFault (content_of (text_at texts node)) one.bad.left read.0 read.1 one.bad.fault
 
 -- so one is, and it is bad at one place
-one_content : (texts : List BoxText) (node place other at : ℕ) → IsFirstBad texts node place →
-    IsFirstBad texts other at → BadContent node place ≡ BadContent other at
+one_content : (texts : List BoxText) (node place other at : ℕ) → IsFirstBad Plain texts node place →
+    IsFirstBad Plain texts other at → BadContent node place ≡ BadContent other at
 one_content texts node place other at one also = elim (cases_order node other) [
   | inl same ↦
-      let bad = subst (λ (n : ℕ). IsFirstBad texts n place) same one in
+      let bad = subst (λ (n : ℕ). IsFirstBad Plain texts n place) same one in
       let places = IsBadAt-once (content_of (text_at texts other)) place at bad.bad also.bad in
       ap (λ (n : ℕ). BadContent n place) same ∙ ap (BadContent other) places
   | inr (inl low) ↦ absurd (not_first texts node place other at one also low)
@@ -133,7 +134,7 @@ step NoMemory = 4
 
 -- a text that a test refuses isn't refused by a later one
 not_later : (text : List ℕ) (e f : GrfError) → f ≢ NoMemory → step e < step f →
-    Refuses text e → Refuses text f → ⊥
+    Refuses Plain text e → Refuses Plain text f → ⊥
 not_later text NoHeader BadCount some low r s = none-some s.0 (sym r ∙ s.1)
 not_later text NoHeader (BadBoxLine m) some low r s = no_header text r s.2
 not_later text NoHeader (BadTarget m) some low r s = no_header text r s.2
@@ -150,21 +151,21 @@ not_later text e f some low r s = omega (arith, low)
 
 -- a test refuses it for one error
 same_step : (text : List ℕ) (e f : GrfError) → e ≢ NoMemory → f ≢ NoMemory → step e ≡ step f →
-    Refuses text e → Refuses text f → e ≡ f
+    Refuses Plain text e → Refuses Plain text f → e ≡ f
 same_step text NoHeader NoHeader some also same r s = refl
 same_step text BadCount BadCount some also same r s = refl
 same_step text (BadBoxLine n) (BadBoxLine m) some also same r s =
     ap BadBoxLine (one_line text n m (line_bad text n r) (line_bad text m s))
 same_step text (BadBoxLine n) (BadTarget m) some also same r s =
     let one = one_line text n m (line_bad text n r) (target_line_bad text m s) in
-    absurd (no_line_target text m (subst (λ (k : ℕ). Refuses text (BadBoxLine k)) one r) s)
+    absurd (no_line_target text m (subst (λ (k : ℕ). Refuses Plain text (BadBoxLine k)) one r) s)
 same_step text (BadTarget n) (BadBoxLine m) some also same r s =
     let one = one_line text m n (line_bad text m s) (target_line_bad text n r) in
-    absurd (no_line_target text n (subst (λ (k : ℕ). Refuses text (BadBoxLine k)) one s) r)
+    absurd (no_line_target text n (subst (λ (k : ℕ). Refuses Plain text (BadBoxLine k)) one s) r)
 same_step text (BadTarget n) (BadTarget m) some also same r s =
     ap BadTarget (one_line text n m (target_line_bad text n r) (target_line_bad text m s))
 same_step text (BadContent n place) (BadContent m at) some also same r s =
-    one_content r.0 n place m at r.2 (subst (λ (ts : List BoxText). IsFirstBad ts m at)
+    one_content r.0 n place m at r.2 (subst (λ (ts : List BoxText). IsFirstBad Plain ts m at)
     (HasTexts-once text s.0 r.0 s.1 r.1) s.2)
 same_step text NoMemory f some also same r s = absurd (some refl)
 same_step text e NoMemory some also same r s = absurd (also refl)
@@ -172,7 +173,7 @@ same_step text e f some also same r s = absurd (omega (arith, same))
 
 -- a text is refused for one error, want of memory aside
 pub graph_refused_once : (text : List ℕ) (e f : GrfError) → e ≢ NoMemory → f ≢ NoMemory →
-    Refuses text e → Refuses text f → e ≡ f
+    Refuses Plain text e → Refuses Plain text f → e ≡ f
 graph_refused_once text e f some also r s = elim (cases_order (step e) (step f)) [
   | inl same ↦ same_step text e f some also same r s
   | inr (inl low) ↦ absurd (not_later text e f also low r s)

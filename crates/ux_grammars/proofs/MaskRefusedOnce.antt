@@ -4,7 +4,7 @@ use Rattle.std.specs.Str.{chars}
 use Rattle.std.proofs.lemmas.Bool.{cases_order}
 use Rattle.std.proofs.lemmas.List.Elements.{All-head, All-tail}
 use Rattle.ux_masks.specs.Texts.{BeginsMask, IsBadAt, IsMaskText, front_of}
-use Rattle.ux_net.specs.MaskTexts.{AreMasks, IsFirstBad, IsMask}
+use Rattle.ux_boxes.specs.MaskTexts.{AreMasks, IsFirstBad, IsMask}
 
 -- more characters of a text go on where fewer end
 front_grows : (cs : List ℕ) (p q : ℕ) → p ≤ q →

@@ -14,8 +14,8 @@ use Rattle.ux_grf.specs.declared.graph.Graph.{Graph}
 use Rattle.ux_base.specs.Distinct.{GrowsBy, StandOnce}
 use Rattle.ux_tokens.proofs.CutLemmas.{slice_get-push_cases}
 use Rattle.ux_base.proofs.OnceLemmas.{each_once-once}
-use Rattle.ux_net.specs.Boxes.{Drawn, names_of}
-use Rattle.ux_net.specs.Refusing.{AreWhole, calls_in, calls_of, drawn, drawn_of}
+use Rattle.ux_boxes.specs.Boxes.{Drawn, names_of}
+use Rattle.ux_boxes.specs.Refusing.{AreWhole, calls_in, calls_of, drawn, drawn_of}
 use Rattle.ux_grammars.specs.Graphs.{MOST_GRAPHS}
 use Rattle.ux_grammars.specs.Naming.{file_of, main_name, names_after, next_name}
 use Rattle.ux_grammars.specs.Reading.{AreNamed, AreWholeGraphs, IsGiven, IsReading}

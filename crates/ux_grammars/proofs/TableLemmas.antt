@@ -6,8 +6,8 @@ use Rattle.std.proofs.lemmas.Grind.{flat_map-append}
 use Rattle.ux_base.specs.Distinct.{AreFirsts, GrowsBy, each_once, with_text}
 use Rattle.ux_base.proofs.DistinctLemmas.{each_once-keeps}
 use Rattle.ux_base.proofs.FirstTextsLemmas.{each_once-AreFirsts, each_once-is}
-use Rattle.ux_net.specs.Boxes.{Drawn}
-use Rattle.ux_net.specs.Refusing.{calls_of}
+use Rattle.ux_boxes.specs.Boxes.{Drawn}
+use Rattle.ux_boxes.specs.Refusing.{calls_of}
 use Rattle.ux_grammars.specs.Naming.{main_name, names_after}
 
 -- one text more is added last

@@ -4,15 +4,16 @@ use Rattle.std.specs.Prelude.{◌≡◌, ◌≢◌, ◌⊎◌, ℕ, ◌<◌, ◌
 use Rattle.ux_plan.specs.Plans.{Format, Plan, Tells, decoded, gives, grows, refusing, said_as, tests, then}
 use Rattle.ux_reasons.specs.declared.reason.Reason.{Reason}
 use Rattle.ux_reasons.specs.declared.reason.Reason.TheVariants.{Decode, Grf, Net, TooManyGraphs}
+use Rattle.ux_grf.specs.declared.graph.GraphKind.TheVariants.{Plain}
 use Rattle.ux_grf.specs.File as grf
 use Rattle.ux_grf.specs.declared.error.GrfError.{GrfError}
 use Rattle.ux_grf.specs.declared.error.GrfError.TheVariants as grf_error
 use Rattle.ux_grf.specs.declared.graph.Graph.{Graph}
-use Rattle.ux_net.specs.Boxes.{Drawn}
-use Rattle.ux_net.specs.Refusing as net
-use Rattle.ux_net.specs.Refusing.{IsCompilable}
-use Rattle.ux_net.specs.declared.error.NetError.{NetError}
-use Rattle.ux_net.specs.declared.error.NetError.TheVariants as net_error
+use Rattle.ux_boxes.specs.Boxes.{Drawn}
+use Rattle.ux_compile.specs.Refusing as net
+use Rattle.ux_compile.specs.Refusing.{IsCompilable}
+use Rattle.ux_boxes.specs.declared.error.NetError.{NetError}
+use Rattle.ux_boxes.specs.declared.error.NetError.TheVariants as net_error
 use Rattle.ux_alphabet.specs.Letters.{Letters}
 use Rattle.ux_grammars.specs.Naming.{file_of, named_file, next_name}
 
@@ -26,7 +27,7 @@ MOST_READS = 65536
 
 -- the text draws no graph
 pub record IsNoGraph (text : List ℕ) (error : GrfError) : Type 0 where
-  pub refuses : grf.Refuses text error
+  pub refuses : grf.Refuses Plain text error
   pub not_memory : error ≢ grf_error.NoMemory
 
 -- the file that a refusal of the graphs names: that of the graph at which it stands
@@ -41,7 +42,7 @@ NamesFile word net_error.NoMemory file = ⊥
 
 -- files whose text draws a graph
 abbrev pub drawing_format : Format Reason Graph
-drawing_format = decoded Decode (said_as Grf grf.IsGraphOf IsNoGraph)
+drawing_format = decoded Decode (said_as Grf (grf.IsGraphOf Plain) IsNoGraph)
 
 -- the file of the graph of this name after so many others: one more than there may be is refused
 -- whatever it holds

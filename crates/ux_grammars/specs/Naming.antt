@@ -5,8 +5,8 @@ use Rattle.std.specs.List.{ends_with, flat_map}
 use Rattle.std.specs.Str.{bytes_eq}
 use Rattle.ux_plan.specs.FileNames.{base_of, folder_of}
 use Rattle.ux_base.specs.Distinct.{each_once}
-use Rattle.ux_net.specs.Boxes.{Drawn}
-use Rattle.ux_net.specs.Refusing.{calls_of}
+use Rattle.ux_boxes.specs.Boxes.{Drawn}
+use Rattle.ux_boxes.specs.Refusing.{calls_of}
 
 -- a name without `.grf` at its end
 abbrev pub without_ending : List ℕ → List ℕ

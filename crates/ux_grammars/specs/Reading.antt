@@ -8,14 +8,13 @@ use Rattle.ux_reasons.specs.declared.reason.Reason.{Reason}
 use Rattle.ux_grf.specs.Size.{size_of}
 use Rattle.ux_grf.specs.WellFormed.{IsWellFormed}
 use Rattle.ux_grf.specs.declared.graph.Graph.{Graph}
-use Rattle.ux_net.specs.Boxes.{Drawn, box_grammar}
-use Rattle.ux_net.specs.Closings.{TellsClosings}
-use Rattle.ux_net.specs.Marked.{IsMarked}
+use Rattle.ux_boxes.specs.Boxes.{Drawn, box_grammar}
+use Rattle.ux_compile.specs.Compiling.{IsConstructed}
 use Rattle.ux_net.specs.Nets.{net_grammar}
-use Rattle.ux_net.specs.Refusing.{AreWhole, drawn}
+use Rattle.ux_boxes.specs.Refusing.{AreWhole, drawn}
 use Rattle.ux_net.specs.Words.{SayTheSame}
-use Rattle.ux_net.specs.declared.error.NetError.{NetError}
-use Rattle.ux_net.specs.declared.error.NetError.TheVariants.{MissingGraph, BadMask, ContextClose, NegativeRecursion, EmptyLoop, LeftRecursion, NoMemory}
+use Rattle.ux_boxes.specs.declared.error.NetError.{NetError}
+use Rattle.ux_boxes.specs.declared.error.NetError.TheVariants.{MissingGraph, BadMask, ContextClose, NegativeRecursion, EmptyLoop, LeftRecursion, NoMemory}
 use Rattle.ux_net.specs.declared.net_graph.NetGraph.{NetGraph}
 use Rattle.ux_grammars.specs.Graphs.{MOST_GRAPHS}
 use Rattle.ux_alphabet.specs.Letters.{Letters}
@@ -59,12 +58,10 @@ IsPlaced (LeftRecursion graph node) = ⊤
 IsPlaced (MissingGraph name) = ⊥
 IsPlaced NoMemory = ⊤
 
--- The net says the same as the graphs, and can be searched: it has marks, and tells where contexts that
--- may not follow are closed.
+-- the net says the same as the graphs, and has the states of their boxes
 pub record Compiles (letters : Letters) (graphs : List Drawn) (net : List NetGraph) : Type 0 where
   pub same : SayTheSame (box_grammar letters graphs) (net_grammar net)
-  pub marked : IsMarked net
-  pub told : TellsClosings net
+  pub built : IsConstructed letters graphs net
 
 -- the net is that of the graphs to which the plan of a grammar comes
 pub record HasNet (plan : Plan Reason (List Drawn)) (told : Option Files)

@@ -3,7 +3,8 @@
 ghost use Rattle.std.specs.Prelude.{◌≡◌, ◌⊎◌, ℕ, List, IfErr, IfOk, OnOk};
 ghost use Rattle.ux_base.specs.Outside.{IsLater};
 ghost use Rattle.ux_plan.specs.Plans.{Halts, StopsTest, refusing};
-ghost use Rattle.ux_net.specs.Refusing.{drawn, IsCompilable};
+ghost use Rattle.ux_boxes.specs.Refusing.{drawn};
+ghost use Rattle.ux_compile.specs.Refusing.{IsCompilable};
 ghost use Rattle.ux_grammars.specs.Graphs.{NamesFile, RefusesGrammar, grammar_plan};
 ghost use Rattle.ux_grammars.specs.Reading.{AreWholeGraphs, Compiles, HasNet, IsPlaced};
 
@@ -12,8 +13,9 @@ use crate::naming::named_file;
 use std::alloc::Global;
 use ux_alphabet::Alphabet;
 use ux_base::{Folder, Txt};
+use ux_boxes::NetError;
 use ux_grf::Graph;
-use ux_net::{Net, NetError};
+use ux_net::Net;
 use ux_plan::Stop;
 use ux_reasons::Reason;
 
@@ -51,7 +53,7 @@ fn compile(
     ensures err { IfErr result (StopsTest (refusing
         (RefusesGrammar word.now alphabet.now (drawn graphs.items)))) }
 {
-    match Net::compile(alloc, graphs, alphabet) {
+    match ux_compile::compile(alloc, graphs, alphabet) {
         Ok(net) => Ok(net),
         Err(error) => Err(refused_net(alloc, word, error)),
     }

@@ -9,7 +9,7 @@ ghost use Rattle.ux_plan.specs.Plans.{Comes, Halts, Reads, ReadsNext, StopsFile,
 ghost use Rattle.ux_grf.specs.Needs.{calls_of};
 ghost use Rattle.ux_grf.specs.WellFormed.{IsWellFormed};
 ghost use Rattle.ux_base.specs.Distinct.{GrowsBy, with_text};
-ghost use Rattle.ux_net.specs.Refusing.{drawn, drawn_of};
+ghost use Rattle.ux_boxes.specs.Refusing.{drawn, drawn_of};
 ghost use Rattle.ux_grammars.specs.Graphs.{MOST_GRAPHS, drawing_format, graph_format, graphs_plan};
 ghost use Rattle.ux_grammars.specs.Naming.{file_of as file_of_graph, main_name as main_name_of, next_name};
 ghost use Rattle.ux_grammars.specs.Reading.{AreWholeGraphs, IsGiven, IsGivenGraph, IsReading};

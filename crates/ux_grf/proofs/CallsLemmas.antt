@@ -11,7 +11,7 @@ use Rattle.ux_base.proofs.FirstsLemmas.{Contains-first, Contains-after, Contains
 use Rattle.ux_grf.specs.declared.graph.Graph.{Graph}
 use Rattle.ux_grf.specs.declared.graph.GrfBox.{GrfBox}
 use Rattle.ux_grf.specs.declared.item.Item.{Item}
-use Rattle.ux_grf.specs.declared.item.Item.TheVariants.{Literal, Quoted, Mask, Brace, Glue, Empty, Call, Begin, End, Positive, Negative, ContextEnd, Cut}
+use Rattle.ux_grf.specs.declared.item.Item.TheVariants.{Literal, Quoted, Mask, Brace, NoSpace, Empty, Call, Begin, End, Positive, Negative, ContextEnd, Cut}
 use Rattle.ux_grf.specs.Needs.{calls_of_item, calls_of_line, calls_of_box, calls_of}
 
 -- the same test on names of a set and on their bytes
@@ -69,7 +69,7 @@ calls_only (Literal text) name h = absurd (Contains-none name h)
 calls_only (Quoted text) name h = absurd (Contains-none name h)
 calls_only (Mask text) name h = absurd (Contains-none name h)
 calls_only (Brace text) name h = absurd (Contains-none name h)
-calls_only Glue name h = absurd (Contains-none name h)
+calls_only NoSpace name h = absurd (Contains-none name h)
 calls_only Empty name h = absurd (Contains-none name h)
 calls_only (Call other) name h = elim (Contains-cases other name [] h) [
   | inl e ↦ ap Call e

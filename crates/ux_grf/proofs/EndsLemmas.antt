@@ -4,6 +4,7 @@ use Rattle.std.specs.Str.{chars, IsUtf8}
 use Rattle.std.proofs.lemmas.List.{take-append-drop, take_at}
 use Rattle.std.proofs.lemmas.Str.{IsCharBoundary-at_seam, IsUtf8-take, chars-append}
 use Rattle.std.proofs.lemmas.Bool.{eqb-true, false≢true}
+use Rattle.ux_grf.specs.declared.graph.GraphKind.{GraphKind}
 use Rattle.ux_grf.specs.declared.item.Item.{Item}
 use Rattle.ux_grf.specs.declared.protection.Stop.TheVariants.{Mark, Greater, CloseBrace, LiteralEnd}
 use Rattle.ux_grf.specs.declared.protection.Layer.TheVariants.{Language}
@@ -120,18 +121,18 @@ front_end (b ∷ text) = by (is_gap Blanks b) (front_end text)
     by true later = after_one b text (without_front text) later
     by false later = itself (b ∷ text)
 
-line_ends : {text after : List ℕ} {line : List Item} → IsLine text line after →
+line_ends : {kind : GraphKind} {text after : List ℕ} {line : List Item} → IsLine kind text line after →
     IsEndOf text after
 line_ends (of_items mark r) = reads_end r
 line_ends (of_mark {text = text} mark is) =
     further text (without_front text) (after_line (without_front text)) (front_end text)
     (dropped (line_end (without_front text)) (without_front text))
 
-bad_line_end : {text left : List ℕ} → IsBadLine text left → IsEndOf text left
+bad_line_end : {kind : GraphKind} {text left : List ℕ} → IsBadLine kind text left → IsEndOf text left
 bad_line_end (in_items mark f) = fails_end f
 bad_line_end (at_mark {text = text} mark is) = front_end text
 
-lines_end : {text output : List ℕ} {lines : List (List Item)} → AreLines text lines output →
+lines_end : {kind : GraphKind} {text output : List ℕ} {lines : List (List Item)} → AreLines kind text lines output →
     IsEndOf text output
 lines_end (last_line is) = line_ends is
 lines_end (line_with_output {text = text} {output = output} is) =
@@ -139,13 +140,13 @@ lines_end (line_with_output {text = text} {output = output} is) =
 lines_end (line_then {text = text} {rest = rest} {output = output} is ls) =
     further text rest output (after_sign text rest PLUS (line_ends is)) (lines_end ls)
 
-bad_in_end : {text left : List ℕ} → IsBadIn text left → IsEndOf text left
+bad_in_end : {kind : GraphKind} {text left : List ℕ} → IsBadIn kind text left → IsEndOf text left
 bad_in_end (in_first bad) = bad_line_end bad
 bad_in_end (in_rest {text = text} {rest = rest} {left = left} is bad) =
     further text rest left (after_sign text rest PLUS (line_ends is)) (bad_in_end bad)
 
 -- what stands from the first fault of a content on
-pub fault_end : (content left : List ℕ) → IsFault content left → IsEndOf content left
+pub fault_end : {kind : GraphKind} (content left : List ℕ) → IsFault kind content left → IsEndOf content left
 fault_end content left (inl bad) = bad_in_end bad
 fault_end content left (inr opened) =
     subst (IsEndOf content) (sym opened.here)

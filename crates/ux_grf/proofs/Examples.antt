@@ -1,6 +1,7 @@
 -- Worked examples of the definitions.
 use Rattle.std.proofs.Common.{◌≡◌, [], ◌∷◌, ◌++◌, refl, Some, None, true, false}
 use Rattle.std.specs.Prelude.{codes}
+use Rattle.ux_grf.specs.declared.graph.GraphKind.TheVariants.{Plain, Morphological}
 use Rattle.ux_grf.specs.declared.item.Item.TheVariants.{Literal, Mask, Empty, Call, Begin, End}
 use Rattle.ux_grf.specs.declared.item.Piece.TheVariants.{Chars, Value}
 use Rattle.ux_grf.specs.declared.words.Gap.TheVariants.{Spaces}
@@ -59,30 +60,49 @@ a_mask = refl
 an_empty_mask : begin_of (codes "<>x") ≡ fault (codes "<>x")
 an_empty_mask = refl
 
-a_call : marked_item (codes ": np.grf ") ≡ Some (Call (codes "np"))
+a_call : marked_item Plain (codes ": np.grf ") ≡ Some (Call (codes "np"))
 a_call = refl
 
-a_variable : marked_item (codes "$x( ") ≡ Some (Begin (codes "x"))
+a_variable : marked_item Plain (codes "$x( ") ≡ Some (Begin (codes "x"))
 a_variable = refl
 
-an_output_ends : marked_item (codes "$|x)") ≡ Some (End (codes "|x"))
+an_output_ends : marked_item Plain (codes "$|x)") ≡ Some (End (codes "|x"))
 an_output_ends = refl
 
-a_bar_alone : marked_item (codes "$|(") ≡ None
+a_bar_alone : marked_item Plain (codes "$|(") ≡ None
 a_bar_alone = refl
 
-no_form : marked_item (codes "$x") ≡ None
+no_form : marked_item Plain (codes "$x") ≡ None
 no_form = refl
 
+-- the part inside a word begins in graphs of the morphological mode alone
+a_word_begins : marked_item Morphological (codes "$<") ≡ Some (Begin (codes "<"))
+a_word_begins = refl
+
+a_word_ends : marked_item Morphological (codes "$> ") ≡ Some (End (codes "<"))
+a_word_ends = refl
+
+no_word : marked_item Plain (codes "$<") ≡ None
+no_word = refl
+
+-- `$</x` is such a line with an output, `$<+$>` are two
+a_word_with_output : AreLines Morphological (codes "$</x") ((Begin (codes "<") ∷ []) ∷ [])
+    (codes "x")
+a_word_with_output = line_with_output (of_mark refl refl)
+
+two_of_them : AreLines Morphological (codes "$<+$>")
+    ((Begin (codes "<") ∷ []) ∷ (End (codes "<") ∷ []) ∷ []) []
+two_of_them = line_then (of_mark refl refl) (last_line (of_mark refl refl))
+
 -- `a +:np/[N]` has two lines and an output
-two_lines : AreLines (codes "a +:np/[N]")
+two_lines : AreLines Plain (codes "a +:np/[N]")
     ((Literal (codes "a") ∷ []) ∷ (Call (codes "np") ∷ []) ∷ []) (codes "[N]")
 two_lines =
     line_then (of_items refl (item_then refl (item_then refl (line_over refl))))
     (line_with_output (of_mark refl refl))
 
 -- the end of a line without items
-no_items : AreLines (codes " ") ((Empty ∷ []) ∷ []) []
+no_items : AreLines Plain (codes " ") ((Empty ∷ []) ∷ []) []
 no_items = last_line (of_items refl (item_then refl (line_over refl)))
 
 -- `[$x$]`

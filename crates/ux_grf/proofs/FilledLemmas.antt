@@ -6,12 +6,15 @@ use Rattle.std.specs.Str.{bytes_eq}
 use Rattle.std.proofs.lemmas.List.Sums.{sum_by-cons}
 use Rattle.std.proofs.lemmas.List.Elements.{All-nil, All-cons}
 use Rattle.std.proofs.lemmas.Bool.{eqb-true, ltb-true, false≢true}
+use Rattle.std.specs.Option.{option_or}
+use Rattle.ux_grf.specs.declared.graph.GraphKind.{GraphKind}
+use Rattle.ux_grf.specs.declared.graph.GraphKind.TheVariants.{Plain, Morphological}
 use Rattle.ux_grf.specs.declared.item.Item.{Item}
 use Rattle.ux_grf.specs.declared.item.Item.TheVariants.{Empty, Call, Begin, End}
 use Rattle.ux_grf.specs.declared.words.Gap.TheVariants.{Blanks}
 use Rattle.ux_grf.specs.Words.{is_gap}
 use Rattle.ux_grf.specs.Items.{PLUS, SLASH}
-use Rattle.ux_grf.specs.Lines.{COLON, BAR, without_front, without_back, put_front, without_ending, without_bar, is_name, is_bound_name, is_name_byte, is_no_name_sign, call_of, bound_of, dollar_item, is_marked, marked_item, line_end, own_text, after_line, or_empty, IsLine, of_items, of_mark, AreLines, last_line, line_with_output, line_then}
+use Rattle.ux_grf.specs.Lines.{COLON, BAR, without_front, without_back, put_front, without_ending, without_bar, is_bound_name, is_name_byte, is_no_name_sign, call_of, bound_item, bound_of, dollar_item, is_marked, marked_item, line_end, own_text, after_line, or_empty, IsLine, of_items, of_mark, AreLines, last_line, line_with_output, line_then}
 use Rattle.ux_grf.specs.WellFormed.{HasText, IsFilled}
 use Rattle.ux_grf.specs.Size.{size_of_item, size_of_line}
 use Rattle.ux_grf.proofs.NumbersLemmas.{and_left}
@@ -85,18 +88,34 @@ good_bound name sign n le = by (is_bound_name name) refl
         (some, le) (either n (eqb sign 41) (Some (End name)) None (some, le) tt)
     by false is = tt
 
-good_dollar : (text : List ℕ) (n : ℕ) → 2 + length text ≤ n → HasGoodText n (dollar_item text)
-good_dollar text n le =
+-- the part inside a word has a name
+good_bound_item : (kind : GraphKind) (text : List ℕ) (n : ℕ) → 2 + length text ≤ n →
+    HasGoodText n (bound_item kind text)
+good_bound_item Plain text n le =
+    good_bound (take (length text - 1) text) (get_or text (length text - 1) 0) n
+    (omega (arith, length-take (length text - 1) text))
+good_bound_item Morphological text n le = by (bytes_eq text (codes "<")) (bytes_eq text (codes ">"))
+  where
+    by : (first second : Bool) → HasGoodText n (option_or
+        (cond first (Some (Begin (codes "<"))) (cond second (Some (End (codes "<"))) None))
+        (bound_of (take (length text - 1) text) (get_or text (length text - 1) 0)))
+    by true second = (omega arith, omega (arith, le))
+    by false true = (omega arith, omega (arith, le))
+    by false false =
+        good_bound (take (length text - 1) text) (get_or text (length text - 1) 0) n
+        (omega (arith, length-take (length text - 1) text))
+
+good_dollar : (kind : GraphKind) (text : List ℕ) (n : ℕ) → 2 + length text ≤ n → HasGoodText n (dollar_item kind text)
+good_dollar kind text n le =
     either n (bytes_eq text (codes "")) _ _ (omega arith, omega arith)
     (either n (bytes_eq text (codes "[")) _ _ (tt, omega arith)
     (either n (bytes_eq text (codes "![")) _ _ (tt, omega arith)
     (either n (bytes_eq text (codes "]")) _ _ (tt, omega arith)
     (either n (bytes_eq text (codes "*")) _ _ (tt, omega arith)
-    (good_bound (take (length text - 1) text) (get_or text (length text - 1) 0) n
-    (omega (arith, length-take (length text - 1) text)))))))
+    (good_bound_item kind text n le)))))
 
-good_mark : (own : List ℕ) → 0 < length own → HasGoodText (2 * length own) (marked_item own)
-good_mark own some =
+good_mark : (kind : GraphKind) (own : List ℕ) → 0 < length own → HasGoodText (2 * length own) (marked_item kind own)
+good_mark kind own some =
     either (2 * length own) (eqb (get_or own 0 0) COLON) _ _
     (good_call (without_ending (codes ".grf") (without_back (without_front (drop 1 own))))
     (2 * length own) (omega (
@@ -106,7 +125,7 @@ good_mark own some =
       without_front-length (drop 1 own),
       length-drop 1 own,
     )))
-    (good_dollar (without_back (drop 1 own)) (2 * length own)
+    (good_dollar kind (without_back (drop 1 own)) (2 * length own)
     (omega (arith, without_back-length (drop 1 own), length-drop 1 own)))
 
 -- a line of one item has its sign
@@ -163,14 +182,14 @@ good_alone text item mark good = record {
   );
 }
 
-pub good_line : {text after : List ℕ} {line : List Item} → IsLine text line after →
+pub good_line : {kind : GraphKind} {text after : List ℕ} {line : List Item} → IsLine kind text line after →
     IsGoodLine text line after
 good_line (of_items {text = text} {after = after} {items = items} mark r) =
     good_or_empty text after items (good_items r)
-good_line (of_mark {text = text} {item = item} mark is) =
+good_line {kind} (of_mark {text = text} {item = item} mark is) =
     good_alone text item mark
     (subst (HasGoodText (2 * length (own_text (without_front text)))) is
-    (good_mark (own_text (without_front text)) (own_some (without_front text) mark)))
+    (good_mark kind (own_text (without_front text)) (own_some (without_front text) mark)))
 
 -- the lines of a content
 pub record AreGoodLines (text : List ℕ) (lines : List (List Item)) (output : List ℕ) : Type 0 where
@@ -186,7 +205,7 @@ one_line text output after line g le = record {
   small = omega (arith, g.small, sum_by-cons size_of_line line []);
 }
 
-pub good_lines : {text output : List ℕ} {lines : List (List Item)} → AreLines text lines output →
+pub good_lines : {kind : GraphKind} {text output : List ℕ} {lines : List (List Item)} → AreLines kind text lines output →
     AreGoodLines text lines output
 good_lines (last_line {text = text} {line = line} is) =
     one_line text [] [] line (good_line is) (omega arith)

@@ -6,6 +6,7 @@ use Rattle.std.proofs.lemmas.List.{get_or_append_left, get_or_push}
 use Rattle.std.proofs.lemmas.Bool.{ltb-true, lt-ltb}
 use Rattle.ux_digraph.specs.Paths.{Reaches, here, step}
 use Rattle.ux_digraph.specs.Rules.{is_marked_at}
+use Rattle.ux_grf.specs.declared.graph.GraphKind.{GraphKind}
 use Rattle.ux_grf.specs.declared.error.GrfError.{GrfError}
 use Rattle.ux_grf.specs.declared.error.GrfError.TheVariants.{NoHeader, BadCount, BadBoxLine, BadTarget, BadContent, NoMemory}
 use Rattle.ux_grf.specs.declared.graph.Graph.{Graph}
@@ -36,35 +37,35 @@ module _ (ways : List (List ℕ)) where
       leads (Reached.step r c) = one_more (leads r) c
 
 -- one more box is made
-pub made_more : (texts : List BoxText) (marks : List Bool) (boxes now : List GrfBox) (node : ℕ)
+pub made_more : {kind : GraphKind} (texts : List BoxText) (marks : List Bool) (boxes now : List GrfBox) (node : ℕ)
     (b : GrfBox) →
-    length boxes ≡ node → AreMade texts marks boxes node →
-    IsMade (text_at texts node) node (is_marked_at marks node) b → now ≡ boxes ++ b ∷ [] →
-    AreMade texts marks now (node + 1)
-made_more texts marks boxes now node b len made is put =
-    subst (λ (bs : List GrfBox). AreMade texts marks bs (node + 1)) (sym put)
-    (below_more (λ m. IsMade (text_at texts m) m (is_marked_at marks m) (box_in (boxes ++ b ∷ []) m))
+    length boxes ≡ node → AreMade kind texts marks boxes node →
+    IsMade kind (text_at texts node) node (is_marked_at marks node) b → now ≡ boxes ++ b ∷ [] →
+    AreMade kind texts marks now (node + 1)
+made_more {kind} texts marks boxes now node b len made is put =
+    subst (λ (bs : List GrfBox). AreMade kind texts marks bs (node + 1)) (sym put)
+    (below_more (λ m. IsMade kind (text_at texts m) m (is_marked_at marks m) (box_in (boxes ++ b ∷ []) m))
     node
-    (λ m lt. subst (IsMade (text_at texts m) m (is_marked_at marks m))
+    (λ m lt. subst (IsMade kind (text_at texts m) m (is_marked_at marks m))
     (sym (get_or_append_left boxes (b ∷ []) _ m (omega (arith, lt, len)))) (made m lt))
-    (subst (IsMade (text_at texts node) node (is_marked_at marks node))
+    (subst (IsMade kind (text_at texts node) node (is_marked_at marks node))
     (sym (get_or_push boxes b _ node len)) is))
 
 -- a box that can't be made is the first bad one
-pub bad_marked : (texts : List BoxText) (marks : List Bool) (boxes : List GrfBox) (node : ℕ)
+pub bad_marked : {kind : GraphKind} (texts : List BoxText) (marks : List Bool) (boxes : List GrfBox) (node : ℕ)
     (text : BoxText) (e : GrfError) →
-    node < length texts → text ≡ text_at texts node → AreMade texts marks boxes node →
-    RefusesRead text node (is_marked_at marks node) e → RefusesMarked texts marks e
+    node < length texts → text ≡ text_at texts node → AreMade kind texts marks boxes node →
+    RefusesRead kind text node (is_marked_at marks node) e → RefusesMarked kind texts marks e
 bad_marked texts marks boxes node text NoHeader lt is made h = h
 bad_marked texts marks boxes node text BadCount lt is made h = h
 bad_marked texts marks boxes node text (BadBoxLine n) lt is made h = h
 bad_marked texts marks boxes node text (BadTarget n) lt is made h = h
-bad_marked texts marks boxes node text (BadContent n place) lt is made h =
-    subst (λ m. IsBadMarked texts marks m place) (sym h.0)
+bad_marked {kind} texts marks boxes node text (BadContent n place) lt is made h =
+    subst (λ m. IsBadMarked kind texts marks m place) (sym h.0)
     (record {
       inside = lt;
       read = h.1;
-      bad = subst (λ t. IsBadAt (content_of t) place) is h.2;
+      bad = subst (λ t. IsBadAt kind (content_of t) place) is h.2;
       first = λ m less reads.
           let at = made m less in (
             record { lines = (box_in boxes m).lines; output = (box_in boxes m).output },
@@ -90,25 +91,25 @@ module _ (texts : List BoxText) (marks : List Bool)
       rw (mark, inner) refl
 
   -- what refuses the boxes refuses the graph
-  pub marked_refuses : (e : GrfError) → RefusesMarked texts marks e → RefusesTexts texts e
-  marked_refuses NoHeader h = h
-  marked_refuses BadCount h = h
-  marked_refuses (BadBoxLine n) h = h
-  marked_refuses (BadTarget n) h = h
-  marked_refuses (BadContent node place) h = record {
+  pub marked_refuses : (kind : GraphKind) (e : GrfError) → RefusesMarked kind texts marks e → RefusesTexts kind texts e
+  marked_refuses kind NoHeader h = h
+  marked_refuses kind BadCount h = h
+  marked_refuses kind (BadBoxLine n) h = h
+  marked_refuses kind (BadTarget n) h = h
+  marked_refuses kind (BadContent node place) h = record {
     box = read_is node h.inside h.read;
     bad = h.bad;
     first = λ m less box. h.first m less (is_read_by m box);
   }
-  marked_refuses NoMemory h = tt
+  marked_refuses kind NoMemory h = tt
 
   -- the graph of the boxes that were made is the one drawn
-  pub draws : (graph : Graph) (boxes : List GrfBox) (count : ℕ) → graph.boxes ≡ boxes →
-      count ≡ length texts → length boxes ≡ count → AreMade texts marks boxes count →
-      Draws texts graph
-  draws graph boxes count is all len made =
-      let at = subst (λ (bs : List GrfBox). AreMade texts marks bs (length texts)) (sym is)
-      (subst (AreMade texts marks boxes) all made) in
+  pub draws : {kind : GraphKind} (graph : Graph) (boxes : List GrfBox) (count : ℕ) → graph.boxes ≡ boxes →
+      count ≡ length texts → length boxes ≡ count → AreMade kind texts marks boxes count →
+      Draws kind texts graph
+  draws {kind} graph boxes count is all len made =
+      let at = subst (λ (bs : List GrfBox). AreMade kind texts marks bs (length texts)) (sym is)
+      (subst (AreMade kind texts marks boxes) all made) in
       record {
         len = ap (λ (bs : List GrfBox). length bs) is ∙ (len ∙ all);
         reached = λ node lt. subst (λ m. (m ≡ true) ↔ Reached (ways_in texts) node)

@@ -6,6 +6,7 @@ use Rattle.std.proofs.lemmas.List.{get_or_append_left, get_or_push, length_push,
 use Rattle.std.proofs.lemmas.List.Sums.{AllPass-from_list_all}
 use Rattle.std.proofs.lemmas.List.Elements.{All-contains}
 use Rattle.std.proofs.lemmas.Bool.{ltb-true}
+use Rattle.ux_grf.specs.declared.graph.GraphKind.{GraphKind}
 use Rattle.ux_grf.specs.declared.box_line.BoxLine.{BoxLine}
 use Rattle.ux_grf.specs.declared.error.GrfError.{GrfError}
 use Rattle.ux_grf.specs.declared.error.GrfError.TheVariants.{NoHeader, BadCount, BadBoxLine, BadTarget, BadContent, NoMemory}
@@ -211,11 +212,11 @@ has_texts text count before lines boxes read header next good told is = record {
 }
 
 -- a graph that isn't made refuses the file
-pub texts_refuse : (text : List ℕ) (texts : List BoxText) (e : GrfError) → HasTexts text texts →
-    RefusesTexts texts e → Refuses text e
-texts_refuse text texts NoHeader has h = absurd h
-texts_refuse text texts BadCount has h = absurd h
-texts_refuse text texts (BadBoxLine n) has h = absurd h
-texts_refuse text texts (BadTarget n) has h = absurd h
-texts_refuse text texts (BadContent node place) has h = (texts, has, h)
-texts_refuse text texts NoMemory has h = tt
+pub texts_refuse : (kind : GraphKind) (text : List ℕ) (texts : List BoxText) (e : GrfError) → HasTexts text texts →
+    RefusesTexts kind texts e → Refuses kind text e
+texts_refuse kind text texts NoHeader has h = absurd h
+texts_refuse kind text texts BadCount has h = absurd h
+texts_refuse kind text texts (BadBoxLine n) has h = absurd h
+texts_refuse kind text texts (BadTarget n) has h = absurd h
+texts_refuse kind text texts (BadContent node place) has h = (texts, has, h)
+texts_refuse kind text texts NoMemory has h = tt

@@ -3,6 +3,7 @@ use Rattle.std.proofs.Common.{arith, ◌≡◌, ℕ, zero, suc, ◌+◌, ◌*◌
 use Rattle.std.specs.Prelude.{sum_by, option_map, codes}
 use Rattle.std.proofs.lemmas.List.Sums.{sum_by-cons}
 use Rattle.ux_base.specs.Lines.{LINE_FEED, ends_in_return, without_return, last_line, lines_behind, lines_of}
+use Rattle.ux_grf.specs.declared.graph.GraphKind.{GraphKind}
 use Rattle.ux_grf.specs.declared.graph.Graph.{Graph}
 use Rattle.ux_grf.specs.declared.graph.GrfBox.{GrfBox}
 use Rattle.ux_grf.specs.declared.item.Item.{Item}
@@ -135,8 +136,8 @@ box_of-within line =
     (without_mark-length line) (quoted-within (without_mark line))
 
 -- a box and its lines are no more than four times its line
-box_small : (said : BoxText) (node n : ℕ) (b : GrfBox) → length said.content < n →
-    IsBoxOf said node b → 1 + size_of_box b ≤ 4 * n
+box_small : {kind : GraphKind} (said : BoxText) (node n : ℕ) (b : GrfBox) → length said.content < n →
+    IsBoxOf kind said node b → 1 + size_of_box b ≤ 4 * n
 box_small said node n b lt is = by (is_read node b.reached) refl
   where
     by : (t : Bool) → is_read node b.reached ≡ t → 1 + size_of_box b ≤ 4 * n
@@ -150,16 +151,16 @@ box_small said node n b lt is = by (is_read node b.reached) refl
         (is.bare e).0 in
         omega arith
 
-good_small : (count node : ℕ) (line : List ℕ) (said : Option BoxText) (text : BoxText)
-    (b : GrfBox) → IsWithin (length line) said → IsTextOf said text → IsBoxOf text node b →
+good_small : {kind : GraphKind} (count node : ℕ) (line : List ℕ) (said : Option BoxText) (text : BoxText)
+    (b : GrfBox) → IsWithin (length line) said → IsTextOf said text → IsBoxOf kind text node b →
     1 + size_of_box b ≤ 4 * length line
 good_small count node line None text b lt tells is = absurd tells
 good_small count node line (Some said) text b lt tells is =
     box_small text node (length line) b (omega (arith, lt, ap (λ (l : List ℕ). length l) tells.0)) is
 
 -- the line of a box, which is empty where it is missing
-line_small : (count node place : ℕ) (lines : List (List ℕ)) (text : BoxText) (b : GrfBox) →
-    IsTextOf (box_at lines place) text → IsBoxOf text node b →
+line_small : {kind : GraphKind} (count node place : ℕ) (lines : List (List ℕ)) (text : BoxText) (b : GrfBox) →
+    IsTextOf (box_at lines place) text → IsBoxOf kind text node b →
     1 + size_of_box b ≤ 4 * length (get_or lines place [])
 line_small count node place [] text b tells is = absurd tells
 line_small count node zero (line ∷ lines) text b tells is =
@@ -182,7 +183,7 @@ boxes_small (b ∷ boxes) (line ∷ lines) each = omega (
   sum_by-cons size_of_box b boxes,
 )
 
-pub graph_small : (text : List ℕ) (graph : Graph) → IsGraphOf text graph →
+pub graph_small : {kind : GraphKind} (text : List ℕ) (graph : Graph) → IsGraphOf kind text graph →
     size_of graph ≤ 4 * length text
 graph_small text graph (texts, has, d) = omega (
   arith,

@@ -3,6 +3,7 @@ use Rattle.std.proofs.Common.{◌≡◌, ℕ, ◌+◌, List, [], ◌∷◌, ◌+
 use Rattle.std.specs.Str.{chars}
 use Rattle.std.proofs.lemmas.Bool.{false≢true}
 use Rattle.std.proofs.lemmas.List.{append_cancel_right}
+use Rattle.ux_grf.specs.declared.graph.GraphKind.{GraphKind}
 use Rattle.ux_grf.specs.declared.content.Content.{Content}
 use Rattle.ux_grf.specs.declared.item.Item.{Item}
 use Rattle.ux_grf.specs.declared.item.Piece.{Piece}
@@ -56,7 +57,7 @@ Fails-once {text} {left} {other} (fault_later {rest = rest} {item = item} is f) 
     Fails-once f (subst (λ (t : List ℕ). Fails t other) (sym rests) g)
 
 -- a line
-pub IsLine-once : {text e f : List ℕ} {xs ys : List Item} → IsLine text xs e → IsLine text ys f →
+pub IsLine-once : {kind : GraphKind} {text e f : List ℕ} {xs ys : List Item} → IsLine kind text xs e → IsLine kind text ys f →
     (xs ≡ ys) × (e ≡ f)
 IsLine-once (of_items mark r) (of_items also s) =
     let both = Reads-once r s in
@@ -68,15 +69,15 @@ IsLine-once (of_mark {item = item} mark is) (of_mark {item = other} also at) =
     let items : item ≡ other = cc in
     (ap (λ (i : Item). i ∷ []) items, refl)
 
-pub IsLine-IsBadLine : {text e left : List ℕ} {xs : List Item} → IsLine text xs e →
-    IsBadLine text left → ⊥
+pub IsLine-IsBadLine : {kind : GraphKind} {text e left : List ℕ} {xs : List Item} → IsLine kind text xs e →
+    IsBadLine kind text left → ⊥
 IsLine-IsBadLine (of_items mark r) (in_items also f) = Reads-Fails r f
 IsLine-IsBadLine (of_items mark r) (at_mark also none) = false≢true (sym mark ∙ also)
 IsLine-IsBadLine (of_mark mark is) (in_items also f) = false≢true (sym also ∙ mark)
 IsLine-IsBadLine (of_mark {item = item} mark is) (at_mark also none) =
     let no : Some item ≡ None = sym is ∙ none in cc
 
-pub IsBadLine-once : {text left other : List ℕ} → IsBadLine text left → IsBadLine text other →
+pub IsBadLine-once : {kind : GraphKind} {text left other : List ℕ} → IsBadLine kind text left → IsBadLine kind text other →
     left ≡ other
 IsBadLine-once (in_items mark f) (in_items also g) = Fails-once f g
 IsBadLine-once (in_items mark f) (at_mark also none) = absurd (false≢true (sym mark ∙ also))
@@ -97,8 +98,8 @@ tails : (b : ℕ) (rest next : List ℕ) → b ∷ rest ≡ b ∷ next → rest 
 tails b rest next e = cc
 
 -- the lines of a content
-pub AreLines-once : {text e f : List ℕ} {xs ys : List (List Item)} → AreLines text xs e →
-    AreLines text ys f → (xs ≡ ys) × (e ≡ f)
+pub AreLines-once : {kind : GraphKind} {text e f : List ℕ} {xs ys : List (List Item)} → AreLines kind text xs e →
+    AreLines kind text ys f → (xs ≡ ys) × (e ≡ f)
 AreLines-once (last_line is) (last_line also) =
     (ap (λ (l : List Item). l ∷ []) (IsLine-once is also).0, refl)
 AreLines-once (last_line is) (line_with_output {output = output} also) =
@@ -116,17 +117,17 @@ AreLines-once (line_then {rest = rest} is ks) (last_line also) =
     absurd (no_plus rest (sym (IsLine-once is also).1))
 AreLines-once (line_then {rest = rest} is ks) (line_with_output {output = output} also) =
     absurd (apart rest output (IsLine-once is also).1)
-AreLines-once {text} {e} {f} (line_then {rest = rest} {line = line} {lines = xs} is ks) (line_then
+AreLines-once {kind} {text} {e} {f} (line_then {rest = rest} {line = line} {lines = xs} is ks) (line_then
     {rest = next} {line = other} {lines = ys} also ls) =
     let one = IsLine-once is also in
     let rests = tails PLUS rest next one.1 in
-    let later = AreLines-once ks (subst (λ (t : List ℕ). AreLines t ys f) (sym rests) ls) in (
+    let later = AreLines-once ks (subst (λ (t : List ℕ). AreLines kind t ys f) (sym rests) ls) in (
       ap (λ (l : List Item). l ∷ xs) one.0 ∙ ap (λ (l : List (List Item)). other ∷ l) later.0,
       later.1,
     )
 
-pub AreLines-IsBadIn : {text e left : List ℕ} {xs : List (List Item)} → AreLines text xs e →
-    IsBadIn text left → ⊥
+pub AreLines-IsBadIn : {kind : GraphKind} {text e left : List ℕ} {xs : List (List Item)} → AreLines kind text xs e →
+    IsBadIn kind text left → ⊥
 AreLines-IsBadIn (last_line is) (in_first bad) = IsLine-IsBadLine is bad
 AreLines-IsBadIn (last_line is) (in_rest {rest = rest} also bad) =
     no_plus rest (IsLine-once is also).1
@@ -134,20 +135,20 @@ AreLines-IsBadIn (line_with_output is) (in_first bad) = IsLine-IsBadLine is bad
 AreLines-IsBadIn (line_with_output {output = output} is) (in_rest {rest = rest} also bad) =
     apart rest output (sym (IsLine-once is also).1)
 AreLines-IsBadIn (line_then is ls) (in_first bad) = IsLine-IsBadLine is bad
-AreLines-IsBadIn {text} {e} {left} (line_then {rest = rest} is ls) (in_rest {rest = next} also
+AreLines-IsBadIn {kind} {text} {e} {left} (line_then {rest = rest} is ls) (in_rest {rest = next} also
     bad) =
     let rests = tails PLUS rest next (IsLine-once is also).1 in
-    AreLines-IsBadIn ls (subst (λ (t : List ℕ). IsBadIn t left) (sym rests) bad)
+    AreLines-IsBadIn ls (subst (λ (t : List ℕ). IsBadIn kind t left) (sym rests) bad)
 
-pub IsBadIn-once : {text left other : List ℕ} → IsBadIn text left → IsBadIn text other →
+pub IsBadIn-once : {kind : GraphKind} {text left other : List ℕ} → IsBadIn kind text left → IsBadIn kind text other →
     left ≡ other
 IsBadIn-once (in_first bad) (in_first worse) = IsBadLine-once bad worse
 IsBadIn-once (in_first bad) (in_rest also worse) = absurd (IsLine-IsBadLine also bad)
 IsBadIn-once (in_rest is bad) (in_first worse) = absurd (IsLine-IsBadLine is worse)
-IsBadIn-once {text} {left} {other} (in_rest {rest = rest} is bad) (in_rest {rest = next} also
+IsBadIn-once {kind} {text} {left} {other} (in_rest {rest = rest} is bad) (in_rest {rest = next} also
     worse) =
     let rests = tails PLUS rest next (IsLine-once is also).1 in
-    IsBadIn-once bad (subst (λ (t : List ℕ). IsBadIn t other) (sym rests) worse)
+    IsBadIn-once bad (subst (λ (t : List ℕ). IsBadIn kind t other) (sym rests) worse)
 
 -- an output
 abbrev after_at : List ℕ → ℕ → List ℕ
@@ -179,8 +180,8 @@ IsOutput-once (pieces_put is ps) (nothing_put also) = absurd (false≢true (sym 
 IsOutput-once (pieces_put is ps) (pieces_put also qs) = ArePieces-once ps qs
 
 -- a content has one reading
-pub IsContent-once : (content : List ℕ) (read other : Content) → IsContent content read →
-    IsContent content other → (read.lines ≡ other.lines) × (read.output ≡ other.output)
+pub IsContent-once : {kind : GraphKind} (content : List ℕ) (read other : Content) → IsContent kind content read →
+    IsContent kind content other → (read.lines ≡ other.lines) × (read.output ≡ other.output)
 IsContent-once content read other is also =
     let lines = AreLines-once is.lines also.lines in (
       lines.0,
@@ -189,15 +190,15 @@ IsContent-once content read other is also =
     )
 
 -- it has none where it is refused
-pub IsContent-IsFault : (content left : List ℕ) (read : Content) → IsContent content read →
-    IsFault content left → ⊥
+pub IsContent-IsFault : {kind : GraphKind} (content left : List ℕ) (read : Content) → IsContent kind content read →
+    IsFault kind content left → ⊥
 IsContent-IsFault content left read is (inl bad) = AreLines-IsBadIn is.lines bad
 IsContent-IsFault content left read is (inr opened) =
     let lines = AreLines-once is.lines opened.good in
     false≢true (sym is.closed ∙ (ap (λ (t : List ℕ). ends_open false t) lines.1 ∙ opened.opened))
 
 -- and it has one first fault
-pub IsFault-once : (content left other : List ℕ) → IsFault content left → IsFault content other →
+pub IsFault-once : {kind : GraphKind} (content left other : List ℕ) → IsFault kind content left → IsFault kind content other →
     left ≡ other
 IsFault-once content left other (inl bad) (inl worse) = IsBadIn-once bad worse
 IsFault-once content left other (inl bad) (inr opened) =
@@ -207,8 +208,8 @@ IsFault-once content left other (inr opened) (inl bad) =
 IsFault-once content left other (inr opened) (inr also) = opened.here ∙ sym also.here
 
 -- so a content that is refused is refused at one place
-pub IsBadAt-once : (content : List ℕ) (place other : ℕ) → IsBadAt content place →
-    IsBadAt content other → place ≡ other
+pub IsBadAt-once : {kind : GraphKind} (content : List ℕ) (place other : ℕ) → IsBadAt kind content place →
+    IsBadAt kind content other → place ≡ other
 IsBadAt-once content place other bad worse =
     let lefts = IsFault-once content bad.left worse.left bad.fault worse.fault in
     let fronts = append_cancel_right bad.front worse.front worse.left

@@ -4,6 +4,7 @@ use Rattle.std.specs.Prelude.{All, AllPairs}
 use Rattle.std.proofs.lemmas.List.{length-map, get_or-map, ext_get_or}
 use Rattle.std.proofs.lemmas.List.Elements.{All-nil, Contains-get_or}
 use Rattle.std.proofs.lemmas.Bool.{leb-true}
+use Rattle.ux_grf.specs.declared.graph.GraphKind.{GraphKind}
 use Rattle.ux_grf.specs.declared.graph.Graph.{Graph}
 use Rattle.ux_grf.specs.declared.graph.GrfBox.{GrfBox}
 use Rattle.ux_grf.specs.declared.words.Gap.TheVariants.{Spaces}
@@ -27,8 +28,8 @@ once None text tells = absurd tells
 once (Some said) text tells = tells.1.once
 
 -- a box of good targets, with what its content writes
-box_well_formed : (count node : ℕ) (said : Option BoxText) (text : BoxText) (b : GrfBox) →
-    is_good count said ≡ true → IsTextOf said text → IsBoxOf text node b →
+box_well_formed : {kind : GraphKind} (count node : ℕ) (said : Option BoxText) (text : BoxText) (b : GrfBox) →
+    is_good count said ≡ true → IsTextOf said text → IsBoxOf kind text node b →
     IsWellFormedBox count node b
 box_well_formed count node said text b good tells is = record {
   inside = subst (All (λ t. t < count)) (sym is.targets)
@@ -68,7 +69,7 @@ count_range (word ∷ []) count e =
     (omega (arith, s.1), omega (arith, s.1))
 count_range (word ∷ other ∷ words) count e = let no : None ≡ Some count = e in cc
 
-module _ (texts : List BoxText) (graph : Graph) (d : Draws texts graph) where
+module _ {kind : GraphKind} (texts : List BoxText) (graph : Graph) (d : Draws kind texts graph) where
   targets_are : map (λ (b : GrfBox). b.targets) graph.boxes
       ≡ map (λ (t : BoxText). t.targets) texts
   targets_are =
@@ -92,7 +93,7 @@ module _ (texts : List BoxText) (graph : Graph) (d : Draws texts graph) where
       subst (λ ws. ((box_of_graph graph node).reached ≡ true) ↔ Reached ws node)
       (sym (ap ways_of targets_are)) (d.reached node lt)
 
-pub graph_well_formed : (text : List ℕ) (graph : Graph) → IsGraphOf text graph → IsWellFormed graph
+pub graph_well_formed : {kind : GraphKind} (text : List ℕ) (graph : Graph) → IsGraphOf kind text graph → IsWellFormed graph
 graph_well_formed text graph (texts, has, d) = record {
   two = omega (arith, len, range.0);
   most = omega (arith, len, range.1);

@@ -3,7 +3,7 @@
 use Rattle.std.specs.Prelude.{◌≡◌, ℕ, ◌==◌, ◌+◌, ◌<◌, ◌⊎◌, false, List, [], ◌∷◌, Option, None, Some, if◌then◌else◌, take, drop, codes, length, slice_index}
 use Rattle.std.specs.Str.{bytes_eq}
 use Rattle.ux_grf.specs.declared.item.Item.{Item}
-use Rattle.ux_grf.specs.declared.item.Item.TheVariants.{Literal, Quoted, Mask, Brace, Glue, Empty}
+use Rattle.ux_grf.specs.declared.item.Item.TheVariants.{Literal, Quoted, Mask, Brace, NoSpace, Empty}
 use Rattle.ux_grf.specs.declared.protection.Stop.TheVariants.{Mark, Greater, CloseBrace, LiteralEnd}
 use Rattle.ux_grf.specs.declared.protection.Layer.TheVariants.{Language}
 use Rattle.ux_grf.specs.declared.start.Sign.{Sign}
@@ -112,7 +112,7 @@ begin_at Nothing text = no_more
 begin_at Plus text = no_more
 begin_at Slash text = no_more
 begin_at Blank text = part None (drop 1 text)
-begin_at Sharp text = part (Some Glue) (drop 1 text)
+begin_at Sharp text = part (Some NoSpace) (drop 1 text)
 begin_at Quotation text = quoted_begin text (first_free Mark false (drop 1 text))
 begin_at Less text = mask_begin text (first_free Greater false (drop 1 text))
 begin_at OpenBrace text = brace_begin text (first_free CloseBrace false (drop 1 text))

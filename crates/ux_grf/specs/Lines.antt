@@ -2,7 +2,10 @@
 -- Public, through `File` and `Content`.
 use Rattle.std.specs.Prelude.{◌≡◌, ℕ, suc, ◌==◌, ◌-◌, ◌<◌, Bool, true, false, ◌&&◌, ◌||◌, ◌⊎◌, nat_lt, nat_le, not, List, [], ◌∷◌, Option, None, Some, if◌then◌else◌, length, take, drop, slice_index, codes}
 use Rattle.std.specs.List.{list_all, list_any}
+use Rattle.std.specs.Option.{option_or}
 use Rattle.std.specs.Str.{bytes_eq}
+use Rattle.ux_grf.specs.declared.graph.GraphKind.{GraphKind}
+use Rattle.ux_grf.specs.declared.graph.GraphKind.TheVariants.{Plain, Morphological}
 use Rattle.ux_grf.specs.declared.item.Item.{Item}
 use Rattle.ux_grf.specs.declared.item.Item.TheVariants.{Literal, Empty, Call, Begin, End, Positive, Negative, ContextEnd, Cut}
 use Rattle.ux_grf.specs.declared.words.Gap.TheVariants.{Blanks}
@@ -85,25 +88,40 @@ bound_of name sign =
     else if sign == 41 then Some (End name)
     else None
 
+-- where the part of a graph begins and ends that lies inside one word: lines of graphs of the
+-- morphological mode alone
+abbrev pub word_item : GraphKind → List ℕ → Option Item
+word_item Plain text = None
+word_item Morphological text =
+    if bytes_eq text (codes "<") then Some (Begin (codes "<"))
+    else if bytes_eq text (codes ">") then Some (End (codes "<"))
+    else None
+
+-- a variable's beginning or end, or that of the part inside a word, from what stands after a `$`
+abbrev pub bound_item : GraphKind → List ℕ → Option Item
+bound_item kind text =
+    option_or (word_item kind text)
+    (bound_of (take (length text - 1) text) (slice_index text (length text - 1)))
+
 -- the item of a line, from what stands after its `$`
-abbrev pub dollar_item : List ℕ → Option Item
-dollar_item text =
+abbrev pub dollar_item : GraphKind → List ℕ → Option Item
+dollar_item kind text =
     if bytes_eq text (codes "") then Some (Literal (codes "$"))
     else if bytes_eq text (codes "[") then Some Positive
     else if bytes_eq text (codes "![") then Some Negative
     else if bytes_eq text (codes "]") then Some ContextEnd
     else if bytes_eq text (codes "*") then Some Cut
-    else bound_of (take (length text - 1) text) (slice_index text (length text - 1))
+    else bound_item kind text
 
 -- the line's first sign is `:` or `$`
 abbrev pub is_marked : List ℕ → Bool
 is_marked text = slice_index text 0 == COLON || slice_index text 0 == DOLLAR
 
 -- the one item of such a line
-abbrev pub marked_item : List ℕ → Option Item
-marked_item text =
+abbrev pub marked_item : GraphKind → List ℕ → Option Item
+marked_item kind text =
     if slice_index text 0 == COLON then call_item (drop 1 text)
-    else dollar_item (without_back (drop 1 text))
+    else dollar_item kind (without_back (drop 1 text))
 
 -- the place of the first `+` or `/`, or the end
 abbrev pub line_end : List ℕ → ℕ
@@ -130,39 +148,41 @@ or_empty [] = Empty ∷ []
 or_empty (item ∷ items) = item ∷ items
 
 -- the items of a line, and what stands after the line
-pub data IsLine : List ℕ → List Item → List ℕ → Type 0 where
+pub data IsLine (kind : GraphKind) : List ℕ → List Item → List ℕ → Type 0 where
   of_items : {text after : List ℕ} {items : List Item} →
       is_marked (without_front text) ≡ false → Reads text items after →
-      IsLine text (or_empty items) after
+      IsLine kind text (or_empty items) after
   of_mark : {text : List ℕ} {item : Item} →
       is_marked (without_front text) ≡ true →
-      marked_item (own_text (without_front text)) ≡ Some item →
-      IsLine text (item ∷ []) (after_line (without_front text))
+      marked_item kind (own_text (without_front text)) ≡ Some item →
+      IsLine kind text (item ∷ []) (after_line (without_front text))
 
 -- the text is a line of one item, and what stands after it
-pub record IsMarkedLine (text : List ℕ) (items : List Item) (after : List ℕ) : Type 0 where
+pub record IsMarkedLine (kind : GraphKind) (text : List ℕ) (items : List Item) (after : List ℕ) :
+    Type 0 where
   pub item : Item
-  pub is : marked_item (own_text text) ≡ Some item
+  pub is : marked_item kind (own_text text) ≡ Some item
   pub alone : items ≡ item ∷ []
   pub rest : after ≡ after_line text
 
 -- what stands from the first fault of a line on; a bad line of one item is named at its sign
-pub data IsBadLine : List ℕ → List ℕ → Type 0 where
+pub data IsBadLine (kind : GraphKind) : List ℕ → List ℕ → Type 0 where
   in_items : {text left : List ℕ} →
-      is_marked (without_front text) ≡ false → Fails text left → IsBadLine text left
+      is_marked (without_front text) ≡ false → Fails text left → IsBadLine kind text left
   at_mark : {text : List ℕ} →
       is_marked (without_front text) ≡ true →
-      marked_item (own_text (without_front text)) ≡ None →
-      IsBadLine text (without_front text)
+      marked_item kind (own_text (without_front text)) ≡ None →
+      IsBadLine kind text (without_front text)
 
 -- the lines of a content, and what stands after its first free `/`
-pub data AreLines : List ℕ → List (List Item) → List ℕ → Type 0 where
-  last_line : {text : List ℕ} {line : List Item} → IsLine text line [] → AreLines text (line ∷ []) []
-  line_with_output : {text output : List ℕ} {line : List Item} → IsLine text line (SLASH ∷ output) →
-      AreLines text (line ∷ []) output
+pub data AreLines (kind : GraphKind) : List ℕ → List (List Item) → List ℕ → Type 0 where
+  last_line : {text : List ℕ} {line : List Item} → IsLine kind text line [] →
+      AreLines kind text (line ∷ []) []
+  line_with_output : {text output : List ℕ} {line : List Item} →
+      IsLine kind text line (SLASH ∷ output) → AreLines kind text (line ∷ []) output
   line_then : {text rest output : List ℕ} {line : List Item} {lines : List (List Item)} →
-      IsLine text line (PLUS ∷ rest) → AreLines rest lines output →
-      AreLines text (line ∷ lines) output
+      IsLine kind text line (PLUS ∷ rest) → AreLines kind rest lines output →
+      AreLines kind text (line ∷ lines) output
 
 -- what stands after the last line of a content, and the output
 abbrev pub IsLastRest : (after output : List ℕ) → Type 0
@@ -170,7 +190,7 @@ IsLastRest after output =
     (after ≡ SLASH ∷ output) ⊎ ((after ≡ []) × (output ≡ []))
 
 -- what stands from the first fault of the lines on
-pub data IsBadIn : List ℕ → List ℕ → Type 0 where
-  in_first : {text left : List ℕ} → IsBadLine text left → IsBadIn text left
+pub data IsBadIn (kind : GraphKind) : List ℕ → List ℕ → Type 0 where
+  in_first : {text left : List ℕ} → IsBadLine kind text left → IsBadIn kind text left
   in_rest : {text rest left : List ℕ} {line : List Item} →
-      IsLine text line (PLUS ∷ rest) → IsBadIn rest left → IsBadIn text left
+      IsLine kind text line (PLUS ∷ rest) → IsBadIn kind rest left → IsBadIn kind text left

@@ -6,7 +6,7 @@ use denote.Ref.{Bor}
 use Rattle.ux_grf.specs.declared.graph.Graph.{Graph}
 use Rattle.ux_grf.specs.declared.graph.GrfBox.{GrfBox}
 use Rattle.ux_grf.specs.declared.item.Item.{Item}
-use Rattle.ux_grf.specs.declared.item.Item.TheVariants.{Literal, Quoted, Mask, Brace, Glue, Empty, Call, Begin, End, Positive, Negative, ContextEnd, Cut}
+use Rattle.ux_grf.specs.declared.item.Item.TheVariants.{Literal, Quoted, Mask, Brace, NoSpace, Empty, Call, Begin, End, Positive, Negative, ContextEnd, Cut}
 
 -- the name that an item calls, if it is a call
 abbrev pub calls_of_item : Item → List (List ℕ)
@@ -14,7 +14,7 @@ calls_of_item (Literal text) = []
 calls_of_item (Quoted text) = []
 calls_of_item (Mask text) = []
 calls_of_item (Brace text) = []
-calls_of_item Glue = []
+calls_of_item NoSpace = []
 calls_of_item Empty = []
 calls_of_item (Call name) = name ∷ []
 calls_of_item (Begin name) = []

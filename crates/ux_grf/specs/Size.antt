@@ -4,7 +4,7 @@ use Rattle.std.specs.Prelude.{ℕ, ◌+◌, List, [], length, sum_by}
 use Rattle.ux_grf.specs.declared.graph.Graph.{Graph}
 use Rattle.ux_grf.specs.declared.graph.GrfBox.{GrfBox}
 use Rattle.ux_grf.specs.declared.item.Item.{Item}
-use Rattle.ux_grf.specs.declared.item.Item.TheVariants.{Literal, Quoted, Mask, Brace, Glue, Empty, Call, Begin, End, Positive, Negative, ContextEnd, Cut}
+use Rattle.ux_grf.specs.declared.item.Item.TheVariants.{Literal, Quoted, Mask, Brace, NoSpace, Empty, Call, Begin, End, Positive, Negative, ContextEnd, Cut}
 
 -- the item's text, which is empty where it has none
 abbrev pub text_of_item : Item → List ℕ
@@ -12,7 +12,7 @@ text_of_item (Literal text) = text
 text_of_item (Quoted text) = text
 text_of_item (Mask text) = text
 text_of_item (Brace text) = text
-text_of_item Glue = []
+text_of_item NoSpace = []
 text_of_item Empty = []
 text_of_item (Call name) = name
 text_of_item (Begin name) = name

@@ -4,7 +4,7 @@ use Rattle.std.specs.Prelude.{◌≡◌, ◌≢◌, ℕ, ◌<◌, ◌≤◌, ◌
 use Rattle.ux_grf.specs.declared.graph.Graph.{Graph}
 use Rattle.ux_grf.specs.declared.graph.GrfBox.{GrfBox}
 use Rattle.ux_grf.specs.declared.item.Item.{Item}
-use Rattle.ux_grf.specs.declared.item.Item.TheVariants.{Literal, Quoted, Mask, Brace, Glue, Empty, Call, Begin, End, Positive, Negative, ContextEnd, Cut}
+use Rattle.ux_grf.specs.declared.item.Item.TheVariants.{Literal, Quoted, Mask, Brace, NoSpace, Empty, Call, Begin, End, Positive, Negative, ContextEnd, Cut}
 use Rattle.ux_grf.specs.Reached.{ways_of, Reached}
 use Rattle.ux_grf.specs.Content.{is_read}
 
@@ -21,7 +21,7 @@ HasText (Literal text) = 0 < length text
 HasText (Quoted text) = 0 < length text
 HasText (Mask text) = 0 < length text
 HasText (Brace text) = 0 < length text
-HasText Glue = Unit {0}
+HasText NoSpace = Unit {0}
 HasText Empty = Unit {0}
 HasText (Call name) = 0 < length name
 HasText (Begin name) = 0 < length name
@@ -38,7 +38,7 @@ may_be_beside (Literal text) = true
 may_be_beside (Quoted text) = true
 may_be_beside (Mask text) = true
 may_be_beside (Brace text) = true
-may_be_beside Glue = true
+may_be_beside NoSpace = true
 may_be_beside Empty = true
 may_be_beside (Call name) = false
 may_be_beside (Begin name) = false

@@ -78,7 +78,7 @@ fn note_item<'a>(names: &mut IndexSet<&'a str>, item: &'a Item) -> Result<(), Al
         | Item::Quoted(_)
         | Item::Mask(_)
         | Item::Brace(_)
-        | Item::Glue
+        | Item::NoSpace
         | Item::Empty
         | Item::Begin(_)
         | Item::End(_)

@@ -6,9 +6,11 @@
 
 ghost use Rattle.std.specs.Prelude.{◌≡◌, ℕ, List, ◌++◌, length, IfOk, IfErr};
 ghost use Rattle.std.specs.Str.{chars};
+ghost use Rattle.ux_grf.specs.declared.graph.GraphKind.TheVariants.{Plain};
 ghost use Rattle.ux_grf.specs.Content.{IsContent, RefusesContent, StopsContent, IsOnly, IsEndOf};
 
 use crate::error::GrfError;
+use crate::graph::GraphKind;
 use crate::item::{Item, Piece};
 use crate::line::{Fault, read_lines};
 use crate::output::read_output;
@@ -28,19 +30,24 @@ pub struct Content {
 /// What the content writes, or the place of its first fault in a box 0. The content is what stands
 /// there once the file's own protection was taken off. The time is linear in it.
 pub fn read_content(alloc: Global, content: &str) -> Result<Content, GrfError>
-    ensures ok { IfOk result (IsContent content.now) }
-    ensures only { IfOk result (IsOnly content.now) }
-    ensures err { IfErr result (RefusesContent 0 content.now) }
+    ensures ok { IfOk result (IsContent Plain content.now) }
+    ensures only { IfOk result (IsOnly Plain content.now) }
+    ensures err { IfErr result (RefusesContent Plain 0 content.now) }
 {
-    read_in_box(alloc, content, 0)
+    read_in_box(alloc, GraphKind::Plain, content, 0)
 }
 
 /// What the content of the box writes, or the place of its first fault.
-pub fn read_in_box(alloc: Global, content: &str, node: u32) -> Result<Content, GrfError>
-    ensures ok { IfOk result (IsContent content.now) }
-    ensures err { IfErr result (RefusesContent node content.now) }
+pub fn read_in_box(
+    alloc: Global,
+    kind: GraphKind,
+    content: &str,
+    node: u32,
+) -> Result<Content, GrfError>
+    ensures ok { IfOk result (IsContent kind content.now) }
+    ensures err { IfErr result (RefusesContent kind node content.now) }
 {
-    match read_text(alloc, content) {
+    match read_text(alloc, kind, content) {
         Ok(read) => Ok(read),
         Err(Fault::At(left)) => Err(GrfError::BadContent {
             node,
@@ -51,11 +58,11 @@ pub fn read_in_box(alloc: Global, content: &str, node: u32) -> Result<Content, G
 }
 
 /// What the content writes, or what stands from its first fault on.
-fn read_text<'a>(alloc: Global, content: &'a str) -> Result<Content, Fault<'a>>
-    ensures ok { IfOk result (IsContent content.now) }
-    ensures bad { IfErr result (StopsContent content.now) }
+fn read_text<'a>(alloc: Global, kind: GraphKind, content: &'a str) -> Result<Content, Fault<'a>>
+    ensures ok { IfOk result (IsContent kind content.now) }
+    ensures bad { IfErr result (StopsContent kind content.now) }
 {
-    let parts = read_lines(alloc, content)?;
+    let parts = read_lines(alloc, kind, content)?;
     if is_open(parts.output) {
         return Err(Fault::At("\\"));
     }

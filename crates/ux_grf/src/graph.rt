@@ -3,6 +3,15 @@
 use crate::item::{Item, Piece};
 use ux_base::Lst;
 
+/// What a graph is drawn for.
+#[derive(Clone, Copy)]
+pub enum GraphKind {
+    /// To be found in the tokens of a text.
+    Plain,
+    /// To be found inside a word: the lines `$<` and `$>` stand where that part begins and ends.
+    Morphological,
+}
+
 /// A graph as it is drawn. Box 0 is its start, box 1 its end.
 #[derive(Drop)]
 pub struct Graph {

@@ -17,7 +17,7 @@ pub enum Item {
     /// A text in braces, with the braces.
     Brace(Txt),
     /// `#`: no space may stand here.
-    Glue,
+    NoSpace,
     /// The empty word: `<E>`, or a line without items.
     Empty,
     /// `:name`: a word of the graph of this name.

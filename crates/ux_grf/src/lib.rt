@@ -1,6 +1,7 @@
 //! Graph files: their boxes, and the items that stand in the boxes.
 //!
 //! `read_grf` turns the text of a graph file into a `Graph`, or names the first cause of refusal.
+//! `read_marked` does so for graphs of the morphological mode, which have two more lines.
 //! `read_content` reads one content of the box language, `needs` lists the graphs that a graph calls.
 //! Boxes are counted from 0, and such a number is a node. Box 0 is the start of a graph, box 1 its
 //! end. `specs/File.antt` says which graph a text draws and when each refusal comes,
@@ -32,6 +33,6 @@ mod words;
 pub use calls::needs;
 pub use content::{Content, read_content};
 pub use error::GrfError;
-pub use graph::{Graph, GrfBox};
+pub use graph::{Graph, GraphKind, GrfBox};
 pub use item::{Item, Piece};
-pub use read::read_grf;
+pub use read::{read_grf, read_marked};

@@ -8,6 +8,7 @@ ghost use Rattle.ux_grf.specs.Items.{PLUS, EndsLine, Reads, with_first};
 ghost use Rattle.ux_grf.specs.Lines.{IsLine, AreLines, is_marked, IsMarkedLine, own_text, after_line, line_end, or_empty, IsFirstEnd, IsLastRest};
 ghost use Rattle.ux_grf.specs.Content.{StopsItems, StopsMark, StopsLine, StopsLines};
 
+use crate::graph::GraphKind;
 use crate::item::Item;
 use crate::marked::{begins_with_mark, marked, skip_blanks};
 use crate::start::{Start, read_start};
@@ -65,14 +66,14 @@ pub struct Parts<'a> {
 }
 
 /// The lines of a content, and its output.
-pub fn read_lines<'a>(alloc: Global, text: &'a str) -> Result<Parts<'a>, Fault<'a>>
-    ensures lines { IfOk result (λ parts. AreLines text.now parts.lines.items parts.output.now) }
-    ensures bad { IfErr result (StopsLines text.now) }
+pub fn read_lines<'a>(alloc: Global, kind: GraphKind, text: &'a str) -> Result<Parts<'a>, Fault<'a>>
+    ensures lines { IfOk result (λ parts. AreLines kind text.now parts.lines.items parts.output.now) }
+    ensures bad { IfErr result (StopsLines kind text.now) }
 {
     let mut lines = Vec::new(alloc);
     let mut rest = text;
     loop {
-        let line = read_line(alloc, rest)?;
+        let line = read_line(alloc, kind, rest)?;
         lines.push(fitted(line.items))?;
         match strip_sign(line.after, b'+') {
             Some(next) => rest = next,
@@ -120,15 +121,15 @@ fn last_output(text: &str) -> &str
 }
 
 /// The first line of the text.
-fn read_line<'a>(alloc: Global, text: &'a str) -> Result<Line<'a>, Fault<'a>>
-    ensures line { IfOk result (λ line. IsLine text.now line.items.items line.after.now) }
+fn read_line<'a>(alloc: Global, kind: GraphKind, text: &'a str) -> Result<Line<'a>, Fault<'a>>
+    ensures line { IfOk result (λ line. IsLine kind text.now line.items.items line.after.now) }
     ensures ends { IfOk result (λ line. EndsLine line.after.now) }
     ensures shorter { IfOk result (λ line. length line.after.now ≤ length text.now) }
-    ensures bad { IfErr result (StopsLine text.now) }
+    ensures bad { IfErr result (StopsLine kind text.now) }
 {
     let front = skip_blanks(text);
     if begins_with_mark(front) {
-        return read_marked(alloc, front);
+        return read_marked(alloc, kind, front);
     }
     let line = read_items(alloc, text)?;
     Ok(Line {
@@ -149,15 +150,15 @@ fn fill_empty(items: Vec<Item>) -> Result<Vec<Item>, AllocError>
 }
 
 /// The line of one item that begins with a mark.
-fn read_marked<'a>(alloc: Global, text: &'a str) -> Result<Line<'a>, Fault<'a>>
+fn read_marked<'a>(alloc: Global, kind: GraphKind, text: &'a str) -> Result<Line<'a>, Fault<'a>>
     requires { is_marked text.now ≡ true }
-    ensures line { IfOk result (λ line. IsMarkedLine text.now line.items.items line.after.now) }
+    ensures line { IfOk result (λ line. IsMarkedLine kind text.now line.items.items line.after.now) }
     ensures ends { IfOk result (λ line. EndsLine line.after.now) }
     ensures shorter { IfOk result (λ line. length line.after.now ≤ length text.now) }
-    ensures bad { IfErr result (StopsMark text.now) }
+    ensures bad { IfErr result (StopsMark kind text.now) }
 {
     let (own, after) = split_line(text);
-    match marked(alloc, own)? {
+    match marked(alloc, kind, own)? {
         Some(item) => {
             let mut items = Vec::new(alloc);
             items.push(item)?;

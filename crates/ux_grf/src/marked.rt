@@ -7,8 +7,9 @@ ghost use Rattle.std.specs.Str.{bytes_eq};
 ghost use Rattle.std.specs.List.{list_all, list_any};
 ghost use Rattle.ux_grf.specs.Words.{is_gap};
 ghost use Rattle.ux_grf.specs.declared.words.Gap.TheVariants.{Blanks};
-ghost use Rattle.ux_grf.specs.Lines.{without_front, without_back, without_ending, begins_blank, ends_blank, is_name, is_name_byte, is_bound_name, without_bar as without_bar_of, is_no_name_sign, call_of, call_item, bound_of, dollar_item, is_marked, marked_item};
+ghost use Rattle.ux_grf.specs.Lines.{without_front, without_back, without_ending, begins_blank, ends_blank, is_name, is_name_byte, is_bound_name, without_bar as without_bar_of, is_no_name_sign, call_of, call_item, bound_item, bound_of, dollar_item, is_marked, marked_item, word_item};
 
+use crate::graph::GraphKind;
 use crate::item::Item;
 use crate::words::{Gap, after, before, is_gap_byte};
 use std::alloc::{AllocError, Global};
@@ -22,15 +23,15 @@ pub fn begins_with_mark(text: &str) -> bool
 }
 
 /// The one item of a line that begins with `:` or `$`, or none where the line is bad.
-pub fn marked(alloc: Global, text: &str) -> Result<Option<Item>, AllocError>
+pub fn marked(alloc: Global, kind: GraphKind, text: &str) -> Result<Option<Item>, AllocError>
     requires { is_marked text.now ≡ true }
-    ensures { IfOk result (λ item. item ≡ marked_item text.now) }
+    ensures { IfOk result (λ item. item ≡ marked_item kind text.now) }
 {
     let rest = after(text, 0);
     if text.as_bytes().first() == Some(&b':') {
         called(alloc, without_grf(trimmed(skip_blanks(rest))))
     } else {
-        dollar(alloc, trimmed(rest))
+        dollar(alloc, kind, trimmed(rest))
     }
 }
 
@@ -58,8 +59,8 @@ fn is_other_sign(byte: u8) -> bool
 }
 
 /// The item of a line, from what stands after its `$`.
-fn dollar(alloc: Global, text: &str) -> Result<Option<Item>, AllocError>
-    ensures { IfOk result (λ item. item ≡ dollar_item text.now) }
+fn dollar(alloc: Global, kind: GraphKind, text: &str) -> Result<Option<Item>, AllocError>
+    ensures { IfOk result (λ item. item ≡ dollar_item kind text.now) }
 {
     match text {
         "" => Ok(Some(Item::Literal(Txt::from_str(alloc, "$")?))),
@@ -67,6 +68,17 @@ fn dollar(alloc: Global, text: &str) -> Result<Option<Item>, AllocError>
         "![" => Ok(Some(Item::Negative)),
         "]" => Ok(Some(Item::ContextEnd)),
         "*" => Ok(Some(Item::Cut)),
+        _ => bound_by(alloc, kind, text),
+    }
+}
+
+/// Where a variable begins or ends, or the part inside a word.
+fn bound_by(alloc: Global, kind: GraphKind, text: &str) -> Result<Option<Item>, AllocError>
+    ensures { IfOk result (λ item. item ≡ bound_item kind text.now) }
+{
+    match (kind, text) {
+        (GraphKind::Morphological, "<") => Ok(Some(Item::Begin(Txt::from_str(alloc, "<")?))),
+        (GraphKind::Morphological, ">") => Ok(Some(Item::End(Txt::from_str(alloc, "<")?))),
         _ => bound(alloc, text),
     }
 }

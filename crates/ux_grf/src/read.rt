@@ -3,6 +3,7 @@
 ghost use Rattle.std.specs.Prelude.{◌≡◌, ◌∷◌, ◌⊎◌, List, None, ℕ, ◌+◌, ◌*◌, ◌<◌, ◌≤◌, length, drop, slice_get, map, slice_index, option_copied, true, false, IfOk, IfErr, OnOk, Some, Contains};
 ghost use Rattle.ux_grf.specs.BoxLine.{said_by};
 ghost use Rattle.ux_grf.specs.File.{IsGraphOf, Refuses, Draws, RefusesTexts, IsNextCount, count_at};
+ghost use Rattle.ux_grf.specs.declared.graph.GraphKind.TheVariants.{Plain, Morphological};
 ghost use Rattle.ux_grf.specs.Size.{size_of};
 ghost use Rattle.ux_grf.specs.WellFormed.{IsWellFormed};
 ghost use Rattle.ux_digraph.specs.Paths.{IsInside};
@@ -12,7 +13,7 @@ ghost use Rattle.ux_grf.specs.Boxes.{box_in_line, box_at, is_good, IsTextOf, Are
 use crate::box_line::{BoxLine, read_box_line};
 use crate::boxes::make_boxes;
 use crate::error::GrfError;
-use crate::graph::Graph;
+use crate::graph::{Graph, GraphKind};
 use crate::header::{read_count, skip_header};
 use crate::targets::{each_once, ways};
 use std::alloc::Global;
@@ -21,18 +22,30 @@ use ux_digraph::reached;
 
 /// The graph that the text of a graph file draws. The time is linear in the text.
 pub fn read_grf(alloc: Global, text: &str) -> Result<Graph, GrfError>
-    ensures ok { IfOk result (IsGraphOf text.now) }
+    ensures ok { IfOk result (IsGraphOf Plain text.now) }
     ensures well_formed { IfOk result IsWellFormed }
     ensures size { IfOk result (λ graph. size_of graph ≤ 4 * length text.now) }
-    ensures err { IfErr result (Refuses text.now) }
+    ensures err { IfErr result (Refuses Plain text.now) }
 {
-    read_graph(alloc, text)
+    read_graph(alloc, GraphKind::Plain, text)
 }
 
-/// The graph that the text draws.
-fn read_graph(alloc: Global, text: &str) -> Result<Graph, GrfError>
-    ensures ok { IfOk result (IsGraphOf text.now) }
-    ensures err { IfErr result (Refuses text.now) }
+/// The graph of the morphological mode that the text of a graph file draws. It may have two lines
+/// more: `$<` begins the part that lies inside a word, a variable of the name `<`, and `$>` ends it.
+/// The time is linear in the text.
+pub fn read_marked(alloc: Global, text: &str) -> Result<Graph, GrfError>
+    ensures ok { IfOk result (IsGraphOf Morphological text.now) }
+    ensures well_formed { IfOk result IsWellFormed }
+    ensures size { IfOk result (λ graph. size_of graph ≤ 4 * length text.now) }
+    ensures err { IfErr result (Refuses Morphological text.now) }
+{
+    read_graph(alloc, GraphKind::Morphological, text)
+}
+
+/// The graph of this kind that the text draws.
+fn read_graph(alloc: Global, kind: GraphKind, text: &str) -> Result<Graph, GrfError>
+    ensures ok { IfOk result (IsGraphOf kind text.now) }
+    ensures err { IfErr result (Refuses kind text.now) }
 {
     let mut lines = lines(text);
     if !skip_header(&mut lines) {
@@ -40,7 +53,7 @@ fn read_graph(alloc: Global, text: &str) -> Result<Graph, GrfError>
     }
     let count = next_count(alloc, &mut lines)?;
     let boxes = read_boxes(alloc, &mut lines, count)?;
-    make_graph(alloc, &boxes)
+    make_graph(alloc, kind, &boxes)
 }
 
 /// The number of boxes, which the next line tells.
@@ -158,16 +171,16 @@ fn are_inside(targets: &[u32], count: u32) -> bool
 }
 
 /// The graph of these boxes.
-fn make_graph(alloc: Global, boxes: &[BoxLine<'_>]) -> Result<Graph, GrfError>
+fn make_graph(alloc: Global, kind: GraphKind, boxes: &[BoxLine<'_>]) -> Result<Graph, GrfError>
     requires two { 1 < length boxes.now }
     requires most { length boxes.now ≤ 65535 }
     requires inside { IsInside (map (λ b. b.targets.items) boxes.now) }
-    ensures draws { IfOk result (Draws (map said_by boxes.now)) }
-    ensures refused { IfErr result (RefusesTexts (map said_by boxes.now)) }
+    ensures draws { IfOk result (Draws kind (map said_by boxes.now)) }
+    ensures refused { IfErr result (RefusesTexts kind (map said_by boxes.now)) }
 {
     let ways = ways(alloc, boxes)?;
     let reached = reached(alloc, &ways, 0)?;
     Ok(Graph {
-        boxes: Lst::new(make_boxes(alloc, boxes, &reached)?),
+        boxes: Lst::new(make_boxes(alloc, kind, boxes, &reached)?),
     })
 }

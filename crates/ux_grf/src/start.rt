@@ -57,7 +57,7 @@ pub fn read_start<'a>(alloc: Global, text: &'a str) -> Result<Start<'a>, AllocEr
     match first_sign(text) {
         Sign::Nothing | Sign::Plus | Sign::Slash => Ok(Start::Over),
         Sign::Blank => Ok(Start::Written(None, after(text, 0))),
-        Sign::Sharp => Ok(Start::Written(Some(Item::Glue), after(text, 0))),
+        Sign::Sharp => Ok(Start::Written(Some(Item::NoSpace), after(text, 0))),
         Sign::Quotation => start_quoted(alloc, text),
         Sign::Less => start_mask(alloc, text),
         Sign::OpenBrace => start_brace(alloc, text),

@@ -52,7 +52,7 @@ AreUncut-append (Cut ∷ xs) ys first second = absurd first
 -- a letter that takes nothing and is no cut gives no cut
 stays_uncut : (input : Input) (x : Letter) (p : ℕ) (here : List Event) → Stays input x p here →
     IsNoCut x → AreUncut here
-stays_uncut input (plain label.Glue) p here t is = subst AreUncut (sym t.1) tt
+stays_uncut input (plain label.NoSpace) p here t is = subst AreUncut (sym t.1) tt
 stays_uncut input (plain (label.Begin name)) p here t is = subst AreUncut (sym t) tt
 stays_uncut input (plain (label.End name)) p here t is = subst AreUncut (sym t) tt
 stays_uncut input (plain label.Cut) p here t is = absurd is

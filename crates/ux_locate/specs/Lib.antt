@@ -6,4 +6,3 @@ pub mod Finding
 pub mod Keeping
 pub mod Order
 pub mod ByChart
-pub mod Searchable

@@ -5,8 +5,6 @@
 //! and what a policy keeps of them is chosen afterwards.
 
 ghost use Rattle.std.specs.Prelude.{◌≡◌, ◌<◌, ◌≤◌, ℕ, List, false, IfOk, OnOk, length};
-ghost use Rattle.ux_net.specs.Closings.{TellsClosings};
-ghost use Rattle.ux_net.specs.Marked.{IsMarked};
 ghost use Rattle.ux_outputs.specs.declared.event.Event.{Event};
 ghost use Rattle.ux_text_chart.specs.TextCharts.{IsTextChart, chart_setting};
 ghost use Rattle.ux_walk.specs.Noting.{Includes};
@@ -27,8 +25,6 @@ use ux_walk::look_ups::LookUps;
 /// The hits from all starts, in no order. Equal ones may stand there twice.
 pub fn all_hits(alloc: Global, search: &Search) -> Mem<Vec<Hit>>
     requires masks { HasMasks search.now }
-    requires marked { IsMarked search.now.masked.now.net.now }
-    requires told { TellsClosings search.now.masked.now.net.now }
     ensures { IfOk result (λ hits. AreAllHits search.now hits.items) }
 {
     // The chart is let go at one place alone: each costs the prover a look at all of its parts.

@@ -11,7 +11,6 @@ ghost use Rattle.ux_text_chart.specs.TextCharts.{IsTextChart, chart_setting};
 ghost use Rattle.ux_walk.specs.Contexts.{ContextsTold};
 ghost use Rattle.ux_locate.specs.Finding.{AreKeptFor, HasMasks, IsFound, IsHitFrom, setting_in, tokens_in};
 ghost use Rattle.ux_locate.specs.Keeping.{AreKept, first_of, last_of};
-ghost use Rattle.ux_locate.specs.Searchable.{IsSearchable};
 
 use crate::chart_contexts::ChartContexts;
 use crate::ends::{ChartEnds, Ends};
@@ -35,7 +34,6 @@ use ux_walker::Walker;
 pub fn kept_hits(alloc: Global, search: &Search) -> Mem<Vec<Hit>>
     requires masks { HasMasks search.now }
     requires uncut { CutNothing search.now.masked.now.net.now }
-    requires searchable { IsSearchable search.now.masked.now.net.now }
     ensures { IfOk result (λ hits. AreKept search.now.policy first_of last_of
         (IsFound (tokens_in search.now) (IsHitFrom search.now)) hits.items) }
 {
@@ -65,7 +63,6 @@ fn hits_by_walker(alloc: Global, search: &Search) -> Mem<Vec<Hit>>
 fn hits_by_chart(alloc: Global, search: &Search) -> Mem<Vec<Hit>>
     requires masks { HasMasks search.now }
     requires uncut { CutNothing search.now.masked.now.net.now }
-    requires searchable { IsSearchable search.now.masked.now.net.now }
     ensures { IfOk result (λ hits. AreKept search.now.policy first_of last_of
         (IsFound (tokens_in search.now) (IsHitFrom search.now)) hits.items) }
 {

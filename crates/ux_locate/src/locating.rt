@@ -12,7 +12,6 @@ ghost use Rattle.ux_net.specs.Nets.{net_grammar};
 ghost use Rattle.ux_locate.specs.Finding.{HasMasks, IsFound, IsHitFrom, tokens_in};
 ghost use Rattle.ux_locate.specs.Hits.{IsHit};
 ghost use Rattle.ux_locate.specs.Index.{IsKeptListing};
-ghost use Rattle.ux_locate.specs.Searchable.{IsSearchable};
 
 use crate::by_chart::all_hits;
 use crate::by_start::kept_hits;
@@ -50,7 +49,6 @@ pub fn locate<L: Ledger>(
     steps: &mut Steps<L>,
 ) -> Mem<Vec<Hit>>
     requires belongs { Belongs alphabet.now text.now applied.now }
-    requires searchable { IsSearchable net.now }
     ensures hits { IfOk result (λ hits. IsKeptListing policy
         (IsHit alphabet.now text.now applied.now (net_grammar net.now) mode novar)
         hits.items) }
@@ -70,7 +68,6 @@ fn hits_in(
     policy: Policy,
 ) -> Mem<Vec<Hit>>
     requires masks { HasTable masked.now }
-    requires searchable { IsSearchable masked.now.net.now }
     ensures { IfOk result (λ hits. IsKeptListing policy
         (IsHit masked.now.alphabet.now masked.now.text.now masked.now.applied.now
         (net_grammar masked.now.net.now) mode novar) hits.items) }
@@ -87,7 +84,6 @@ fn hits_in(
 /// The hits that are kept, put in order.
 fn listed_hits(alloc: Global, search: &Search) -> Mem<Vec<Hit>>
     requires masks { HasMasks search.now }
-    requires searchable { IsSearchable search.now.masked.now.net.now }
     ensures { IfOk result (λ hits. IsKeptListing search.now.policy
         (IsFound (tokens_in search.now) (IsHitFrom search.now)) hits.items) }
 {

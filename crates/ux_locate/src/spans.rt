@@ -17,7 +17,6 @@ ghost use Rattle.ux_locate.specs.Finding.{IsFound, IsSpanFrom, span_to};
 ghost use Rattle.ux_locate.specs.Hits.{IsHit};
 ghost use Rattle.ux_locate.specs.Index.{IsKeptListing};
 ghost use Rattle.ux_locate.specs.Keeping.{AreKept, first_in, last_in};
-ghost use Rattle.ux_locate.specs.Searchable.{IsSearchable};
 ghost use Rattle.ux_locate.specs.Spans.{LiesIn, hit_at};
 
 use crate::best::best_ends;
@@ -54,7 +53,6 @@ pub fn locate_spans<L: Ledger>(
 ) -> Mem<Vec<Span>>
     requires belongs { Belongs alphabet.now text.now applied.now }
     requires uncut { CutNothing net.now }
-    requires searchable { IsSearchable net.now }
     ensures listing { IfOk result (λ spans. (novar : NoVar) → IsKeptListing policy
         (IsHit alphabet.now text.now applied.now (net_grammar net.now) Ignore novar)
         (map (hit_at text.now) spans.items)) }
@@ -70,7 +68,6 @@ pub fn locate_spans<L: Ledger>(
 fn spans_in(alloc: Global, masked: &MaskedText, policy: Policy) -> Mem<Vec<Span>>
     requires table { HasTable masked.now }
     requires uncut { CutNothing masked.now.net.now }
-    requires searchable { IsSearchable masked.now.net.now }
     ensures listing { IfOk result (λ spans. (novar : NoVar) → IsKeptListing policy
         (IsHit masked.now.alphabet.now masked.now.text.now masked.now.applied.now
         (net_grammar masked.now.net.now) Ignore novar)
@@ -86,7 +83,6 @@ fn spans_in(alloc: Global, masked: &MaskedText, policy: Policy) -> Mem<Vec<Span>
 /// where they suit the net, otherwise a chart does.
 fn kept_spans(alloc: Global, masked: &MaskedText, policy: Policy) -> Mem<Vec<Span>>
     requires table { HasTable masked.now }
-    requires searchable { IsSearchable masked.now.net.now }
     ensures { IfOk result (λ spans. AreKept policy first_in last_in
         (IsFound masked.now.text.now (IsSpanFrom (masked_setting masked.now))) spans.items) }
 {
@@ -111,7 +107,6 @@ fn spans_by_walker(alloc: Global, masked: &MaskedText, policy: Policy) -> Mem<Ve
 /// The same, by a chart.
 fn spans_by_chart(alloc: Global, masked: &MaskedText, policy: Policy) -> Mem<Vec<Span>>
     requires table { HasTable masked.now }
-    requires searchable { IsSearchable masked.now.net.now }
     ensures { IfOk result (λ spans. AreKept policy first_in last_in
         (IsFound masked.now.text.now (IsSpanFrom (masked_setting masked.now))) spans.items) }
 {

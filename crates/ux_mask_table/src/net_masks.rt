@@ -55,11 +55,11 @@ fn note_edge<'n>(masks: &mut IndexSet<&'n Mask>, edge: &'n Edge) -> Mem<()>
     match &edge.label {
         Label::Mask(mask) => note_mask(masks, mask),
         Label::Empty
-        | Label::Fold(_)
-        | Label::Exact(_)
+        | Label::CaseFolded(_)
+        | Label::CaseExact(_)
         | Label::Brace(_)
         | Label::Space
-        | Label::Glue
+        | Label::NoSpace
         | Label::Begin(_)
         | Label::End(_)
         | Label::Positive

@@ -2,7 +2,7 @@
 use Rattle.std.proofs.Common.{arith, ◌≡◌, ℕ, suc, List, [], refl, sym, ◌∙◌, ap, inr, append-nil, ◌↔◌}
 use Rattle.std.specs.Prelude.{Contains}
 use Rattle.ux_net.specs.Words.{Letter, mark_of, Step, StepGraph, Grammar, SayTheSame}
-use Rattle.ux_net.proofs.FreeLemmas.{one_step}
+use Rattle.ux_net.proofs.RunLemmas.{one_step}
 use Rattle.ux_net.proofs.RefineLemmas.{letters_along, IsNumbered, Refines, refined_same, each_same}
 use Rattle.ux_outputs.specs.declared.event.Event.{Event}
 use Rattle.ux_meaning.specs.Inputs.{Input}

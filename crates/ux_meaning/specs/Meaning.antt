@@ -11,7 +11,7 @@ use Rattle.ux_meaning.specs.Inputs.{Input}
 
 -- the letter applies at the position, takes nothing, and gives these events
 abbrev pub Stays : Input → Letter → ℕ → List Event → Type 0
-Stays input (plain label.Glue) p here = (input.IsSpaceAt p → ⊥) × (here ≡ [])
+Stays input (plain label.NoSpace) p here = (input.IsSpaceAt p → ⊥) × (here ≡ [])
 Stays input (plain (label.Begin name)) p here = here ≡ event.Begin name ∷ []
 Stays input (plain (label.End name)) p here = here ≡ event.End name ∷ []
 Stays input (plain label.Cut) p here = here ≡ event.Cut ∷ []

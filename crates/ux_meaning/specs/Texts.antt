@@ -9,7 +9,7 @@ use Rattle.ux_tokens.specs.declared.kind.Kind.TheVariants as kind
 use Rattle.ux_tokens.specs.Tokens.{Token}
 use Rattle.ux_masks.specs.declared.mask.Mask as masks
 use Rattle.ux_net.specs.declared.label.Label.{Label}
-use Rattle.ux_net.specs.declared.label.Label.TheVariants.{Fold, Exact, Mask, Brace, Space}
+use Rattle.ux_net.specs.declared.label.Label.TheVariants.{CaseFolded, CaseExact, Mask, Brace, Space}
 use Rattle.ux_outputs.specs.Rendering.{kind_of, skip}
 use Rattle.ux_meaning.specs.Inputs.{Input}
 
@@ -54,8 +54,8 @@ Spans = masks.Mask → (from to : ℕ) → Type 0
 module _ (alphabet : Letters) (tokens : List Token) (Accepts : Spans) where
   -- the label takes the tokens from position p to position k
   abbrev pub Takes : Label → ℕ → ℕ → Type 0
-  Takes (Fold text) p k = TakesToken tokens (FoldsTo alphabet text) p k
-  Takes (Exact text) p k = TakesToken tokens (λ token. token.text ≡ text) p k
+  Takes (CaseFolded text) p k = TakesToken tokens (FoldsTo alphabet text) p k
+  Takes (CaseExact text) p k = TakesToken tokens (λ token. token.text ≡ text) p k
   Takes (Mask mask) p k = Accepts mask (skip tokens p) k
   Takes (Brace text) p k =
       TakesOne tokens (λ token. IsBraced token.kind × (token.text ≡ text)) p k

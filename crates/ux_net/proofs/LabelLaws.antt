@@ -3,7 +3,7 @@ use Rattle.std.proofs.Common.{arith, ◌≡◌, ℕ, zero, suc, List, [], ◌∷
 use Rattle.std.specs.Prelude.{slice_get, Contains}
 use Rattle.std.specs.List.{list_all}
 use Rattle.ux_net.specs.declared.label.Label.{Label}
-use Rattle.ux_net.specs.declared.label.Label.TheVariants.{Empty, Fold, Exact, Mask, Brace, Space, Glue, Begin, End, Positive, Negative, ContextEnd, Cut, Call}
+use Rattle.ux_net.specs.declared.label.Label.TheVariants.{Empty, CaseFolded, CaseExact, Mask, Brace, Space, NoSpace, Begin, End, Positive, Negative, ContextEnd, Cut, Call}
 use Rattle.ux_net.specs.declared.state.Edge.{Edge}
 use Rattle.ux_net.specs.declared.state.State.{State}
 use Rattle.ux_net.specs.declared.net_graph.NetGraph.{NetGraph}
@@ -28,12 +28,12 @@ module _ {X : Type 0} (p : X → Bool) where
 
 plain_told : (x : Label) → is_plain x ≡ true → IsPlain x
 plain_told Empty is = tt
-plain_told (Fold text) is = tt
-plain_told (Exact text) is = tt
+plain_told (CaseFolded text) is = tt
+plain_told (CaseExact text) is = tt
 plain_told (Mask mask) is = tt
 plain_told (Brace text) is = tt
 plain_told Space is = tt
-plain_told Glue is = tt
+plain_told NoSpace is = tt
 plain_told (Begin name) is = tt
 plain_told (End name) is = tt
 plain_told Positive is = absurd (false≢true is)
@@ -44,12 +44,12 @@ plain_told (Call graph) is = tt
 
 plain_shown : (x : Label) → IsPlain x → is_plain x ≡ true
 plain_shown Empty is = refl
-plain_shown (Fold text) is = refl
-plain_shown (Exact text) is = refl
+plain_shown (CaseFolded text) is = refl
+plain_shown (CaseExact text) is = refl
 plain_shown (Mask mask) is = refl
 plain_shown (Brace text) is = refl
 plain_shown Space is = refl
-plain_shown Glue is = refl
+plain_shown NoSpace is = refl
 plain_shown (Begin name) is = refl
 plain_shown (End name) is = refl
 plain_shown Positive is = absurd is
@@ -60,12 +60,12 @@ plain_shown (Call graph) is = refl
 
 uncut_told : (x : Label) → is_uncut x ≡ true → CutsNothing x
 uncut_told Empty is = tt
-uncut_told (Fold text) is = tt
-uncut_told (Exact text) is = tt
+uncut_told (CaseFolded text) is = tt
+uncut_told (CaseExact text) is = tt
 uncut_told (Mask mask) is = tt
 uncut_told (Brace text) is = tt
 uncut_told Space is = tt
-uncut_told Glue is = tt
+uncut_told NoSpace is = tt
 uncut_told (Begin name) is = tt
 uncut_told (End name) is = tt
 uncut_told Positive is = tt
@@ -76,12 +76,12 @@ uncut_told (Call graph) is = tt
 
 uncut_shown : (x : Label) → CutsNothing x → is_uncut x ≡ true
 uncut_shown Empty is = refl
-uncut_shown (Fold text) is = refl
-uncut_shown (Exact text) is = refl
+uncut_shown (CaseFolded text) is = refl
+uncut_shown (CaseExact text) is = refl
 uncut_shown (Mask mask) is = refl
 uncut_shown (Brace text) is = refl
 uncut_shown Space is = refl
-uncut_shown Glue is = refl
+uncut_shown NoSpace is = refl
 uncut_shown (Begin name) is = refl
 uncut_shown (End name) is = refl
 uncut_shown Positive is = refl

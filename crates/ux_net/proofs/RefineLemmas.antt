@@ -3,9 +3,9 @@
 use Rattle.std.proofs.Common.{◌≡◌, ℕ, List, [], ◌∷◌, ◌++◌, map, refl, sym, ◌∙◌, ap, subst, ◌⊎◌, inl, inr, append_assoc, append-nil}
 use Rattle.ux_grf.specs.declared.item.Piece.{Piece}
 use Rattle.ux_net.specs.declared.label.Label.{Label}
-use Rattle.ux_net.specs.declared.label.Label.TheVariants.{Empty, Fold, Exact, Mask, Brace, Space, Glue, Begin, End, Positive, Negative, ContextEnd, Cut, Call}
+use Rattle.ux_net.specs.declared.label.Label.TheVariants.{Empty, CaseFolded, CaseExact, Mask, Brace, Space, NoSpace, Begin, End, Positive, Negative, ContextEnd, Cut, Call}
 use Rattle.ux_net.specs.Words.{Sign, Letter, piece, context, ordinary, opens, closes, mark_of, letter_of, letters, Step, put_by, StepGraph, Grammar, Run, stop, along, across, IsWord, IsBody, HasPlace, same_plain, same_piece, same_context, AreRenumbered, none, more, SayTheSame}
-use Rattle.ux_net.proofs.FreeLemmas.{run_joined}
+use Rattle.ux_net.proofs.RunLemmas.{run_joined}
 
 -- the letters along a step
 abbrev pub letters_along : Step → List Letter
@@ -24,12 +24,12 @@ module _ (old : Grammar) (number : (g place : ℕ) → ℕ) where
 
   label_same : (label : Label) → AreRenumbered old number (letter_of label) (letter_of label)
   label_same Empty = none
-  label_same (Fold text) = more same_plain none
-  label_same (Exact text) = more same_plain none
+  label_same (CaseFolded text) = more same_plain none
+  label_same (CaseExact text) = more same_plain none
   label_same (Mask text) = more same_plain none
   label_same (Brace text) = more same_plain none
   label_same Space = more same_plain none
-  label_same Glue = more same_plain none
+  label_same NoSpace = more same_plain none
   label_same (Begin name) = more same_plain none
   label_same (End name) = more same_plain none
   label_same Positive = more same_plain none

@@ -3,7 +3,7 @@ use Rattle.std.proofs.Common.{arith, ◌≡◌, ℕ, List, [], ◌∷◌, refl}
 use Rattle.std.specs.Prelude.{Contains}
 use Rattle.ux_grf.specs.declared.item.Piece.{Piece}
 use Rattle.ux_net.specs.declared.label.Label.{Label}
-use Rattle.ux_net.specs.declared.label.Label.TheVariants.{Fold, Positive, Negative, ContextEnd, Call}
+use Rattle.ux_net.specs.declared.label.Label.TheVariants.{CaseFolded, Positive, Negative, ContextEnd, Call}
 use Rattle.ux_net.specs.Words.{positive, negative, plain, piece, context, Step, StepGraph, Run, stop, along, across, IsWord, IsBody}
 
 -- a graph of these steps, from place 0 to the last one
@@ -33,7 +33,7 @@ module _ (a b : List ℕ) where
   inner_opens = bare 1 2 (Negative ∷ [])
 
   abbrev middle : Step
-  middle = bare 2 3 (Fold a ∷ [])
+  middle = bare 2 3 (CaseFolded a ∷ [])
 
   abbrev inner_closes : Step
   inner_closes = bare 3 4 (ContextEnd ∷ [])
@@ -42,7 +42,7 @@ module _ (a b : List ℕ) where
   outer_closes = bare 4 5 (ContextEnd ∷ [])
 
   abbrev beyond : Step
-  beyond = bare 5 6 (Fold b ∷ [])
+  beyond = bare 5 6 (CaseFolded b ∷ [])
 
   abbrev nested : List Step
   nested = outer_opens ∷ inner_opens ∷ middle ∷ inner_closes ∷ outer_closes ∷ beyond ∷ []
@@ -50,7 +50,7 @@ module _ (a b : List ℕ) where
   abbrev Nested : StepGraph
   Nested = listed nested 6
 
-  innermost : Run 1 Nested 2 3 (plain (Fold a) ∷ [])
+  innermost : Run 1 Nested 2 3 (plain (CaseFolded a) ∷ [])
   innermost = along middle (2, omega arith, refl) refl stop
 
   -- the body of the outer context is the inner one
@@ -59,7 +59,7 @@ module _ (a b : List ℕ) where
       across negative inner_opens inner_closes (1, omega arith, refl) refl innermost
       (3, omega arith, refl) refl stop
 
-  pub nested_word : IsWord 1 Nested (context positive 1 1 5 ∷ plain (Fold b) ∷ [])
+  pub nested_word : IsWord 1 Nested (context positive 1 1 5 ∷ plain (CaseFolded b) ∷ [])
   nested_word = record {
     last = 6;
     ends = refl;
@@ -77,7 +77,7 @@ module _ (a b : List ℕ) where
     run = outer_run;
   }
 
-  pub inner_body : IsBody 1 Nested 2 4 (plain (Fold a) ∷ [])
+  pub inner_body : IsBody 1 Nested 2 4 (plain (CaseFolded a) ∷ [])
   inner_body = record {
     step = inner_closes;
     inside = (3, omega arith, refl);
@@ -103,7 +103,7 @@ module _ (part : Piece) (a : List ℕ) where
   opening = putting 0 1 part (Positive ∷ [])
 
   abbrev found : Step
-  found = bare 1 2 (Fold a ∷ [])
+  found = bare 1 2 (CaseFolded a ∷ [])
 
   abbrev closing : Step
   closing = bare 2 3 (ContextEnd ∷ [])
@@ -127,10 +127,10 @@ module _ (a b : List ℕ) where
   opens_at = bare 0 1 (Positive ∷ [])
 
   abbrev first : Step
-  first = bare 1 2 (Fold a ∷ [])
+  first = bare 1 2 (CaseFolded a ∷ [])
 
   abbrev second : Step
-  second = bare 2 2 (Fold b ∷ [])
+  second = bare 2 2 (CaseFolded b ∷ [])
 
   abbrev closes_here : Step
   closes_here = bare 2 3 (ContextEnd ∷ [])
@@ -144,7 +144,7 @@ module _ (a b : List ℕ) where
   abbrev Forked : StepGraph
   Forked = listed forked 4
 
-  pub body_here : IsBody 1 Forked 1 3 (plain (Fold a) ∷ [])
+  pub body_here : IsBody 1 Forked 1 3 (plain (CaseFolded a) ∷ [])
   body_here = record {
     step = closes_here;
     inside = (3, omega arith, refl);
@@ -153,7 +153,7 @@ module _ (a b : List ℕ) where
     run = along first (1, omega arith, refl) refl stop;
   }
 
-  pub body_there : IsBody 1 Forked 1 4 (plain (Fold a) ∷ plain (Fold b) ∷ [])
+  pub body_there : IsBody 1 Forked 1 4 (plain (CaseFolded a) ∷ plain (CaseFolded b) ∷ [])
   body_there = record {
     step = closes_there;
     inside = (4, omega arith, refl);

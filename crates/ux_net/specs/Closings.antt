@@ -1,19 +1,19 @@
 -- Where a net tells that contexts which may not follow are closed: by the state into which one opens.
 -- The manual, on contexts. Public: the crate's public contracts speak of it.
-use Rattle.std.specs.Prelude.{◌≡◌, ℕ, ◌<◌, List, [], ◌∷◌, Option, Some, None, slice_get, get_or, Contains, length, nat_eq, cond}
+use Rattle.std.specs.Prelude.{◌≡◌, ℕ, ◌<◌, List, [], Option, Some, None, slice_get, get_or, Contains, length}
 use Rattle.ux_net.specs.declared.label.Label.TheVariants.{Negative}
 use Rattle.ux_net.specs.declared.state.Edge.{Edge}
 use Rattle.ux_net.specs.declared.state.State.{State}
 use Rattle.ux_net.specs.declared.net_graph.NetGraph.{NetGraph}
 use Rattle.ux_net.specs.declared.net_graph.Closing.{Closing}
 use Rattle.ux_net.specs.Closers.{ClosesInto}
+use Rattle.ux_net.specs.Keys.{first_with}
 use Rattle.ux_net.specs.Nets.{graph_at, states_of, net_grammar}
 
 -- the state that the first of the entries for a state tells
 abbrev pub closing_in : List Closing → (state : ℕ) → Option ℕ
-closing_in [] state = None
-closing_in (entry ∷ entries) state =
-    cond (nat_eq entry.opening state) (Some entry.closing) (closing_in entries state)
+closing_in entries state =
+    first_with (λ (entry : Closing). entry.opening) (λ (entry : Closing). entry.closing) entries state
 
 -- the entries of a graph, where there is one
 abbrev pub closings_at : Option NetGraph → List Closing

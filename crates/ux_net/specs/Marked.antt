@@ -1,5 +1,5 @@
 -- Marks of states from which it follows that what a net enters can be searched in an order. They
--- speak of one edge after another, and of no run. Public: the crate's public contracts speak of it.
+-- speak of one edge after another, and of no run. Public: contracts above speak of it.
 use Rattle.std.specs.Prelude.{◌≡◌, ℕ, ◌<◌, ◌≤◌, List, Some, slice_get, Contains, IsTrue, Bool, true}
 use Rattle.ux_net.specs.declared.label.Label.{Label}
 use Rattle.ux_net.specs.declared.label.Label.TheVariants as label
@@ -36,7 +36,7 @@ module _ (marks : Marks) where
   -- what holds of an edge of this label from state a to state b
   abbrev pub HoldAlong : (g a b : ℕ) → Label → Type 0
   HoldAlong g a b label.Empty = Stands g a b
-  HoldAlong g a b label.Glue = Stands g a b
+  HoldAlong g a b label.NoSpace = Stands g a b
   HoldAlong g a b (label.Begin name) = Stands g a b
   HoldAlong g a b (label.End name) = Stands g a b
   HoldAlong g a b label.Cut = Stands g a b

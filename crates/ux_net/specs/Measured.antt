@@ -2,7 +2,7 @@
 -- the crate's public contracts speak of it.
 use Rattle.std.specs.Prelude.{◌≡◌, ℕ, ◌+◌, ◌*◌, ◌<◌, ◌≤◌, List, Option, Some, None, slice_get, Contains, Bool, false, cond, IsTrue, get_or, sum_by}
 use Rattle.ux_net.specs.declared.label.Label.{Label}
-use Rattle.ux_net.specs.declared.label.Label.TheVariants.{Empty, Glue, Begin, End, Positive, Negative, Cut, Call}
+use Rattle.ux_net.specs.declared.label.Label.TheVariants.{Empty, NoSpace, Begin, End, Positive, Negative, Cut, Call}
 use Rattle.ux_net.specs.declared.state.Edge.{Edge}
 use Rattle.ux_net.specs.declared.state.State.{State}
 use Rattle.ux_net.specs.declared.net_graph.NetGraph.{NetGraph}
@@ -61,7 +61,7 @@ FallsOver graphs g from to =
 -- behind it.
 abbrev pub Falls : List NetGraph → (g from to : ℕ) → Label → Type 0
 Falls graphs g from to Empty = IsLower graphs g from to
-Falls graphs g from to Glue = IsLower graphs g from to
+Falls graphs g from to NoSpace = IsLower graphs g from to
 Falls graphs g from to (Begin name) = IsLower graphs g from to
 Falls graphs g from to (End name) = IsLower graphs g from to
 Falls graphs g from to Positive = FallsOver graphs g from to

@@ -3,7 +3,7 @@
 use Rattle.std.specs.Prelude.{◌≡◌, ℕ, zero, suc, ◌<◌, ◌≤◌, List, [], ◌∷◌, Option, Some, None, slice_get, Contains, length, IsTrue, Bool, true, false}
 use Rattle.std.specs.List.{list_all}
 use Rattle.ux_net.specs.declared.label.Label.{Label}
-use Rattle.ux_net.specs.declared.label.Label.TheVariants.{Empty, Fold, Exact, Mask, Brace, Space, Glue, Begin, End, Positive, Negative, ContextEnd, Cut, Call}
+use Rattle.ux_net.specs.declared.label.Label.TheVariants.{Empty, CaseFolded, CaseExact, Mask, Brace, Space, NoSpace, Begin, End, Positive, Negative, ContextEnd, Cut, Call}
 use Rattle.ux_net.specs.declared.state.Edge.{Edge}
 use Rattle.ux_net.specs.declared.state.State.{State}
 use Rattle.ux_net.specs.declared.net_graph.NetGraph.{NetGraph}
@@ -65,12 +65,12 @@ IsCalled count other = Unit {0}
 -- empty word, a variable's begin or end, or a call
 abbrev pub IsPlain : Label → Type 0
 IsPlain Empty = Unit {0}
-IsPlain (Fold text) = Unit {0}
-IsPlain (Exact text) = Unit {0}
+IsPlain (CaseFolded text) = Unit {0}
+IsPlain (CaseExact text) = Unit {0}
 IsPlain (Mask mask) = Unit {0}
 IsPlain (Brace text) = Unit {0}
 IsPlain Space = Unit {0}
-IsPlain Glue = Unit {0}
+IsPlain NoSpace = Unit {0}
 IsPlain (Begin name) = Unit {0}
 IsPlain (End name) = Unit {0}
 IsPlain (Call graph) = Unit {0}

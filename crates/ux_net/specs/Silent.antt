@@ -1,13 +1,13 @@
--- Labels that take nothing. Public: the crate's public contracts speak of it.
+-- Labels that take nothing. Public: contracts of compiling speak of it.
 use Rattle.std.specs.Prelude.{List, Bool, true, false}
 use Rattle.std.specs.List.{list_all}
 use Rattle.ux_net.specs.declared.label.Label.{Label}
-use Rattle.ux_net.specs.declared.label.Label.TheVariants.{Empty, Glue, Begin, End, Cut}
+use Rattle.ux_net.specs.declared.label.Label.TheVariants.{Empty, NoSpace, Begin, End, Cut}
 
 -- a label that takes no token, and calls nothing
 abbrev pub is_silent : Label → Bool
 is_silent Empty = true
-is_silent Glue = true
+is_silent NoSpace = true
 is_silent (Begin name) = true
 is_silent (End name) = true
 is_silent Cut = true

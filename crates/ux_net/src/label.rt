@@ -12,9 +12,9 @@ pub enum Label {
     /// Nothing.
     Empty,
     /// A token whose characters these fit, after an optional space.
-    Fold(Txt),
+    CaseFolded(Txt),
     /// A token of exactly this text, after an optional space.
-    Exact(Txt),
+    CaseExact(Txt),
     /// A span that this mask accepts, after an optional space.
     Mask(Mask),
     /// A sentence mark or a tag of exactly this text, after an optional space.
@@ -22,7 +22,7 @@ pub enum Label {
     /// One space, required.
     Space,
     /// Nothing, where no space stands.
-    Glue,
+    NoSpace,
     /// Nothing: the variable of this name begins.
     Begin(Txt),
     /// Nothing: the variable of this name ends.

@@ -53,12 +53,12 @@ fn is_label(label: &Label, kept: Kept) -> bool
 {
     match label {
         Label::Empty
-        | Label::Fold(_)
-        | Label::Exact(_)
+        | Label::CaseFolded(_)
+        | Label::CaseExact(_)
         | Label::Mask(_)
         | Label::Brace(_)
         | Label::Space
-        | Label::Glue
+        | Label::NoSpace
         | Label::Begin(_)
         | Label::End(_)
         | Label::Call(_) => true,

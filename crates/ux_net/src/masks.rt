@@ -66,11 +66,11 @@ fn note_edge<'a>(masks: &mut IndexSet<&'a Mask>, edge: &'a Edge) -> Result<(), A
     match &edge.label {
         Label::Mask(mask) => note_mask(masks, mask),
         Label::Empty
-        | Label::Fold(_)
-        | Label::Exact(_)
+        | Label::CaseFolded(_)
+        | Label::CaseExact(_)
         | Label::Brace(_)
         | Label::Space
-        | Label::Glue
+        | Label::NoSpace
         | Label::Begin(_)
         | Label::End(_)
         | Label::Positive

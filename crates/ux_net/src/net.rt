@@ -1,19 +1,23 @@
-//! A grammar as states: the graphs of a compiled list, of which the first is the main graph.
+//! A compiled grammar: a recursive transition network, whose graphs of states call each other by
+//! number. The first graph is the main graph.
 
 ghost use Rattle.std.specs.Prelude.{◌≡◌, ◌↔◌, ℕ, ◌≤◌, ◌<◌, Some, IsSomeAnd, IsTrue, length, slice_get, option_copied, get_or};
-ghost use Rattle.ux_net.specs.Closings.{closings_at, closing_of, Ascend};
+ghost use Rattle.ux_net.specs.Closings.{closings_at, closing_of, Ascend, TellsClosings};
+ghost use Rattle.ux_net.specs.Marked.{IsMarked};
 ghost use Rattle.ux_net.specs.Masks.{IsMaskCount};
 ghost use Rattle.ux_net.specs.Measured.{IsMeasured};
 ghost use Rattle.ux_net.specs.Nets.{graph_at, states_of, ArePlain, CutNothing};
 ghost use Rattle.ux_net.specs.Sound.{IsSound};
+ghost use Rattle.ux_net.specs.Whole.{AreAside, unmet_at, whole_states_of};
 
 use crate::closings::told;
 use crate::labels::{Kept, are_all};
-use crate::net_graph::{Closing, NetGraph, Rank};
+use crate::net_graph::{Closing, NetGraph, Rank, UnmetState};
 use crate::state::{Edge, State};
+use crate::whole::kept_aside;
 use std::marker::Model;
 
-/// A compiled grammar. Contracts see it as the list of its graphs.
+/// A compiled grammar: a recursive transition network. Contracts see it as the list of its graphs.
 #[derive(Drop)]
 pub struct Net {
     graphs: Vec<NetGraph>,
@@ -36,7 +40,7 @@ impl Model for Net {
 
 impl Net {
     /// The net of these graphs, on which so many different masks stand. Takes no memory.
-    pub(crate) fn of(graphs: Vec<NetGraph>, masks: usize) -> Net
+    pub fn of(graphs: Vec<NetGraph>, masks: usize) -> Net
         requires sound { IsSound graphs.items }
         requires counted { IsMaskCount graphs.items masks }
         ensures { result ≡ graphs.items }
@@ -62,6 +66,20 @@ impl Net {
     /// Every walk through a net ends: its ranks fall along each edge that may take nothing.
     pub fn is_measured(&self)
         ensures { IsMeasured self.now }
+    {
+        let _ = &self.graphs;
+    }
+
+    /// The states have marks, by which what a net enters can be searched in an order.
+    pub fn is_marked(&self)
+        ensures { IsMarked self.now }
+    {
+        let _ = &self.graphs;
+    }
+
+    /// Each context that may not follow is closed into one state, which `closing` tells.
+    pub fn tells_closings(&self)
+        ensures { TellsClosings self.now }
     {
         let _ = &self.graphs;
     }
@@ -128,7 +146,7 @@ impl Net {
     }
 
     /// The state into which the body that begins at a state is closed, where a context that may not
-    /// follow opens into it. Takes no memory, and a search by halves.
+    /// follow opens into it. Takes no memory: a binary search.
     pub fn closing(&self, graph: u32, state: u32) -> Option<u32>
         ensures { result ≡ closing_of self.now graph state }
     {
@@ -157,6 +175,36 @@ impl Net {
         self.edges(graph, state).get(k as usize)
     }
 
+    /// Whether a word of the graph may end at the state, as a file tells it: also of a state to which
+    /// no run comes. Takes no memory: a binary search.
+    pub fn is_whole_final(&self, graph: u32, state: u32) -> bool
+        requires from { 1 ≤ graph }
+        requires to { graph ≤ length self.now }
+        requires inside { state < length (states_of self.now graph) }
+        ensures { IsSomeAnd (slice_get (whole_states_of self.now graph) state)
+            (λ s. result ≡ s.is_final) }
+    {
+        match kept_aside(self.unmet(graph), state) {
+            Some(unmet) => unmet.is_final,
+            None => self.is_final(graph, state),
+        }
+    }
+
+    /// The edges of a state in order, as a file tells them: also of a state to which no run comes.
+    /// Takes no memory: a binary search.
+    pub fn whole_edges(&self, graph: u32, state: u32) -> &[Edge]
+        requires from { 1 ≤ graph }
+        requires to { graph ≤ length self.now }
+        requires inside { state < length (states_of self.now graph) }
+        ensures { IsSomeAnd (slice_get (whole_states_of self.now graph) state)
+            (λ s. result.now ≡ s.edges) }
+    {
+        match kept_aside(self.unmet(graph), state) {
+            Some(unmet) => unmet.edges.as_slice(),
+            None => self.edges(graph, state),
+        }
+    }
+
     /// The state of this number in the graph of this number, where there is one.
     pub fn state(&self, graph: u32, state: u32) -> Option<&State>
         ensures { option_copied result ≡ slice_get (states_of self.now graph) state }
@@ -178,6 +226,16 @@ impl Net {
             Some(found) => found.closings.as_slice(),
             None => &[],
         }
+    }
+
+    /// What is kept aside of a graph.
+    fn unmet(&self, graph: u32) -> &[UnmetState]
+        requires from { 1 ≤ graph }
+        requires to { graph ≤ length self.now }
+        ensures entries { result.now ≡ unmet_at (graph_at self.now graph) }
+        ensures aside { AreAside result.now (states_of self.now graph) }
+    {
+        self.graphs[graph as usize - 1].unmet.as_slice()
     }
 
     /// The states of a graph.

@@ -32,7 +32,7 @@ module _ (input : Input) (last : ℕ) (goes : GoesAhead input last) (grammar : G
     within (refused r s) h = within s h
 
     may_stay : (x : Letter) (p : ℕ) (here : List Event) → Stays input x p here → MayStay x
-    may_stay (plain label.Glue) p here h = tt
+    may_stay (plain label.NoSpace) p here h = tt
     may_stay (plain (label.Begin name)) p here h = tt
     may_stay (plain (label.End name)) p here h = tt
     may_stay (plain label.Cut) p here h = tt
@@ -103,7 +103,7 @@ module _ (input : Input) (last : ℕ) (goes : GoesAhead input last) (grammar : G
     lies g from to i b k label.Negative falls next =
         let h = next.1 in stood g from b i b k refl next.0 (falls.1 b h.word h.body)
     lies g from to i b k label.ContextEnd falls next = absurd next
-    lies g from to i b k label.Glue falls next = elim next.1 [
+    lies g from to i b k label.NoSpace falls next = elim next.1 [
       | inl t ↦ taken g from i b k t
       | inr t ↦ stood g from to i b k next.0 t.0 falls
     ]

@@ -46,7 +46,7 @@ module _ (net : List NetGraph) (top : ℕ) (marks : Marks) (are : AreMarksOf net
   ordinary_keeps : (g a b : ℕ) (x : Label) → mark_of (x ∷ []) ≡ ordinary → At g a b x →
       Keeps marks g a b
   ordinary_keeps g a b label.Empty mark m = m.keeps
-  ordinary_keeps g a b label.Glue mark m = m.keeps
+  ordinary_keeps g a b label.NoSpace mark m = m.keeps
   ordinary_keeps g a b (label.Begin name) mark m = m.keeps
   ordinary_keeps g a b (label.End name) mark m = m.keeps
   ordinary_keeps g a b label.Cut mark m = m.keeps
@@ -165,7 +165,7 @@ module _ (net : List NetGraph) (top : ℕ) (marks : Marks) (are : AreMarksOf net
   step_free : (g a b : ℕ) (x : Label) → mark_of (x ∷ []) ≡ ordinary → At g a b x →
       WordFree (letters (x ∷ [])) → marks.free g b ≡ true → marks.free g a ≡ true
   step_free g a b label.Empty mark m f h = m.free h
-  step_free g a b label.Glue mark m f h = m.free h
+  step_free g a b label.NoSpace mark m f h = m.free h
   step_free g a b (label.Begin name) mark m f h = m.free h
   step_free g a b (label.End name) mark m f h = m.free h
   step_free g a b label.Cut mark m f h = m.free h
@@ -207,7 +207,7 @@ module _ (net : List NetGraph) (top : ℕ) (marks : Marks) (are : AreMarksOf net
 
   never_rises : (g a b : ℕ) (x : Label) → At g a b x → NeverRises grammar marks.rank g a b x
   never_rises g a b label.Empty m = m.rank
-  never_rises g a b label.Glue m = m.rank
+  never_rises g a b label.NoSpace m = m.rank
   never_rises g a b (label.Begin name) m = m.rank
   never_rises g a b (label.End name) m = m.rank
   never_rises g a b label.Cut m = m.rank

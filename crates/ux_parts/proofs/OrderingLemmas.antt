@@ -19,9 +19,8 @@ use Rattle.ux_net.specs.declared.state.Edge.{Edge}
 use Rattle.ux_net.specs.declared.state.State.{State}
 use Rattle.ux_net.specs.Nets.{graph_at, states_of}
 use Rattle.ux_net.specs.Measured.{width_of, weigh, rank_in, rank_of}
-use Rattle.ux_base.proofs.Lists.{nothing_in, less_or, first_or_later, same_or}
+use Rattle.ux_base.proofs.Lists.{nothing_in, less_or, first_or_later, same_or, take_more}
 use Rattle.ux_base.proofs.JoinedLists.{contains_joined, contained_joined, contains_range, contained_range, joined_push}
-use Rattle.ux_net.proofs.SplittingLemmas.{take-next}
 use Rattle.ux_parts.proofs.Deduped.{kept, lighter_first}
 use Rattle.ux_parts.specs.Order.{Entry, ranks_in, rank_at, entry_of, is_opening, entries_by, entries_from, entries_at, all_entries, entry_cmp, same_entry, IsOrderOf, IsPut, AreNumbers}
 use Rattle.ux_parts.specs.Parts.{number_in}
@@ -270,7 +269,7 @@ states_more net g k edges front now new told is pushed = by (slice_get (states_o
         ∙ (ap (λ (l : List Entry). front ++ l)
         (sym (joined_push (entries_from net g) (take k states) state))
         ∙ ap (λ (l : List State). front ++ flat_map (entries_from net g) l)
-        (take-next states k state lt (sym at))))))
+        (ap (λ (s : State). take k states ++ s ∷ []) (sym at) ∙ sym (take_more states k state lt))))))
 
 -- rows without a number
 pub numbers_none : (order : List Entry) (rows : List (List (Option ℕ))) →

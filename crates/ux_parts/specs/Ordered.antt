@@ -8,8 +8,8 @@ use Rattle.ux_meaning.specs.Inputs.{Input}
 
 -- labels that take something where they apply
 abbrev pub IsTaking : Label → Type 0
-IsTaking (label.Fold text) = Unit {0}
-IsTaking (label.Exact text) = Unit {0}
+IsTaking (label.CaseFolded text) = Unit {0}
+IsTaking (label.CaseExact text) = Unit {0}
 IsTaking (label.Mask mask) = Unit {0}
 IsTaking (label.Brace text) = Unit {0}
 IsTaking label.Space = Unit {0}
@@ -23,7 +23,7 @@ pub record GoesAhead (input : Input) (last : ℕ) : Type 0 where
 
 -- letters that may take nothing by themselves
 abbrev pub MayStay : Letter → Type 0
-MayStay (plain label.Glue) = Unit {0}
+MayStay (plain label.NoSpace) = Unit {0}
 MayStay (plain (label.Begin name)) = Unit {0}
 MayStay (plain (label.End name)) = Unit {0}
 MayStay (plain label.Cut) = Unit {0}
@@ -59,7 +59,7 @@ module _ (grammar : Grammar) where
     -- not rise.
     abbrev pub NeverRises : (g from to : ℕ) → Label → Type 0
     NeverRises g from to label.Empty = rank g to ≤ rank g from
-    NeverRises g from to label.Glue = rank g to ≤ rank g from
+    NeverRises g from to label.NoSpace = rank g to ≤ rank g from
     NeverRises g from to (label.Begin name) = rank g to ≤ rank g from
     NeverRises g from to (label.End name) = rank g to ≤ rank g from
     NeverRises g from to label.Cut = rank g to ≤ rank g from

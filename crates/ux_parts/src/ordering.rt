@@ -73,12 +73,12 @@ fn is_opening(label: &Label) -> bool
     match label {
         Label::Positive | Label::Negative => true,
         Label::Empty
-        | Label::Fold(_)
-        | Label::Exact(_)
+        | Label::CaseFolded(_)
+        | Label::CaseExact(_)
         | Label::Mask(_)
         | Label::Brace(_)
         | Label::Space
-        | Label::Glue
+        | Label::NoSpace
         | Label::Begin(_)
         | Label::End(_)
         | Label::ContextEnd

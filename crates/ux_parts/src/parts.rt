@@ -1,8 +1,6 @@
 //! The parts of a net, by number and by state.
 
 ghost use Rattle.std.specs.Prelude.{◌≡◌, length, IfOk, slice_get, option_copied};
-ghost use Rattle.ux_net.specs.Closings.{TellsClosings};
-ghost use Rattle.ux_net.specs.Marked.{IsMarked};
 ghost use Rattle.ux_parts.specs.Order.{all_entries, IsOrderOf};
 ghost use Rattle.ux_parts.specs.Parts.{number_of, closing_of, ArePartsOf};
 
@@ -29,8 +27,6 @@ impl Parts {
     /// their first states. Takes the time of a sort of them. Where they are more than 32 bits number,
     /// it is out of memory.
     pub fn of(alloc: Global, net: &Net) -> Mem<Parts>
-        requires marked { IsMarked net.now }
-        requires told { TellsClosings net.now }
         ensures { IfOk result (λ parts. ArePartsOf net.now parts) }
     {
         let order = order_of(entries(alloc, net)?);
@@ -40,10 +36,10 @@ impl Parts {
     /// The parts that begin at these states.
     fn in_order(alloc: Global, net: &Net, order: &[Entry]) -> Mem<Parts>
         requires order { IsOrderOf (all_entries net.now (length net.now)) order.now }
-        requires marked { IsMarked net.now }
-        requires told { TellsClosings net.now }
         ensures { IfOk result (λ parts. ArePartsOf net.now parts) }
     {
+        net.is_marked();
+        net.tells_closings();
         if order.len() > u32::MAX as usize {
             return Err(NoMemory);
         }

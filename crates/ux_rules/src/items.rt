@@ -43,7 +43,7 @@ pub(crate) fn sign_of(alloc: Global, item: &Item) -> Mem<Option<Sign>>
         Item::Mask(text) => sign_of_mask(alloc, text.as_str()),
         Item::Empty => Ok(Some(Sign::Free)),
         Item::Brace(_)
-        | Item::Glue
+        | Item::NoSpace
         | Item::Call(_)
         | Item::Begin(_)
         | Item::End(_)

@@ -7,7 +7,7 @@
 use crate::comparing::compare;
 use std::alloc::{AllocError, Global};
 use std::test::Fail;
-use ux_grf::{Graph, GrfError, needs, read_content, read_grf};
+use ux_grf::{Graph, GrfError, needs, read_content, read_grf, read_marked};
 
 /// The boxes, and each name after a space.
 fn shown(alloc: Global, graph: &Graph, names: &[String]) -> Result<String, AllocError> {
@@ -121,5 +121,17 @@ fn reads_a_content(rt: HostRuntime) -> Result<(), Fail> {
         content.output.as_slice().len(),
     );
     compare(&rt, "lines and pieces", counts, (2, 3));
+    Ok(())
+}
+
+#[test]
+fn reads_the_part_inside_a_word(rt: HostRuntime) -> Result<(), Fail> {
+    let file =
+        "#Unigraph\n#\n5\n\"\" 0 0 1 2\n\"\" 0 0 0\n\"$<\" 0 0 1 3\n\"un+$x(\" 0 0 1 4\n\"$>/y\" 0 0 1 1\n";
+    let graph = read_marked(rt.alloc(), file)?;
+    let boxes = shown(rt.alloc(), &graph, &[])?;
+    compare(&rt, "marked", boxes.as_str(), "+0>2+0+1>3+2>4+1>1");
+    let is_plain = read_grf(rt.alloc(), file).is_ok();
+    compare(&rt, "a plain graph", is_plain, false);
     Ok(())
 }

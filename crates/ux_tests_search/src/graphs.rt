@@ -10,8 +10,9 @@ ghost use Rattle.ux_grf.specs.WellFormed.{IsWellFormed};
 
 use std::alloc::{AllocError, Global};
 use ux_alphabet::Alphabet;
+use ux_boxes::NetError;
 use ux_grf::{Graph, read_grf};
-use ux_net::{Net, NetError};
+use ux_net::Net;
 
 /// What a sign stands for, behind a box's content or its targets.
 fn push_sign(content: &mut String, targets: &mut String, sign: char) -> Result<(), AllocError> {
@@ -80,13 +81,13 @@ fn named(alloc: Global, name: &str, boxes: &str) -> Result<(String, Graph), NetE
 /// A grammar of one graph, compiled.
 fn one(alloc: Global, first: &str, alphabet: &Alphabet) -> Result<Net, NetError> {
     let graphs = vec![in alloc; named(alloc, "A", first)?]?;
-    Net::compile(alloc, graphs, alphabet)
+    ux_compile::compile(alloc, graphs, alphabet)
 }
 
 /// A grammar of two graphs, compiled.
 fn two(alloc: Global, first: &str, second: &str, alphabet: &Alphabet) -> Result<Net, NetError> {
     let graphs = vec![in alloc; named(alloc, "A", first)?, named(alloc, "B", second)?]?;
-    Net::compile(alloc, graphs, alphabet)
+    ux_compile::compile(alloc, graphs, alphabet)
 }
 
 /// A grammar of one graph or two, compiled.

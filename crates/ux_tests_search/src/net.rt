@@ -14,15 +14,16 @@ use std::alloc::{AllocError, Global};
 use std::process::Abort;
 use std::test::Fail;
 use ux_alphabet::Alphabet;
+use ux_boxes::NetError;
 use ux_grf::Piece;
-use ux_net::{Edge, Label, Net, NetError, State};
+use ux_net::{Edge, Label, Net, State};
 
 fn show_label(all: &mut String, label: &Label) -> Result<(), AllocError> {
     match label {
         Label::Empty => all.push('E'),
-        Label::Glue => all.push('#'),
+        Label::NoSpace => all.push('#'),
         Label::Space => all.push('_'),
-        Label::Fold(text) | Label::Exact(text) => all.push_str(text.as_str()),
+        Label::CaseFolded(text) | Label::CaseExact(text) => all.push_str(text.as_str()),
         Label::Call(1) => all.push('A'),
         Label::Call(_) => all.push('B'),
         Label::Begin(name) => put(all, "$", name.as_str(), "("),

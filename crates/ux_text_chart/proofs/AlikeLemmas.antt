@@ -18,10 +18,10 @@ module _ (alphabet : Letters) (tokens : List Token) (tables : Tables) (i k : ℕ
   both P = (subst P (sym same), subst P same)
 
   pub are_alike : AreAlike (applied_text alphabet tokens tables) i k
-  are_alike (label.Fold text) unspaced j = both (λ p. (token : Token)
+  are_alike (label.CaseFolded text) unspaced j = both (λ p. (token : Token)
       × (slice_get tokens p ≡ Some token)
       × (MayStandFor token.kind × FoldsTo alphabet text token) × (j ≡ p + 1))
-  are_alike (label.Exact text) unspaced j = both (λ p. (token : Token)
+  are_alike (label.CaseExact text) unspaced j = both (λ p. (token : Token)
       × (slice_get tokens p ≡ Some token)
       × (MayStandFor token.kind × (token.text ≡ text)) × (j ≡ p + 1))
   are_alike (label.Mask mask) unspaced j = both (λ p. Accepts alphabet tokens tables mask p j)

@@ -26,8 +26,8 @@ use Rattle.ux_text_chart.specs.Leading.{MayLead, without_masks}
 module _ (alphabet : Letters) (tokens : List Token) (tables : Tables) where
   taking : (x : Label) (p k : ℕ) → Takes alphabet tokens (Accepts alphabet tokens tables) x p k →
       IsTaking x
-  taking (label.Fold text) p k t = tt
-  taking (label.Exact text) p k t = tt
+  taking (label.CaseFolded text) p k t = tt
+  taking (label.CaseExact text) p k t = tt
   taking (label.Mask mask) p k t = tt
   taking (label.Brace text) p k t = tt
   taking label.Space p k t = tt
@@ -47,11 +47,11 @@ module _ (alphabet : Letters) (tokens : List Token) (tables : Tables) where
   plain_same : (x : Label) (p k : ℕ) → ((mask : Mask) → x ≡ label.Mask mask → ⊥) →
       Plain (without_masks alphabet tokens) x p k ↔ Plain (applied_text alphabet tokens tables) x p k
   plain_same (label.Mask mask) p k never = absurd (never mask refl)
-  plain_same (label.Fold text) p k never = (λ h. h, λ h. h)
-  plain_same (label.Exact text) p k never = (λ h. h, λ h. h)
+  plain_same (label.CaseFolded text) p k never = (λ h. h, λ h. h)
+  plain_same (label.CaseExact text) p k never = (λ h. h, λ h. h)
   plain_same (label.Brace text) p k never = (λ h. h, λ h. h)
   plain_same label.Space p k never = (λ h. h, λ h. h)
-  plain_same label.Glue p k never = (λ h. h, λ h. h)
+  plain_same label.NoSpace p k never = (λ h. h, λ h. h)
   plain_same (label.Begin name) p k never = (λ h. h, λ h. h)
   plain_same (label.End name) p k never = (λ h. h, λ h. h)
   plain_same label.Cut p k never = (λ h. h, λ h. h)
@@ -117,14 +117,14 @@ module _ (alphabet : Letters) (tokens : List Token) (tables : Tables) where
 -- a label that takes something leads nowhere else
 pub plain_taking : (input : Input) (x : Label) → IsTaking x → (p k : ℕ) →
     input.Takes x p k ↔ Plain input x p k
-plain_taking input (label.Fold text) t p k = (
+plain_taking input (label.CaseFolded text) t p k = (
   λ h. inl h,
   λ h. elim h [
     | inl a ↦ a
     | inr s ↦ absurd s.2
   ],
 )
-plain_taking input (label.Exact text) t p k = (
+plain_taking input (label.CaseExact text) t p k = (
   λ h. inl h,
   λ h. elim h [
     | inl a ↦ a
@@ -156,8 +156,8 @@ plain_taking input x t p k = absurd t
 
 -- labels of one token, and the space
 abbrev IsTried : Label → Type 0
-IsTried (label.Fold text) = Unit {0}
-IsTried (label.Exact text) = Unit {0}
+IsTried (label.CaseFolded text) = Unit {0}
+IsTried (label.CaseExact text) = Unit {0}
 IsTried (label.Brace text) = Unit {0}
 IsTried label.Space = Unit {0}
 IsTried x = ⊥
@@ -167,18 +167,18 @@ module _ (alphabet : Letters) (tokens : List Token) (tables : Tables) where
   tried_leads : (x : Label) → IsTried x → (o : Option ℕ) (p : ℕ) →
       ((k : ℕ) → (o ≡ Some k) ↔ Plain (without_masks alphabet tokens) x p k) →
       ((k : ℕ) × (o ≡ Some k)) ↔ MayLead (applied_text alphabet tokens tables) x p
-  tried_leads (label.Fold text) t o p exact = (
+  tried_leads (label.CaseFolded text) t o p exact = (
     λ (k, is). (
       k,
-      (plain_taking (without_masks alphabet tokens) (label.Fold text) tt p k).1
+      (plain_taking (without_masks alphabet tokens) (label.CaseFolded text) tt p k).1
           ((exact k).0 is),
     ),
     λ (k, takes). (k, (exact k).1 (inl takes)),
   )
-  tried_leads (label.Exact text) t o p exact = (
+  tried_leads (label.CaseExact text) t o p exact = (
     λ (k, is). (
       k,
-      (plain_taking (without_masks alphabet tokens) (label.Exact text) tt p k).1
+      (plain_taking (without_masks alphabet tokens) (label.CaseExact text) tt p k).1
           ((exact k).0 is),
     ),
     λ (k, takes). (k, (exact k).1 (inl takes)),
@@ -203,8 +203,8 @@ module _ (alphabet : Letters) (tokens : List Token) (tables : Tables) where
 
   -- the same, as an arm of a match and a test have it
   pub tried_test : (x : Label) →
-      ((text : List ℕ) × (x ≡ label.Fold text))
-      ⊎ (((text : List ℕ) × (x ≡ label.Exact text))
+      ((text : List ℕ) × (x ≡ label.CaseFolded text))
+      ⊎ (((text : List ℕ) × (x ≡ label.CaseExact text))
       ⊎ (((text : List ℕ) × (x ≡ label.Brace text)) ⊎ (x ≡ label.Space))) →
       (o : Option ℕ) (p : ℕ) →
       ((k : ℕ) → (o ≡ Some k) ↔ Plain (without_masks alphabet tokens) x p k) →
@@ -251,7 +251,7 @@ module _ (alphabet : Letters) (tokens : List Token) where
   bare = without_masks alphabet tokens
 
   -- `#` leads where it stands, where no space does
-  pub plain_glue : (p k : ℕ) → ((IsSpaceAt tokens p → ⊥) × (k ≡ p)) ↔ Plain bare label.Glue p k
+  pub plain_glue : (p k : ℕ) → ((IsSpaceAt tokens p → ⊥) × (k ≡ p)) ↔ Plain bare label.NoSpace p k
   plain_glue p k = (
     λ h. inr (h.1, [], (h.0, refl)),
     λ h. elim h [ inl t ↦ absurd t | inr s ↦ (s.2.0, s.0) ],

@@ -43,8 +43,8 @@ use Rattle.ux_text_chart.specs.declared.part_index.PartIndex.{PartIndex}
 -- nothing more is asked of a label that closes a context
 closing_leads : (input : Input) (parts : Parts) (row : List ℕ) (x : Label) (i : ℕ) →
     mark_of (x ∷ []) ≡ closes → MayLeadTo input parts row x i
-closing_leads input parts row (label.Fold text) i e = cc
-closing_leads input parts row (label.Exact text) i e = cc
+closing_leads input parts row (label.CaseFolded text) i e = cc
+closing_leads input parts row (label.CaseExact text) i e = cc
 closing_leads input parts row (label.Mask mask) i e = cc
 closing_leads input parts row (label.Brace text) i e = cc
 closing_leads input parts row label.Space i e = cc
@@ -62,10 +62,10 @@ module _ (input : Input) (last : ℕ) (ahead : GoesAhead input last) (net : List
         NeverRises (net_grammar net) are.rank part.graph part.first to x →
         NextBy input (net_grammar net) parts.levels part.graph x to i b k →
         MayLeadTo input parts row x i
-    step_leads (label.Fold text) to b k falls (same, inl t) = (k, t)
-    step_leads (label.Fold text) to b k falls (same, inr s) = absurd s.2
-    step_leads (label.Exact text) to b k falls (same, inl t) = (k, t)
-    step_leads (label.Exact text) to b k falls (same, inr s) = absurd s.2
+    step_leads (label.CaseFolded text) to b k falls (same, inl t) = (k, t)
+    step_leads (label.CaseFolded text) to b k falls (same, inr s) = absurd s.2
+    step_leads (label.CaseExact text) to b k falls (same, inl t) = (k, t)
+    step_leads (label.CaseExact text) to b k falls (same, inr s) = absurd s.2
     step_leads (label.Mask mask) to b k falls (same, inl t) = (k, t)
     step_leads (label.Mask mask) to b k falls (same, inr s) = absurd s.2
     step_leads (label.Brace text) to b k falls (same, inl t) = (k, t)
@@ -331,10 +331,10 @@ module _ (alphabet : Letters) (tokens : List Token) (tables : Tables) (net : Lis
       ((n : ℕ) → IsFitted alphabet (different_texts tokens) x n →
       Contains index.beginnings.items (begins_at n number)) →
       MayLeadTo (applied_text alphabet tokens tables) parts row x p → IsTried index token number
-  literal_tried (label.Fold text) row number literal listed (k, (t, at, (stands, fits), end)) =
+  literal_tried (label.CaseFolded text) row number literal listed (k, (t, at, (stands, fits), end)) =
       let told = there t at in
       inr (told.0, told.1, listed told.0 (t.text, told.2, fits))
-  literal_tried (label.Exact text) row number literal listed (k, (t, at, (stands, fits), end)) =
+  literal_tried (label.CaseExact text) row number literal listed (k, (t, at, (stands, fits), end)) =
       let told = there t at in
       inr (told.0, told.1, listed told.0 (t.text, told.2, fits))
   literal_tried x row number literal listed leads = absurd literal

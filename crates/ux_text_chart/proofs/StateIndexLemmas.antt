@@ -21,10 +21,10 @@ module _ (alphabet : Letters) (tokens : List Token) (tables : Tables) where
   refused : (token : Token) (p : ℕ) → slice_get tokens (skip tokens p) ≡ Some token →
       (x : Label) → IsLiteral x → (FitsText alphabet x token.text → ⊥) →
       Refuses (applied_text alphabet tokens tables) x p
-  refused token p is (label.Fold text) literal never = λ k (other, at, (stands, fits), end).
+  refused token p is (label.CaseFolded text) literal never = λ k (other, at, (stands, fits), end).
       never (subst (λ (t : Token). Folds alphabet text t.text)
       (same_Some other token (sym at ∙ is)) fits)
-  refused token p is (label.Exact text) literal never = λ k (other, at, (stands, fits), end).
+  refused token p is (label.CaseExact text) literal never = λ k (other, at, (stands, fits), end).
       never (subst (λ (t : Token). t.text ≡ text) (same_Some other token (sym at ∙ is)) fits)
   refused token p is x literal never = absurd literal
 

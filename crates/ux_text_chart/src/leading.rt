@@ -48,11 +48,11 @@ pub fn may_lead(masked: &MaskedText<'_>, label: &Label, at: usize) -> bool
 {
     match label {
         Label::Mask(mask) => masked.accepts_some(mask, skip(masked.text, at)),
-        Label::Fold(_) | Label::Exact(_) | Label::Brace(_) | Label::Space => {
+        Label::CaseFolded(_) | Label::CaseExact(_) | Label::Brace(_) | Label::Space => {
             end_by(masked.text, masked.alphabet, label, at).is_some()
         },
         Label::Empty
-        | Label::Glue
+        | Label::NoSpace
         | Label::Begin(_)
         | Label::End(_)
         | Label::Positive
@@ -82,11 +82,11 @@ fn end_by(text: &Text, alphabet: &Alphabet, label: &Label, at: usize) -> Option<
         ↔ Plain (without_masks alphabet.now text.now) label.now at k }
 {
     match label {
-        Label::Fold(entry) => after_fold(text, alphabet, entry.as_str(), at),
-        Label::Exact(exact) => after_exact(text, exact.as_str(), at),
+        Label::CaseFolded(entry) => after_fold(text, alphabet, entry.as_str(), at),
+        Label::CaseExact(exact) => after_exact(text, exact.as_str(), at),
         Label::Brace(brace) => after_brace(text, brace.as_str(), at),
         Label::Space => after_space(text, at),
-        Label::Glue => at_glue(text, at),
+        Label::NoSpace => at_glue(text, at),
         Label::Begin(_) | Label::End(_) | Label::Cut => Some(at),
         Label::Empty
         | Label::Mask(_)

@@ -245,7 +245,7 @@ fn are_literals(edges: &[Edge]) -> bool
 fn is_literal(label: &Label) -> bool
     ensures { IsTrue result → IsLiteral label.now }
 {
-    matches!(label, Label::Fold(_) | Label::Exact(_))
+    matches!(label, Label::CaseFolded(_) | Label::CaseExact(_))
 }
 
 /// Lists the part with each token that one of the edges fits.

@@ -96,7 +96,7 @@ pub fn has_index(edges: &[Edge]) -> bool
 fn has_many_literals(edges: &[Edge]) -> bool {
     let mut count = 0usize;
     for edge in edges {
-        if matches!(&edge.label, Label::Fold(_) | Label::Exact(_)) {
+        if matches!(&edge.label, Label::CaseFolded(_) | Label::CaseExact(_)) {
             count = count.saturating_add(1);
         }
         if FEW < count {

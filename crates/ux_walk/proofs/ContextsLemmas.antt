@@ -2,7 +2,7 @@
 use Rattle.std.proofs.Common.{arith, ◌≡◌, ℕ, List, [], ◌∷◌, ◌++◌, ◌↔◌, refl, sym, ◌∙◌, ap, subst, map}
 use Rattle.ux_grf.specs.declared.item.Piece.{Piece}
 use Rattle.ux_net.specs.declared.label.Label.{Label}
-use Rattle.ux_net.specs.declared.label.Label.TheVariants.{Empty, Fold, Exact, Mask, Brace, Space, Glue, Begin, End, Positive, Negative, Call}
+use Rattle.ux_net.specs.declared.label.Label.TheVariants.{Empty, CaseFolded, CaseExact, Mask, Brace, Space, NoSpace, Begin, End, Positive, Negative, Call}
 use Rattle.ux_net.specs.declared.net_graph.NetGraph.{NetGraph}
 use Rattle.ux_net.specs.Words.{Letter, piece, ordinary, opens, closes, mark_of, letters, put_by, Run, stop, along, across, IsBody}
 use Rattle.ux_net.specs.Nets.{IsPlain, ArePlain, net_graph, net_grammar, states_of}
@@ -19,12 +19,12 @@ use Rattle.ux_walk.specs.Settings.{Setting, applied_text}
 -- plain labels open and close no context
 pub plain_mark : (x : Label) → IsPlain x → mark_of (x ∷ []) ≡ ordinary
 plain_mark Empty is = refl
-plain_mark (Fold text) is = refl
-plain_mark (Exact text) is = refl
+plain_mark (CaseFolded text) is = refl
+plain_mark (CaseExact text) is = refl
 plain_mark (Mask mask) is = refl
 plain_mark (Brace text) is = refl
 plain_mark Space is = refl
-plain_mark Glue is = refl
+plain_mark NoSpace is = refl
 plain_mark (Begin name) is = refl
 plain_mark (End name) is = refl
 plain_mark (Call h) is = refl

@@ -7,7 +7,7 @@ use Rattle.std.specs.Str.{chars}
 use Rattle.std.proofs.lemmas.Option.{slice_get-map}
 use Rattle.ux_alphabet.specs.Letters.{Letters, Fits}
 use Rattle.ux_net.specs.declared.label.Label.{Label}
-use Rattle.ux_net.specs.declared.label.Label.TheVariants.{Fold, Exact}
+use Rattle.ux_net.specs.declared.label.Label.TheVariants.{CaseFolded, CaseExact}
 use Rattle.ux_walk.specs.Literals.{AreCounted, FitsText, IsFitted, count_of}
 
 zip_length : (R : ℕ → ℕ → Type 0) (xs ys : List ℕ) → AllZip R xs ys → length ys ≡ length xs
@@ -19,9 +19,9 @@ zip_length R (x ∷ xs) (y ∷ ys) z = ap suc (zip_length R xs ys z.1)
 -- the texts that it fits
 pub fitted_count : (alphabet : Letters) (label : Label) (text : List ℕ) →
     FitsText alphabet label text → length (chars text) ≡ count_of label
-fitted_count alphabet (Fold entry) text fits =
+fitted_count alphabet (CaseFolded entry) text fits =
     zip_length (Fits alphabet) (chars entry) (chars text) fits
-fitted_count alphabet (Exact exact) text fits = ap (λ (t : List ℕ). length (chars t)) fits
+fitted_count alphabet (CaseExact exact) text fits = ap (λ (t : List ℕ). length (chars t)) fits
 fitted_count alphabet other text fits = absurd fits
 
 -- and so the tokens

@@ -10,7 +10,7 @@ use Rattle.std.proofs.lemmas.Option.{same_Some, slice_get_within}
 use Rattle.std.proofs.Math.ListN.{get_or-map}
 use Rattle.ux_alphabet.specs.Letters.{Letters}
 use Rattle.ux_net.specs.declared.label.Label.{Label}
-use Rattle.ux_net.specs.declared.label.Label.TheVariants.{Fold, Exact}
+use Rattle.ux_net.specs.declared.label.Label.TheVariants.{CaseFolded, CaseExact}
 use Rattle.ux_net.specs.declared.state.Edge.{Edge}
 use Rattle.ux_base.proofs.Lists.{less_or, nothing_in, first_or_later, contains_first, contains_later}
 use Rattle.ux_walk.specs.declared.edge_index.Fitting.{Fitting}
@@ -29,14 +29,14 @@ this_or_before m n lt = elim (less_or n m) [
 
 -- only literals fit texts
 literal_or_not : (label : Label) → IsLiteral label ⊎ (IsLiteral label → ⊥)
-literal_or_not (Fold entry) = inl tt
-literal_or_not (Exact exact) = inl tt
+literal_or_not (CaseFolded entry) = inl tt
+literal_or_not (CaseExact exact) = inl tt
 literal_or_not other = inr (λ no. no)
 
 fits_literal : (alphabet : Letters) (label : Label) (text : List ℕ) → FitsText alphabet label text →
     IsLiteral label
-fits_literal alphabet (Fold entry) text fits = tt
-fits_literal alphabet (Exact exact) text fits = tt
+fits_literal alphabet (CaseFolded entry) text fits = tt
+fits_literal alphabet (CaseExact exact) text fits = tt
 fits_literal alphabet other text fits = absurd fits
 
 module _ (alphabet : Letters) (texts : List (List ℕ)) (edges : List Edge) where

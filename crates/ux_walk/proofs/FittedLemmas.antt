@@ -8,7 +8,7 @@ use Rattle.std.proofs.lemmas.Str.{chars_past_char, encodes-chars}
 use Rattle.std.proofs.lemmas.List.Elements.{All-cons, All-head, All-tail}
 use Rattle.ux_alphabet.specs.Letters.{Letters, Fits}
 use Rattle.ux_net.specs.declared.label.Label.{Label}
-use Rattle.ux_net.specs.declared.label.Label.TheVariants.{Fold, Exact}
+use Rattle.ux_net.specs.declared.label.Label.TheVariants.{CaseFolded, CaseExact}
 use Rattle.ux_base.specs.Distinct.{StandOnce}
 use Rattle.ux_tokens.specs.Numbers.{texts_in}
 use Rattle.ux_walk.specs.declared.words.Words.{Words}
@@ -42,26 +42,26 @@ module _ (alphabet : Letters) where
   -- a literal fits its own text
   fits_if_fixed : (label : Label) (text : List ℕ) → IsFixed label text →
       FitsText alphabet label text
-  fits_if_fixed (Fold entry) text is =
+  fits_if_fixed (CaseFolded entry) text is =
       subst (λ (t : List ℕ). AllZip (Fits alphabet) (chars entry) (chars t)) (sym is)
       (fits_itself (chars entry))
-  fits_if_fixed (Exact exact) text is = is
+  fits_if_fixed (CaseExact exact) text is = is
   fits_if_fixed other text is = absurd is
 
   -- a literal that fits a text of plain characters is this text
   fixed_if_plain : (label : Label) (text : List ℕ) →
-      ((entry : List ℕ) → label ≡ Fold entry → IsUtf8 entry) → IsUtf8 text →
+      ((entry : List ℕ) → label ≡ CaseFolded entry → IsUtf8 entry) → IsUtf8 text →
       All (IsPlainChar alphabet) (chars text) → FitsText alphabet label text → IsFixed label text
-  fixed_if_plain (Fold entry) text entry_utf8 utf8 plain fits =
+  fixed_if_plain (CaseFolded entry) text entry_utf8 utf8 plain fits =
       sym (encodes-chars text utf8)
       ∙ (ap encodes (sym (plain_same (chars entry) (chars text) fits plain))
       ∙ encodes-chars entry (entry_utf8 entry refl))
-  fixed_if_plain (Exact exact) text entry_utf8 utf8 plain fits = fits
+  fixed_if_plain (CaseExact exact) text entry_utf8 utf8 plain fits = fits
   fixed_if_plain other text entry_utf8 utf8 plain fits = absurd fits
 
   -- what is fitted has the literal's text, or is one of those that others may fit
   module _ (texts : List (List ℕ)) (words : Words) (ready : AreReady alphabet texts words)
-      (label : Label) (entry_utf8 : (entry : List ℕ) → label ≡ Fold entry → IsUtf8 entry) where
+      (label : Label) (entry_utf8 : (entry : List ℕ) → label ≡ CaseFolded entry → IsUtf8 entry) where
     fitted_apart : (n : ℕ) → IsFitted alphabet texts label n
         ↔ (IsOf texts label n ⊎ (Contains words.raised.items n × IsFitted alphabet texts label n))
     fitted_apart n = (

@@ -4,7 +4,7 @@ use Rattle.ux_grf.specs.declared.item.Piece.TheVariants.{Chars, Value}
 use Rattle.ux_alphabet.specs.Letters.{Letters}
 use Rattle.ux_tokens.specs.Tokens.{Token}
 use Rattle.ux_lexical_tables.specs.Tables.{Tables}
-use Rattle.ux_net.specs.declared.label.Label.TheVariants.{Glue, Begin, End, Cut}
+use Rattle.ux_net.specs.declared.label.Label.TheVariants.{NoSpace, Begin, End, Cut}
 use Rattle.ux_net.specs.Words.{Grammar, Letter, plain, piece}
 use Rattle.ux_outputs.specs.declared.event.Event.{Event}
 use Rattle.ux_outputs.specs.declared.event.Event.TheVariants.{Take}
@@ -28,7 +28,7 @@ module _ (alphabet : Letters) (tokens : List Token) (tables : Tables)
   stays_follows : (x : Letter) (p j : ℕ) (here later : List Event) →
       Stays (applied_text alphabet tokens tables) x p here → Follows p j later →
       Follows p j (here ++ later)
-  stays_follows (plain Glue) p j here later t follows =
+  stays_follows (plain NoSpace) p j here later t follows =
       subst (λ (l : List Event). Follows p j (l ++ later)) (sym t.1) follows
   stays_follows (plain (Begin name)) p j here later t follows =
       subst (λ (l : List Event). Follows p j (l ++ later)) (sym t) follows

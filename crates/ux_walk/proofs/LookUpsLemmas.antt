@@ -9,7 +9,7 @@ use Rattle.ux_alphabet.specs.Letters.{Letters}
 use Rattle.ux_tokens.specs.Tokens.{Token}
 use Rattle.ux_lexical_tables.specs.Tables.{Tables}
 use Rattle.ux_net.specs.declared.label.Label.{Label}
-use Rattle.ux_net.specs.declared.label.Label.TheVariants.{Fold, Exact, Call}
+use Rattle.ux_net.specs.declared.label.Label.TheVariants.{CaseFolded, CaseExact, Call}
 use Rattle.ux_net.specs.declared.state.Edge.{Edge}
 use Rattle.ux_net.specs.declared.state.State.{State}
 use Rattle.ux_net.specs.declared.net_graph.NetGraph.{NetGraph}
@@ -106,24 +106,24 @@ module _ (alphabet : Letters) (tokens : List Token) (tables : Tables) (applies :
       slice_get tokens (skip tokens i) ≡ Some token →
       Refuses alphabet label token.text → (f : Frame) (w : Course) →
       IsBehind alphabet tokens tables applies label f fs i before w → ⊥
-  refused before (Fold entry) token at refuses f w b = elim b [
+  refused before (CaseFolded entry) token at refuses f w b = elim b [
     | inl t ↦ refuses.1 (subst (λ (x : Token). FoldsTo alphabet entry x)
         (same_Some t.1.1.0 token (sym t.1.1.1 ∙ at)) t.1.1.2.1)
     | inr o ↦ elim o [
       | inl s ↦ s.0
       | inr h ↦ elim h [
-        | inl g ↦ let no : Fold entry ≡ Call g.0 = g.1 in cc
+        | inl g ↦ let no : CaseFolded entry ≡ Call g.0 = g.1 in cc
         | inr g ↦ let mark = g.1.1 in cc
       ]
     ]
   ]
-  refused before (Exact exact) token at refuses f w b = elim b [
+  refused before (CaseExact exact) token at refuses f w b = elim b [
     | inl t ↦ refuses.1 (subst (λ (x : Token). x.text ≡ exact)
         (same_Some t.1.1.0 token (sym t.1.1.1 ∙ at)) t.1.1.2.1)
     | inr o ↦ elim o [
       | inl s ↦ s.0
       | inr h ↦ elim h [
-        | inl g ↦ let no : Exact exact ≡ Call g.0 = g.1 in cc
+        | inl g ↦ let no : CaseExact exact ≡ Call g.0 = g.1 in cc
         | inr g ↦ let mark = g.1.1 in cc
       ]
     ]

@@ -8,7 +8,7 @@ use Rattle.ux_lexical_tables.specs.Tables.{Tables}
 use Rattle.ux_grf.specs.declared.item.Piece.{Piece}
 use Rattle.ux_grf.specs.declared.item.Piece.TheVariants.{Chars, Value}
 use Rattle.ux_net.specs.declared.label.Label.{Label}
-use Rattle.ux_net.specs.declared.label.Label.TheVariants.{Empty, Fold, Exact, Mask, Brace, Space, Glue, Begin, End, Positive, Negative, Cut, Call}
+use Rattle.ux_net.specs.declared.label.Label.TheVariants.{Empty, CaseFolded, CaseExact, Mask, Brace, Space, NoSpace, Begin, End, Positive, Negative, Cut, Call}
 use Rattle.ux_net.specs.declared.state.Edge.{Edge}
 use Rattle.ux_net.specs.declared.state.State.{State}
 use Rattle.ux_net.specs.declared.net_graph.NetGraph.{NetGraph}
@@ -111,8 +111,8 @@ module _ (alphabet : Letters) (tokens : List Token) (tables : Tables) (applies :
   -- what takes something is plain
   takes_plain : (x : Label) (p k : ℕ) →
       Takes alphabet tokens (Accepts alphabet tokens tables) x p k → IsPlain x
-  takes_plain (Fold text) p k t = tt
-  takes_plain (Exact text) p k t = tt
+  takes_plain (CaseFolded text) p k t = tt
+  takes_plain (CaseExact text) p k t = tt
   takes_plain (Mask mask) p k t = tt
   takes_plain (Brace text) p k t = tt
   takes_plain Space p k t = tt
@@ -122,7 +122,7 @@ module _ (alphabet : Letters) (tokens : List Token) (tables : Tables) (applies :
   stays_first : (x : Label) (word : List Letter) (p j : ℕ) (here later : List Event) →
       Stays (applied_text alphabet tokens tables) (plain x) p here →
       Applies word p j later → First x word p j (here ++ later)
-  stays_first Glue word p j here later t s =
+  stays_first NoSpace word p j here later t s =
       inr (inl (later, t.0, s, ap (λ (l : List Event). l ++ later) t.1))
   stays_first (Begin name) word p j here later t s =
       inr (inl (later, tt, s, ap (λ (l : List Event). l ++ later) t))
@@ -176,8 +176,8 @@ module _ (alphabet : Letters) (tokens : List Token) (tables : Tables) (applies :
   letter_back Empty word p j events (inr (inl (later, t, s, is))) =
       subst (λ (e : List Event). Applies word p j e) (sym is) s
   letter_back Empty word p j events (inr (inr (h, k, inside, later, label, goes, s, is))) = cc
-  letter_back Glue word p j events (inr (inl (later, t, s, is))) =
-      subst (λ (e : List Event). Applies (plain Glue ∷ word) p j e) (sym is)
+  letter_back NoSpace word p j events (inr (inl (later, t, s, is))) =
+      subst (λ (e : List Event). Applies (plain NoSpace ∷ word) p j e) (sym is)
       (stays [] (t, refl) s)
   letter_back (Begin name) word p j events (inr (inl (later, t, s, is))) =
       subst (λ (e : List Event). Applies (plain (Begin name) ∷ word) p j e) (sym is)
@@ -197,7 +197,7 @@ module _ (alphabet : Letters) (tokens : List Token) (tables : Tables) (applies :
   -- a label that applies so opens and closes no context
   passes_mark : (x : Label) (p : ℕ) → Passes tokens x p → mark_of (x ∷ []) ≡ ordinary
   passes_mark Empty p t = refl
-  passes_mark Glue p t = refl
+  passes_mark NoSpace p t = refl
   passes_mark (Begin name) p t = refl
   passes_mark (End name) p t = refl
   passes_mark Cut p t = refl

@@ -56,11 +56,11 @@ module _ (alphabet : Letters) (tokens : List Token) (tables : Tables)
   pub takes_forward : (x : Label) (p k : ℕ) →
       Takes alphabet tokens (Accepts alphabet tokens tables) x p k →
       (p < k) × (k ≤ length tokens)
-  takes_forward (label.Fold text) p k t =
+  takes_forward (label.CaseFolded text) p k t =
       let within = slice_get_within tokens (skip tokens p) t.0 t.1 in
       let past = skip_forward tokens p in
       (omega (arith, past, t.3), omega (arith, within, t.3))
-  takes_forward (label.Exact text) p k t =
+  takes_forward (label.CaseExact text) p k t =
       let within = slice_get_within tokens (skip tokens p) t.0 t.1 in
       let past = skip_forward tokens p in
       (omega (arith, past, t.3), omega (arith, within, t.3))
@@ -92,7 +92,7 @@ module _ (graphs : List NetGraph) where
       lower_of : (x : Label) (to : ℕ) → Falls graphs f.graph f.state to x → Passes tokens x i →
           IsLower graphs f.graph f.state to
       lower_of label.Empty to falls s = falls
-      lower_of label.Glue to falls s = falls
+      lower_of label.NoSpace to falls s = falls
       lower_of (label.Begin name) to falls s = falls
       lower_of (label.End name) to falls s = falls
       lower_of label.Cut to falls s = falls

@@ -8,7 +8,7 @@ use Rattle.ux_lexical_tables.specs.Tables.{Tables}
 use Rattle.ux_net.specs.declared.label.Label.{Label}
 use Rattle.ux_grf.specs.declared.item.Piece.{Piece}
 use Rattle.ux_grf.specs.declared.item.Piece.TheVariants.{Chars, Value}
-use Rattle.ux_net.specs.declared.label.Label.TheVariants.{Empty, Glue, Begin, End, Cut, Call}
+use Rattle.ux_net.specs.declared.label.Label.TheVariants.{Empty, NoSpace, Begin, End, Cut, Call}
 use Rattle.ux_net.specs.declared.state.Edge.{Edge}
 use Rattle.ux_net.specs.declared.state.State.{State}
 use Rattle.ux_net.specs.declared.net_graph.NetGraph.{NetGraph}
@@ -55,7 +55,7 @@ IsClosed f fs i before c w =
 -- variable's begin or end, or a cut
 abbrev pub Passes : List Token → Label → ℕ → Type 0
 Passes tokens Empty p = Unit {0}
-Passes tokens Glue p = IsSpaceAt tokens p → ⊥
+Passes tokens NoSpace p = IsSpaceAt tokens p → ⊥
 Passes tokens (Begin name) p = Unit {0}
 Passes tokens (End name) p = Unit {0}
 Passes tokens Cut p = Unit {0}

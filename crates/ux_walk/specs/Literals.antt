@@ -6,26 +6,26 @@ use Rattle.ux_alphabet.specs.Letters.{Letters, Fits}
 use Rattle.ux_base.specs.Distinct.{StandOnce}
 use Rattle.ux_tokens.specs.Numbers.{texts_in}
 use Rattle.ux_net.specs.declared.label.Label.{Label}
-use Rattle.ux_net.specs.declared.label.Label.TheVariants.{Fold, Exact}
+use Rattle.ux_net.specs.declared.label.Label.TheVariants.{CaseFolded, CaseExact}
 use Rattle.ux_meaning.specs.Texts.{Folds}
 use Rattle.ux_walk.specs.declared.words.Words.{Words}
 
 -- a literal, which takes one token
 abbrev pub IsLiteral : Label → Type 0
-IsLiteral (Fold entry) = Unit {0}
-IsLiteral (Exact exact) = Unit {0}
+IsLiteral (CaseFolded entry) = Unit {0}
+IsLiteral (CaseExact exact) = Unit {0}
 IsLiteral other = ⊥
 
 -- a literal fits this text of a token
 abbrev pub FitsText : Letters → Label → List ℕ → Type 0
-FitsText alphabet (Fold entry) text = Folds alphabet entry text
-FitsText alphabet (Exact exact) text = text ≡ exact
+FitsText alphabet (CaseFolded entry) text = Folds alphabet entry text
+FitsText alphabet (CaseExact exact) text = text ≡ exact
 FitsText alphabet other text = ⊥
 
 -- a literal is this text
 abbrev pub IsFixed : Label → List ℕ → Type 0
-IsFixed (Fold entry) text = text ≡ entry
-IsFixed (Exact exact) text = text ≡ exact
+IsFixed (CaseFolded entry) text = text ≡ entry
+IsFixed (CaseExact exact) text = text ≡ exact
 IsFixed other text = ⊥
 
 -- a literal fits the token of this number
@@ -56,8 +56,8 @@ AreCounted texts counts = counts ≡ map (λ (text : List ℕ). length (chars te
 
 -- how many characters a literal has, and so each text that it fits
 abbrev pub count_of : Label → ℕ
-count_of (Fold entry) = length (chars entry)
-count_of (Exact exact) = length (chars exact)
+count_of (CaseFolded entry) = length (chars entry)
+count_of (CaseExact exact) = length (chars exact)
 count_of other = 0
 
 -- the words are these texts, by number

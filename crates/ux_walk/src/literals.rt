@@ -9,5 +9,5 @@ use ux_net::Label;
 pub fn is_literal(label: &Label) -> bool
     ensures { IsTrue result ↔ IsLiteral label.now }
 {
-    matches!(label, Label::Fold(_) | Label::Exact(_))
+    matches!(label, Label::CaseFolded(_) | Label::CaseExact(_))
 }

@@ -67,15 +67,20 @@ pub fn passage_at(
     let alphabet = masked.alphabet;
     match label {
         Label::Empty | Label::Begin(_) | Label::End(_) | Label::Cut => Ok(Passage::Stays),
-        Label::Fold(entry) => Ok(taking(after_fold(text, alphabet, entry.as_str(), position))),
-        Label::Exact(exact) => Ok(taking(after_exact(text, exact.as_str(), position))),
+        Label::CaseFolded(entry) => Ok(taking(after_fold(
+            text,
+            alphabet,
+            entry.as_str(),
+            position,
+        ))),
+        Label::CaseExact(exact) => Ok(taking(after_exact(text, exact.as_str(), position))),
         Label::Brace(brace) => Ok(taking(after_brace(text, brace.as_str(), position))),
         Label::Mask(mask) => {
             let ends = after_mask(alloc, masked, mask, position)?;
             Ok(Passage::Spans(ends))
         },
         Label::Space => Ok(taking(after_space(text, position))),
-        Label::Glue => Ok(staying(!is_space(text, position))),
+        Label::NoSpace => Ok(staying(!is_space(text, position))),
         Label::Call(graph) => Ok(Passage::Calls(*graph)),
         Label::Positive | Label::Negative => Ok(Passage::Opens),
         Label::ContextEnd => Ok(Passage::Closed),

@@ -568,12 +568,12 @@ impl<'t> Reached<'t> {
             },
             Label::Cut => self.note(events, Noted::Cut),
             Label::Empty
-            | Label::Fold(_)
-            | Label::Exact(_)
+            | Label::CaseFolded(_)
+            | Label::CaseExact(_)
             | Label::Mask(_)
             | Label::Brace(_)
             | Label::Space
-            | Label::Glue
+            | Label::NoSpace
             | Label::Positive
             | Label::Negative
             | Label::ContextEnd

@@ -118,7 +118,7 @@ fn char_count(text: &&str) -> usize
 fn count_of(label: &Label) -> usize
     ensures { result ≡ count_of_label label.now }
 {
-    if let Label::Fold(literal) | Label::Exact(literal) = label {
+    if let Label::CaseFolded(literal) | Label::CaseExact(literal) = label {
         char_count(&literal.as_str())
     } else {
         0
@@ -170,9 +170,9 @@ fn is_plain_char(alphabet: &Alphabet, c: char) -> bool
 fn number_by(texts: &IndexSet<&str>, label: &Label) -> Option<u32>
     ensures number { StandOnce (texts_in texts.now) → length (texts_in texts.now) ≤ 4294967296 →
         (n : ℕ) → (result ≡ Some n) ↔ IsOf (texts_in texts.now) label.now n }
-    ensures utf8 { (entry : List ℕ) → label.now ≡ Label.Fold entry → IsUtf8 entry }
+    ensures utf8 { (entry : List ℕ) → label.now ≡ Label.CaseFolded entry → IsUtf8 entry }
 {
-    if let Label::Fold(literal) | Label::Exact(literal) = label {
+    if let Label::CaseFolded(literal) | Label::CaseExact(literal) = label {
         number_at(texts, literal.as_str())
     } else {
         None
@@ -203,13 +203,13 @@ pub fn fits(alphabet: &Alphabet, label: &Label, text: &str) -> bool
     ensures { IsTrue result ↔ FitsText alphabet.now label.now text.now }
 {
     match label {
-        Label::Fold(entry) => fits_text(alphabet, entry.as_str(), text),
-        Label::Exact(exact) => text == exact.as_str(),
+        Label::CaseFolded(entry) => fits_text(alphabet, entry.as_str(), text),
+        Label::CaseExact(exact) => text == exact.as_str(),
         Label::Empty
         | Label::Mask(_)
         | Label::Brace(_)
         | Label::Space
-        | Label::Glue
+        | Label::NoSpace
         | Label::Begin(_)
         | Label::End(_)
         | Label::Positive

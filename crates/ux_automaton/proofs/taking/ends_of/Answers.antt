@@ -10,17 +10,17 @@ use Rattle.ux_automaton.proofs.CacheLemmas.{through}
 use Rattle.ux_automaton.proofs.Results.{if_ok}
 use Rattle.ux_automaton.proofs.taking.ends_of.Goals as goal
 
-pub returns-in-Fold : goal.returns-in-Fold
-returns-in-Fold c = subst (λ (x : Label). IfOk c.listed.result (λ ends. (k : ℕ) →
-    Contains ends.items k ↔ Takes (masked_setting c.args.masked.now) x c.args.at k)) (sym c.in-Fold.is)
+pub returns-in-CaseFolded : goal.returns-in-CaseFolded
+returns-in-CaseFolded c = subst (λ (x : Label). IfOk c.listed.result (λ ends. (k : ℕ) →
+    Contains ends.items k ↔ Takes (masked_setting c.args.masked.now) x c.args.at k)) (sym c.in-CaseFolded.is)
     (if_ok c.listed.result _ _ (λ ends exact k. through (exact k)
     (through (rw c.as_str.ensures at c.after_fold.ensures k) (λ t. (tt, t), λ t. t.1))) c.listed.ensures)
 
-pub returns-in-Exact : goal.returns-in-Exact
-returns-in-Exact c = subst (λ (x : Label). IfOk c.listed-in-Exact.result (λ ends. (k : ℕ) →
-    Contains ends.items k ↔ Takes (masked_setting c.args.masked.now) x c.args.at k)) (sym c.in-Exact.is)
-    (if_ok c.listed-in-Exact.result _ _ (λ ends exact k. through (exact k)
-    (through (rw c.as_str-in-Exact.ensures at c.after_exact.ensures k) (λ t. (tt, t), λ t. t.1))) c.listed-in-Exact.ensures)
+pub returns-in-CaseExact : goal.returns-in-CaseExact
+returns-in-CaseExact c = subst (λ (x : Label). IfOk c.listed-in-CaseExact.result (λ ends. (k : ℕ) →
+    Contains ends.items k ↔ Takes (masked_setting c.args.masked.now) x c.args.at k)) (sym c.in-CaseExact.is)
+    (if_ok c.listed-in-CaseExact.result _ _ (λ ends exact k. through (exact k)
+    (through (rw c.as_str-in-CaseExact.ensures at c.after_exact.ensures k) (λ t. (tt, t), λ t. t.1))) c.listed-in-CaseExact.ensures)
 
 pub returns-in-Brace : goal.returns-in-Brace
 returns-in-Brace c = subst (λ (x : Label). IfOk c.listed-in-Brace.result (λ ends. (k : ℕ) →

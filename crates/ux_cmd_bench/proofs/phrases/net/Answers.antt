@@ -1,5 +1,5 @@
 use Rattle.std.proofs.Common.{rules}
-use Rattle.ux_net.specs.Refusing.{drawn}
+use Rattle.ux_boxes.specs.Refusing.{drawn}
 use Rattle.ux_cmd_bench.proofs.MadeLaws.{grammar_accepted}
 use Rattle.ux_cmd_bench.proofs.phrases.net.Goals as goal
 

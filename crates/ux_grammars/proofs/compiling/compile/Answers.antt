@@ -1,4 +1,4 @@
-use Rattle.ux_net.specs.Refusing.{drawn}
+use Rattle.ux_boxes.specs.Refusing.{drawn}
 use Rattle.ux_grammars.proofs.CompilingLemmas.{none_missing}
 use Rattle.ux_grammars.proofs.compiling.compile.Goals as goal
 
@@ -10,6 +10,5 @@ refused_net-requires c =
 pub returns-in-Ok-clause-compiles : goal.returns-in-Ok-clause-compiles
 returns-in-Ok-clause-compiles c = record {
   same = c.in-Ok.ensures.words;
-  marked = c.in-Ok.ensures.marked;
-  told = c.in-Ok.ensures.told;
+  built = c.in-Ok.ensures.built;
 }

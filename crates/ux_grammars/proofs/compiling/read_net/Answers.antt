@@ -1,6 +1,6 @@
 use Rattle.std.proofs.lemmas.Result.{err_from_is_err_and}
 use Rattle.ux_plan.proofs.PlanSteps.{comes_gives, comes_test, comes_then, halts_second, halts_test}
-use Rattle.ux_net.specs.Refusing.{drawn}
+use Rattle.ux_boxes.specs.Refusing.{drawn}
 use Rattle.ux_grammars.proofs.compiling.read_net.Goals as goal
 
 -- the graphs were read, and are refused

@@ -3,7 +3,7 @@ use Rattle.std.proofs.lemmas.List.{length-map}
 use Rattle.std.proofs.lemmas.Result.{err_from_is_err_and}
 use Rattle.ux_plan.proofs.Growing.{loop_ends, loop_more, loop_stops}
 use Rattle.ux_plan.proofs.PlanLaws.{later_both}
-use Rattle.ux_net.specs.Refusing.{drawn, drawn_of}
+use Rattle.ux_boxes.specs.Refusing.{drawn, drawn_of}
 use Rattle.ux_grammars.specs.Graphs.{MOST_READS, graph_format, graphs_plan}
 use Rattle.ux_grammars.specs.Naming.{file_of, next_name}
 use Rattle.ux_grammars.proofs.ReadingLemmas.{none_left, reading_ends}

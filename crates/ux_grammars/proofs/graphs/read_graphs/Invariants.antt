@@ -1,7 +1,7 @@
 use Rattle.std.proofs.Common.{◌-◌, ◌≤◌, length}
 use Rattle.ux_base.specs.Outside.{IsLater}
 use Rattle.ux_plan.proofs.Growing.{IsRest}
-use Rattle.ux_net.specs.Refusing.{drawn}
+use Rattle.ux_boxes.specs.Refusing.{drawn}
 use Rattle.ux_grammars.specs.Graphs.{MOST_GRAPHS, MOST_READS, graphs_from, graphs_plan}
 use Rattle.ux_grammars.specs.Reading.{IsReading}
 use Rattle.ux_grammars.proofs.graphs.read_graphs.Given as goal

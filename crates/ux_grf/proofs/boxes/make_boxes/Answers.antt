@@ -30,7 +30,7 @@ loop-node-preserved c =
       made = made_more (map said_by c.args.boxes.now) c.args.reached.now c.loop-node.made.items
           c.push.new.self.items c.loop-node.node c.in_ok-make_box.field-0
           c.loop-node.invariant.len c.loop-node.invariant.made
-          (subst (λ t. IsMade t c.loop-node.node (is_marked_at c.args.reached.now c.loop-node.node)
+          (subst (λ t. IsMade c.args.kind t c.loop-node.node (is_marked_at c.args.reached.now c.loop-node.node)
           c.in_ok-make_box.field-0)
           (text_is c.args.boxes.now c.loop-node.node c.index-boxes-node.result lt
           c.index-boxes-node.is) c.in_ok-make_box.ensures.made)

@@ -7,5 +7,5 @@ use Rattle.ux_grf.proofs.boxes.make_boxes.Given as goal
 abbrev pub invariant-loop-node : goal.invariant-loop-node
 invariant-loop-node l = record {
   len : length l.made.items ≡ l.node;
-  made : AreMade (map said_by l.boxes) l.reached l.made.items l.node;
+  made : AreMade l.kind (map said_by l.boxes) l.reached l.made.items l.node;
 }

@@ -9,9 +9,9 @@ use Rattle.ux_grf.proofs.line.read_lines.Given as goal
 abbrev pub invariant-loop-lines : goal.invariant-loop-lines
 invariant-loop-lines l = record {
   text : shadow (Utf8 l.rest);
-  lines : (later : List (List Item)) (output : List ℕ) → AreLines l.rest later output →
-      AreLines l.text (l.lines.items ++ later) output;
-  bad : (left : List ℕ) → IsBadIn l.rest left → IsBadIn l.text left;
+  lines : (later : List (List Item)) (output : List ℕ) → AreLines l.kind l.rest later output →
+      AreLines l.kind l.text (l.lines.items ++ later) output;
+  bad : (left : List ℕ) → IsBadIn l.kind l.rest left → IsBadIn l.kind l.text left;
 }
 
 abbrev pub decreases-loop-lines : goal.decreases-loop-lines

@@ -34,7 +34,7 @@ returns-in_err-make_boxes-clause-refused c =
     (marked_refuses (map said_by c.args.boxes.now) c.deref-2.result.now
     (marks_reached c.deref.result.now (ways_in (map said_by c.args.boxes.now))
     c.in_ok-reached.reached.items is c.in_ok-reached.ensures.marks c.deref-2.result.now
-    c.deref-2.ensures.value) _ c.in_err-make_boxes.ensures.err)
+    c.deref-2.ensures.value) c.args.kind _ c.in_err-make_boxes.ensures.err)
 
 pub returns-clause-draws : goal.returns-clause-draws
 returns-clause-draws c =

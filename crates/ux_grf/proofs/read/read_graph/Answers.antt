@@ -33,7 +33,8 @@ make_graph-requires-clause-inside c =
 pub returns-clause-ok : goal.returns-clause-ok
 returns-clause-ok c =
     let texts = map said_by c.deref.result.now in
-    IfOk-weaker c.make_graph.result (Draws texts) (IsGraphOf c.args.text.now)
+    IfOk-weaker c.make_graph.result (Draws c.args.kind texts)
+    (IsGraphOf c.args.kind c.args.text.now)
     (λ graph drawn. (
       texts,
       has_texts c.args.text.now c.in_ok-count.count _ c.next_count.new.lines c.deref.result.now
@@ -48,7 +49,7 @@ returns-clause-ok c =
 pub returns-clause-err : goal.returns-clause-err
 returns-clause-err c =
     MatchResult-weaker c.make_graph.result c.make_graph.ensures.refused (λ g h. h)
-    (λ e h. texts_refuse c.args.text.now (map said_by c.deref.result.now) e
+    (λ e h. texts_refuse c.args.kind c.args.text.now (map said_by c.deref.result.now) e
     (has_texts c.args.text.now c.in_ok-count.count _ c.next_count.new.lines c.deref.result.now
     c.in_ok-boxes.boxes.items
     (ap after_header (sym c.lines-lines.ensures) ∙ c.if-not-skip_header.ensures.yes refl)

@@ -1,17 +1,9 @@
-use Rattle.std.proofs.Common.{List, subst, sym}
 use Rattle.std.proofs.lemmas.Result.{IfOk-weaker}
-use Rattle.ux_net.specs.declared.net_graph.NetGraph.{NetGraph}
 use Rattle.ux_net.specs.Nets.{net_grammar}
 use Rattle.ux_locate.specs.Hits.{IsHit}
 use Rattle.ux_locate.specs.Index.{IsKeptListing}
-use Rattle.ux_locate.specs.Searchable.{IsSearchable}
 use Rattle.ux_locate.proofs.OverLemmas.{hits_over}
 use Rattle.ux_locate.proofs.locating.locate.Goals as goal
-
-pub hits_in-requires-clause-searchable : goal.hits_in-requires-clause-searchable
-hits_in-requires-clause-searchable g c =
-    subst (λ (net : List NetGraph). IsSearchable net) (sym c.in_ok-masked.ensures.over.net_is)
-    c.requires.searchable
 
 pub returns-clause-hits : goal.returns-clause-hits
 returns-clause-hits g c =

@@ -7,7 +7,6 @@ use Rattle.ux_net.specs.declared.net_graph.NetGraph.{NetGraph}
 use Rattle.ux_net.specs.Nets.{CutNothing, net_grammar}
 use Rattle.ux_locate.specs.Hits.{IsHit}
 use Rattle.ux_locate.specs.Index.{IsKeptListing}
-use Rattle.ux_locate.specs.Searchable.{IsSearchable}
 use Rattle.ux_locate.specs.Spans.{LiesIn, hit_at}
 use Rattle.ux_locate.proofs.OverLemmas.{lie_over, spans_over}
 use Rattle.ux_locate.proofs.spans.locate_spans.Goals as goal
@@ -18,7 +17,6 @@ spans_in-requires g c =
     record {
       table = c.in_ok-masked.ensures.table;
       uncut = subst (λ (net : List NetGraph). CutNothing net) net_is c.requires.uncut;
-      searchable = subst (λ (net : List NetGraph). IsSearchable net) net_is c.requires.searchable;
     }
 
 pub returns-clause-listing : goal.returns-clause-listing

@@ -3,7 +3,7 @@ use Rattle.std.specs.Prelude.{MatchResult}
 use Rattle.std.proofs.lemmas.List.Sorted.{answers_always}
 use Rattle.ux_net.specs.declared.net_graph.Closing.{Closing}
 use Rattle.ux_net.specs.Closings.{closing_in}
-use Rattle.ux_net.proofs.ClosingsLemmas.{searched}
+use Rattle.ux_net.proofs.KeysLemmas.{searched}
 use Rattle.ux_net.proofs.closings.told.Goals as goal
 
 pub returns-in-Ok : goal.returns-in-Ok
@@ -17,7 +17,9 @@ returns-in-Ok c =
     (λ at. closing_in entries state
     ≡ Some (get_or entries at (record { opening = 0; closing = 0 })).closing)
     (λ at. closing_in entries state ≡ None)) c.in-Ok.is
-    (searched entries c.requires state c.binary_search_by_key.result facts.bound by_key))
+    (searched (λ (e : Closing). e.opening) (λ (e : Closing). e.closing)
+    (record { opening = 0; closing = 0 }) entries c.requires.by_opening state
+    c.binary_search_by_key.result facts.bound by_key))
 
 pub returns-in-Err : goal.returns-in-Err
 returns-in-Err c =
@@ -30,4 +32,6 @@ returns-in-Err c =
     (λ at. closing_in entries state
     ≡ Some (get_or entries at (record { opening = 0; closing = 0 })).closing)
     (λ at. closing_in entries state ≡ None)) c.in-Err.is
-    (searched entries c.requires state c.binary_search_by_key.result facts.bound by_key))
+    (searched (λ (e : Closing). e.opening) (λ (e : Closing). e.closing)
+    (record { opening = 0; closing = 0 }) entries c.requires.by_opening state
+    c.binary_search_by_key.result facts.bound by_key))

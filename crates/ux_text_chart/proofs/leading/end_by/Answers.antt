@@ -7,21 +7,21 @@ use Rattle.ux_text_chart.specs.Leading.{without_masks}
 use Rattle.ux_text_chart.proofs.LeadingLemmas.{plain_taking, plain_glue, plain_begun}
 use Rattle.ux_text_chart.proofs.leading.end_by.Goals as goal
 
-pub returns-in-Fold : goal.returns-in-Fold
-returns-in-Fold c = λ k.
+pub returns-in-CaseFolded : goal.returns-in-CaseFolded
+returns-in-CaseFolded c = λ k.
     let input = without_masks c.args.alphabet.now c.args.text.now in
     let read = rw c.as_str.ensures at c.after_fold.ensures k in
     subst (λ (x : Label). (c.after_fold.result ≡ Some k) ↔ Plain input x c.args.at k)
-    (sym c.in-Fold.is)
-    (through read (plain_taking input (label.Fold c.in-Fold.entry) tt c.args.at k))
+    (sym c.in-CaseFolded.is)
+    (through read (plain_taking input (label.CaseFolded c.in-CaseFolded.entry) tt c.args.at k))
 
-pub returns-in-Exact : goal.returns-in-Exact
-returns-in-Exact c = λ k.
+pub returns-in-CaseExact : goal.returns-in-CaseExact
+returns-in-CaseExact c = λ k.
     let input = without_masks c.args.alphabet.now c.args.text.now in
-    let read = rw c.as_str-in-Exact.ensures at c.after_exact.ensures k in
+    let read = rw c.as_str-in-CaseExact.ensures at c.after_exact.ensures k in
     subst (λ (x : Label). (c.after_exact.result ≡ Some k) ↔ Plain input x c.args.at k)
-    (sym c.in-Exact.is)
-    (through read (plain_taking input (label.Exact c.in-Exact.exact) tt c.args.at k))
+    (sym c.in-CaseExact.is)
+    (through read (plain_taking input (label.CaseExact c.in-CaseExact.exact) tt c.args.at k))
 
 pub returns-in-Brace : goal.returns-in-Brace
 returns-in-Brace c = λ k.
@@ -38,11 +38,11 @@ returns-in-Space c = λ k.
     (sym c.in-Space.is)
     (through (c.after_space.ensures k) (plain_taking input label.Space tt c.args.at k))
 
-pub returns-in-Glue : goal.returns-in-Glue
-returns-in-Glue c = λ k.
+pub returns-in-NoSpace : goal.returns-in-NoSpace
+returns-in-NoSpace c = λ k.
     let input = without_masks c.args.alphabet.now c.args.text.now in
     subst (λ (x : Label). (c.at_glue.result ≡ Some k) ↔ Plain input x c.args.at k)
-    (sym c.in-Glue.is)
+    (sym c.in-NoSpace.is)
     (through (c.at_glue.ensures k) (plain_glue c.args.alphabet.now c.args.text.now c.args.at k))
 
 pub returns-in-Begin : goal.returns-in-Begin

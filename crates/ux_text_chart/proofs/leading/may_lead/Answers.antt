@@ -12,10 +12,10 @@ returns-in-Mask c =
     c.args.at c.skip.result c.accepts_some.result c.in-Mask.is c.skip.ensures
     c.accepts_some.ensures
 
-pub returns-in-Fold : goal.returns-in-Fold
-returns-in-Fold c =
+pub returns-in-CaseFolded : goal.returns-in-CaseFolded
+returns-in-CaseFolded c =
     let text = c.args.masked.now in
     subst (λ (b : Bool). IsTrue b
     ↔ MayLead (input_of (masked_setting text)) c.args.label.now c.args.at) (sym c.is_some.ensures)
-    (tried_test text.alphabet.now text.text.now text.applied.now c.args.label.now c.in-Fold.is
+    (tried_test text.alphabet.now text.text.now text.applied.now c.args.label.now c.in-CaseFolded.is
     c.end_by.result c.args.at c.end_by.ensures)

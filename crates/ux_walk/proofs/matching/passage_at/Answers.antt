@@ -10,23 +10,23 @@ pub after_mask-requires-clause-mask : goal.after_mask-requires-clause-mask
 after_mask-requires-clause-mask c =
     known_mask c.args.masked.now c.args.label.now c.in-Mask.mask c.requires.known c.in-Mask.is
 
-pub returns-in-Fold-clause-takes : goal.returns-in-Fold-clause-takes
-returns-in-Fold-clause-takes c = λ k.
+pub returns-in-CaseFolded-clause-takes : goal.returns-in-CaseFolded-clause-takes
+returns-in-CaseFolded-clause-takes c = λ k.
     let masked = c.args.masked.now in
     subst (λ (x : Label). TakesUpTo c.taking.result k
     ↔ TakesPlainly masked.alphabet.now masked.text.now masked.applied.now x c.args.position k)
-    (sym c.in-Fold.is)
+    (sym c.in-CaseFolded.is)
     (through (c.taking.ensures.takes k)
     (through (rw c.as_str.ensures at c.after_fold.ensures k) (λ t. (tt, t), λ t. t.1)))
 
-pub returns-in-Exact-clause-takes : goal.returns-in-Exact-clause-takes
-returns-in-Exact-clause-takes c = λ k.
+pub returns-in-CaseExact-clause-takes : goal.returns-in-CaseExact-clause-takes
+returns-in-CaseExact-clause-takes c = λ k.
     let masked = c.args.masked.now in
-    subst (λ (x : Label). TakesUpTo c.taking-in-Exact.result k
+    subst (λ (x : Label). TakesUpTo c.taking-in-CaseExact.result k
     ↔ TakesPlainly masked.alphabet.now masked.text.now masked.applied.now x c.args.position k)
-    (sym c.in-Exact.is)
-    (through (c.taking-in-Exact.ensures.takes k)
-    (through (rw c.as_str-in-Exact.ensures at c.after_exact.ensures k) (λ t. (tt, t), λ t. t.1)))
+    (sym c.in-CaseExact.is)
+    (through (c.taking-in-CaseExact.ensures.takes k)
+    (through (rw c.as_str-in-CaseExact.ensures at c.after_exact.ensures k) (λ t. (tt, t), λ t. t.1)))
 
 pub returns-in-Brace-clause-takes : goal.returns-in-Brace-clause-takes
 returns-in-Brace-clause-takes c = λ k.

@@ -2,8 +2,8 @@ use Rattle.std.proofs.Common.{arith}
 use Rattle.std.proofs.lemmas.Grind.{common_steps}
 use Rattle.ux_walk.proofs.words.fits.Goals as goal
 
-pub returns-in-Fold : goal.returns-in-Fold
-returns-in-Fold c = grind (arith, common_steps)
+pub returns-in-CaseFolded : goal.returns-in-CaseFolded
+returns-in-CaseFolded c = grind (arith, common_steps)
 
 pub returns-in-Empty : goal.returns-in-Empty
 returns-in-Empty c = grind (arith, common_steps)

@@ -17,7 +17,7 @@ returns c =
     let order = c.args.order.now in
     let parts : Parts =
     record { list = c.new.result; numbers = c.new-2.result; levels = 4294967295 } in
-    are_parts c.args.net.now parts order c.requires.marked c.requires.told c.requires.order
+    are_parts c.args.net.now parts order c.is_marked.ensures c.tells_closings.ensures c.requires.order
     (c.new.ensures ∙ c.in_ok-list.ensures)
     (subst (AreNumbers order (length order)) (sym c.new-2.ensures) c.in_ok-numbers.ensures)
     (omega arith)

@@ -1,0 +1,16 @@
+pub mod Closers
+pub mod Admissible
+pub mod ContextClose
+pub mod Uses
+pub mod Ways
+pub mod Admission
+pub mod Cycles
+pub mod Gains
+pub mod Spots
+pub mod Leading
+pub mod Finding
+pub mod NegativeRecursion
+pub mod SoundGrammar
+pub mod BadContexts
+pub mod Refusals
+pub mod LevelsRefusal

@@ -1,0 +1,12 @@
+pub mod WellFormedFit
+pub mod NumbersLemmas
+pub mod StepsLemmas
+pub mod CutLemmas
+pub mod PlacesLemmas
+pub mod MaskTextsLemmas
+pub mod RefusingLemmas
+pub mod SameGraph
+pub mod SplittingLemmas
+pub mod MissingLemmas
+pub mod SplitFit
+pub mod SplitGraphs

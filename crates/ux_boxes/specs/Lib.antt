@@ -1,0 +1,10 @@
+pub mod Boxes
+pub mod Places
+pub mod MaskTexts
+pub mod BadMasks
+pub mod Fit
+pub mod Splitting
+pub mod Refusing
+pub mod Numbers
+pub mod Rows
+pub mod Missing

@@ -1,0 +1,4 @@
+pub mod Refusing
+pub mod Construct
+pub mod Ranks
+pub mod Compiling

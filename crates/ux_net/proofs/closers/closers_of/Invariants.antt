@@ -1,5 +1,0 @@
-use Rattle.ux_net.proofs.ClosersLemmas.{AreClosersBelow}
-use Rattle.ux_net.proofs.closers.closers_of.Given as goal
-
-abbrev pub invariant-loop-places : goal.invariant-loop-places
-invariant-loop-places l = AreClosersBelow l.graphs l.places-index l.rows.items

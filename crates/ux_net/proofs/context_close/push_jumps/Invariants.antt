@@ -1,9 +1,0 @@
-use Rattle.std.proofs.Common.{get_or}
-use Rattle.ux_digraph.specs.Paths.{row_of}
-use Rattle.ux_net.specs.BadContexts.{IsRuleFrom}
-use Rattle.ux_net.specs.Gains.{Gains, SoBelow}
-use Rattle.ux_net.proofs.context_close.push_jumps.Given as goal
-
-abbrev pub invariant-loop-closer : goal.invariant-loop-closer
-invariant-loop-closer l = Gains l.fn.rules.items l.rules.items (SoBelow l.closer-index
-    (λ k. IsRuleFrom (row_of l.leading.sources.items l.n) (get_or l.closers k 0)))

@@ -1,7 +1,0 @@
-use Rattle.ux_net.specs.Gains.{Gains, SoBelow, SoAt}
-use Rattle.ux_net.specs.Spots.{IsEntryPair}
-use Rattle.ux_net.proofs.edges.push_entry_pairs.Given as goal
-
-abbrev pub invariant-loop-way : goal.invariant-loop-way
-invariant-loop-way l = Gains l.fn.pairs.items l.pairs.items
-    (SoBelow l.way-index (SoAt l.ways IsEntryPair))

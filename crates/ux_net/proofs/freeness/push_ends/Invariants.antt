@@ -1,7 +1,0 @@
-use Rattle.ux_net.specs.Gains.{Gains, SoBelow}
-use Rattle.ux_net.proofs.WaysExact.{IsEndOf}
-use Rattle.ux_net.proofs.freeness.push_ends.Given as goal
-
-abbrev pub invariant-loop-k : goal.invariant-loop-k
-invariant-loop-k l =
-    Gains l.fn.ends.items l.ends.items (SoBelow l.k (IsEndOf l.graphs l.offsets))

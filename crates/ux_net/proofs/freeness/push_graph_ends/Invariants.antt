@@ -1,8 +1,0 @@
-use Rattle.std.proofs.Common.{◌≡◌, ◌+◌}
-use Rattle.ux_net.specs.Places.{IsEndPlace}
-use Rattle.ux_net.specs.Gains.{Gains, SoBelow}
-use Rattle.ux_net.proofs.freeness.push_graph_ends.Given as goal
-
-abbrev pub invariant-loop-n : goal.invariant-loop-n
-invariant-loop-n l = Gains l.fn.ends.items l.ends.items
-    (SoBelow l.n (λ n x. IsEndPlace l.places n × (l.base + n ≡ x)))

@@ -1,7 +1,0 @@
-use Rattle.ux_net.specs.Gains.{Gains, SoBelow, SoAt}
-use Rattle.ux_net.specs.Ways.{IsRuleOf}
-use Rattle.ux_net.proofs.freeness.push_rules.Given as goal
-
-abbrev pub invariant-loop-way : goal.invariant-loop-way
-invariant-loop-way l =
-    Gains l.fn.rules.items l.rules.items (SoBelow l.way-index (SoAt l.ways IsRuleOf))

@@ -1,7 +1,0 @@
-use Rattle.std.proofs.Common.{◌≡◌, ℕ, ◌<◌, get_or, []}
-use Rattle.ux_net.specs.Leading.{said}
-use Rattle.ux_net.specs.Words.{mark_of}
-use Rattle.ux_net.proofs.leading.has_line.Given as goal
-
-abbrev pub invariant-loop-line : goal.invariant-loop-line
-invariant-loop-line l = (k : ℕ) → k < l.line-index → mark_of (get_or l.lines k []) ≡ said l.mark → ⊥

@@ -1,6 +1,0 @@
-use Rattle.std.proofs.Common.{◌≡◌, map, take}
-use Rattle.ux_net.specs.Uses.{ends_of}
-use Rattle.ux_net.proofs.negative_recursion.pairs_of.Given as goal
-
-abbrev pub invariant-loop-link : goal.invariant-loop-link
-invariant-loop-link l = l.pairs.items ≡ map ends_of (take l.link-index l.links)

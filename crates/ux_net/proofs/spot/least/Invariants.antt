@@ -1,6 +1,0 @@
-use Rattle.std.proofs.Common.{take}
-use Rattle.ux_net.specs.Spots.{IsLeast}
-use Rattle.ux_net.proofs.spot.least.Given as goal
-
-abbrev pub invariant-loop-spot : goal.invariant-loop-spot
-invariant-loop-spot l = IsLeast (take l.spot-index l.spots) l.best

@@ -1,8 +1,0 @@
-use Rattle.std.proofs.Common.{◌+◌}
-use Rattle.ux_net.specs.Gains.{Gains, SoBelow}
-use Rattle.ux_net.specs.Ways.{IsWayOf}
-use Rattle.ux_net.proofs.ways.push_graphs.Given as goal
-
-abbrev pub invariant-loop-k : goal.invariant-loop-k
-invariant-loop-k l =
-    Gains l.fn.ways.items l.ways.items (SoBelow l.k (λ k. IsWayOf l.graphs (k + 1)))
