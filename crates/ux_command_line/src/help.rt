@@ -24,10 +24,10 @@ usage: unitex COMMAND ARGUMENTS
                                locate too
     --left COLUMNS             how wide the text before a hit is, at most 1000
                                (default 40)
-    --right COLUMNS            how wide the text behind it is at most (default
+    --right COLUMNS            how wide the text after it is at most (default
                                40)
     --sort KEYS                LC, LR, CL, CR, RL or RC: by the text before it
-                               (L), the hit (C), the text behind it (R); TO by
+                               (L), the hit (C), the text after it (R); TO by
                                place (default)
   tokenize TEXT ALPHABET       reads a text and its letters, writes its tokens
     --chars                    each letter is a token of its own
@@ -45,6 +45,9 @@ usage: unitex COMMAND ARGUMENTS
     --chars                    each letter is a token of its own
   elag TFST RULE..             reads such automata and graphs of rules, writes
                                the automata of what satisfies every rule
+  fst2 GRAPH ALPHABET          reads a grammar and its letters, writes the
+                               grammar compiled
+    --chars                    each letter is a token of its own
   bench N                      searches a text of N words that is made up, at
                                most 200000, writes how many words, tokens and
                                hits there are, and the longest hit's tokens

@@ -7,18 +7,20 @@ use Rattle.ux_alphabet.specs.declared.error.AlphabetError.{AlphabetError}
 use Rattle.ux_alphabet.specs.declared.error.AlphabetError.TheVariants as alphabet_error
 use Rattle.ux_grf.specs.declared.error.GrfError.{GrfError}
 use Rattle.ux_grf.specs.declared.error.GrfError.TheVariants as grf_error
-use Rattle.ux_net.specs.declared.error.NetError.{NetError}
-use Rattle.ux_net.specs.declared.error.NetError.TheVariants as net_error
+use Rattle.ux_boxes.specs.declared.error.NetError.{NetError}
+use Rattle.ux_boxes.specs.declared.error.NetError.TheVariants as net_error
 use Rattle.ux_dela.specs.declared.error.DelaError.{DelaError}
 use Rattle.ux_dela.specs.declared.error.DelaError.TheVariants as dela_error
 use Rattle.ux_image_reader.specs.declared.error.ImageError.{ImageError}
 use Rattle.ux_image_reader.specs.declared.error.ImageError.TheVariants as image_error
+use Rattle.ux_fst2.specs.declared.error.Fst2Error.{Fst2Error}
+use Rattle.ux_fst2.specs.declared.error.Fst2Error.TheVariants as fst2_error
 use Rattle.ux_sentence.specs.declared.error.SentenceError.{SentenceError}
 use Rattle.ux_sentence.specs.declared.error.SentenceError.TheVariants as sentence_error
 use Rattle.ux_rules.specs.declared.error.RuleError.{RuleError}
 use Rattle.ux_rules.specs.declared.error.RuleError.TheVariants as rule_error
 use Rattle.ux_reasons.specs.declared.reason.Reason.{Reason}
-use Rattle.ux_reasons.specs.declared.reason.Reason.TheVariants.{Decode, Alphabet, Grf, Net, Dela, Image, Sentence, Rule, TooManyGraphs}
+use Rattle.ux_reasons.specs.declared.reason.Reason.TheVariants.{Decode, Alphabet, Grf, Net, Fst2, Dela, Image, Sentence, Rule, TooManyGraphs}
 
 -- texts, one after the other
 abbrev pub joined : List (List ℕ) → List ℕ
@@ -80,6 +82,14 @@ net_reason (net_error.EmptyLoop graph node) = at_node (codes "EmptyLoop graph=")
 net_reason (net_error.LeftRecursion graph node) = at_node (codes "LeftRecursion graph=") graph node
 net_reason net_error.NoMemory = codes "NoMemory" ∷ []
 
+-- the same of a file of a compiled grammar
+abbrev pub fst2_reason : Fst2Error → List (List ℕ)
+fst2_reason fst2_error.BadCount = codes "BadCount" ∷ []
+fst2_reason (fst2_error.BadLine line) = codes "BadLine line=" ∷ decimal line ∷ []
+fst2_reason (fst2_error.BadTag number) = codes "BadTag n=" ∷ decimal number ∷ []
+fst2_reason (fst2_error.BadLabel line) = codes "BadLabel line=" ∷ decimal line ∷ []
+fst2_reason fst2_error.NoMemory = codes "NoMemory" ∷ []
+
 -- the same of an image
 abbrev pub image_reason : ImageError → List (List ℕ)
 image_reason image_error.BadMagic = codes "BadMagic" ∷ []
@@ -111,6 +121,7 @@ reason_of (Decode error) = decode_reason error
 reason_of (Alphabet error) = alphabet_reason error
 reason_of (Grf error) = grf_reason error
 reason_of (Net error) = net_reason error
+reason_of (Fst2 error) = fst2_reason error
 reason_of (Dela error) = dela_reason error
 reason_of (Image error) = image_reason error
 reason_of (Sentence error) = sentence_reason error

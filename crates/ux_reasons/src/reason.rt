@@ -1,11 +1,12 @@
 //! Why a file is refused.
 
 use ux_alphabet::AlphabetError;
+use ux_boxes::NetError;
 use ux_decode::DecodeError;
 use ux_dela::DelaError;
+use ux_fst2::Fst2Error;
 use ux_grf::GrfError;
 use ux_image_reader::ImageError;
-use ux_net::NetError;
 use ux_plan::OfDecode;
 use ux_rules::RuleError;
 use ux_sentence::SentenceError;
@@ -21,6 +22,8 @@ pub enum Reason {
     Grf(GrfError),
     /// The grammar's own reason.
     Net(NetError),
+    /// The reason of a file of a compiled grammar.
+    Fst2(Fst2Error),
     /// The dictionary's own reason.
     Dela(DelaError),
     /// The image's own reason.

@@ -6,17 +6,18 @@
 ghost use Rattle.std.specs.Prelude.{◌≤◌, ◌∷◌, [], OnOk, OnErr, codes, map};
 ghost use Rattle.std.specs.Fmt.{decimal};
 ghost use Rattle.ux_base.specs.Outside.{Rose, Appended, AppendedFront};
-ghost use Rattle.ux_reasons.specs.Reasons.{joined, refusal, reason_of, at_node, bad_mask, decode_reason, alphabet_reason, grf_reason, net_reason, at_place, dela_reason, image_reason, sentence_reason, rule_reason};
+ghost use Rattle.ux_reasons.specs.Reasons.{joined, refusal, reason_of, at_node, bad_mask, decode_reason, alphabet_reason, fst2_reason, grf_reason, net_reason, at_place, dela_reason, image_reason, sentence_reason, rule_reason};
 
 use crate::reason::Reason;
 use itoa::Buffer;
 use ux_alphabet::AlphabetError;
 use ux_base::{Sink, SinkError, Txt};
+use ux_boxes::NetError;
 use ux_decode::DecodeError;
 use ux_dela::DelaError;
+use ux_fst2::Fst2Error;
 use ux_grf::GrfError;
 use ux_image_reader::ImageError;
-use ux_net::NetError;
 use ux_rules::RuleError;
 use ux_sentence::SentenceError;
 
@@ -51,6 +52,7 @@ pub fn say_refusal<E: Sink>(err: &mut E, file: &str, reason: &Reason) -> Result<
         Reason::Net(error) => say_net_error(err, file, error),
         Reason::Dela(error) => say_dela_error(err, file, error),
         Reason::Image(error) => say_image_error(err, file, error),
+        Reason::Fst2(error) => say_fst2_error(err, file, error),
         Reason::Sentence(error) => say_sentence_error(err, file, error),
         Reason::Rule(error) => say_rule_error(err, file, error),
         Reason::TooManyGraphs => say_name(err, file, "TooManyGraphs"),
@@ -387,6 +389,24 @@ fn say_image_error<E: Sink>(err: &mut E, file: &str, error: &ImageError) -> Resu
         ImageError::Trailing => say_name(err, file, "Trailing"),
         ImageError::TooMany => say_name(err, file, "TooMany"),
         ImageError::NoMemory => say_name(err, file, "NoMemory"),
+    }
+}
+
+/// Writes the line of a file that is no compiled grammar.
+fn say_fst2_error<E: Sink>(err: &mut E, file: &str, error: &Fst2Error) -> Result<(), SinkError>
+    ensures later { E.faults err.old ≤ E.faults err.new }
+    ensures cause { OnErr result (Rose (E.faults err.old) (E.faults err.new)) }
+    ensures line { OnOk result (Appended (E.written err.old) (E.written err.new)
+        (refusal file.now (fst2_reason error.now))) }
+    ensures front { OnErr result (AppendedFront (E.written err.old) (E.written err.new)
+        (refusal file.now (fst2_reason error.now))) }
+{
+    match error {
+        Fst2Error::BadCount => say_name(err, file, "BadCount"),
+        Fst2Error::BadLine { line } => say_number(err, file, "BadLine line=", *line),
+        Fst2Error::BadTag { n } => say_number(err, file, "BadTag n=", *n),
+        Fst2Error::BadLabel { line } => say_number(err, file, "BadLabel line=", *line),
+        Fst2Error::NoMemory => say_name(err, file, "NoMemory"),
     }
 }
 

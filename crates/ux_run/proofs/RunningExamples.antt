@@ -48,6 +48,14 @@ a_compiled_concordance is = is
 some_tokens : IsAsked (asked_by (codes "tokenize" ∷ codes "t.txt" ∷ codes "a.txt" ∷ []))
 some_tokens = tt
 
+-- a grammar is compiled from drawn graphs
+a_compiled_grammar :
+    IsAsked (asked_by (codes "fst2" ∷ codes "--chars" ∷ codes "g.grf" ∷ codes "a.txt" ∷ []))
+a_compiled_grammar = tt
+
+a_compiled_file : IsAsked (asked_by (codes "fst2" ∷ codes "g.fst2" ∷ codes "a.txt" ∷ [])) → ⊥
+a_compiled_file is = is
+
 an_image : IsAsked (asked_by (codes "check" ∷ codes "d.udi" ∷ []))
 an_image = tt
 

@@ -22,6 +22,7 @@ use Rattle.ux_cmd_tokenize.specs.Tokenize.{tokenize}
 use Rattle.ux_cmd_check.specs.Check.{check_entries, check_stems}
 use Rattle.ux_cmd_compress.specs.Compress.{compress}
 use Rattle.ux_cmd_dico.specs.Dico.{dico}
+use Rattle.ux_cmd_fst2.specs.Fst2.{fst2}
 use Rattle.ux_cmd_txt2tfst.specs.Tfst.{txt2tfst}
 use Rattle.ux_cmd_elag.specs.Elag.{elag}
 use Rattle.ux_cmd_bench.specs.Bench.{IsSummaryOf}
@@ -74,12 +75,13 @@ asked_of (Check false file) = asks (check_entries file)
 asked_of (Check true file) = asks (check_stems file)
 asked_of (Compress dic) = asks (compress dic)
 asked_of (Dico text alphabet dics chars) = asks (dico text alphabet dics chars)
+asked_of (Fst2 graph alphabet chars) =
+    only_if (is_drawn graph) (asks (fst2 graph alphabet chars))
 asked_of (Tfst text alphabet dics chars) = asks (txt2tfst text alphabet dics chars)
 asked_of (Elag tfst rules) = asks (elag tfst rules)
 asked_of (Bench n) = asks (unread_command (IsSummaryOf n))
 asked_of Help = asks (text_command HELP.now)
 asked_of Version = asks (text_command VERSION.now)
-asked_of (Fst2 graph alphabet chars) = nothing
 asked_of (Inflect stems) = nothing
 asked_of (Cascade text alphabet steps dics trace) = nothing
 asked_of (Flatten graph alphabet depth) = nothing

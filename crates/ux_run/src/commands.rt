@@ -17,6 +17,7 @@ use ux_cmd_compress::compress;
 use ux_cmd_concord::{Layout, concord};
 use ux_cmd_dico::dico;
 use ux_cmd_elag::elag;
+use ux_cmd_fst2::fst2;
 use ux_cmd_locate::locate;
 use ux_cmd_tokenize::tokenize;
 use ux_cmd_txt2tfst::txt2tfst;
@@ -69,6 +70,13 @@ pub fn answer_to<F: Folder>(
         } => {
             let (text, alphabet) = (text.as_str(), alphabet.as_str());
             by_command(dico(alloc, text, alphabet, dics.as_slice(), *chars, folder))
+        }
+        Request::Fst2 {
+            graph,
+            alphabet,
+            chars,
+        } if is_drawn(graph.as_str()) => {
+            by_command(fst2(alloc, graph.as_str(), alphabet.as_str(), *chars, folder))
         }
         Request::Tfst {
             text,

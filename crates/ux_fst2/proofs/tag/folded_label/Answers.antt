@@ -1,0 +1,6 @@
+use Rattle.std.proofs.Common.{◌≡◌, sym, subst}
+use Rattle.std.proofs.lemmas.Grind.{common_steps}
+use Rattle.ux_fst2.proofs.tag.folded_label.Goals as goal
+
+pub returns-in-Mask : goal.returns-in-Mask
+returns-in-Mask c = rw c.in-Mask.is (c.mask_label.ensures)
