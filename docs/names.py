@@ -1,8 +1,11 @@
 #!/usr/bin/env python3
-"""Looks whether the names in docs/DEFINITIONS.md and docs/PROVED.md are still there, and which definitions are missing.
+"""Looks whether the names in docs/DEFINITIONS.md, docs/PROVED.md and docs/CONTRACTS.md are still there, and which
+definitions are missing.
 
-- Each word in a table of docs/DEFINITIONS.md is declared in the file of specs/ that its row or its section names.
-- Each function in a table of docs/PROVED.md is one of its crate, and each clause is one of that crate's contracts.
+- Each word in a table of docs/DEFINITIONS.md is declared in the file of specs/ that its row or its section names. A row
+  that names a file by its whole path needs no section.
+- Each function in a table of docs/PROVED.md or docs/CONTRACTS.md is one of its crate, and each clause is one of that
+  crate's contracts.
 - Each wrong body in a table of docs/PROVED.md is an edit that the gate tries.
 - Each definition that a clause of a public function cites stands in docs/DEFINITIONS.md.
 - Each link of a document leads to a file of the repository, and to a heading of it where it names one. A page that a
@@ -59,20 +62,21 @@ def defined(problems):
     page, words, crate, files, where = "docs/DEFINITIONS.md", set(), None, [], None
     for number, row in rows(page):
         if isinstance(row, str):
-            named = NAME.findall(row)
+            named, where = NAME.findall(row), None
             crate = named[0].split("/")[0] if named else None
             files = [name.split("/")[-1][:-5] for name in named if name.endswith(".antt")]
         elif row[:2] == ["Name", "Word"]:
-            where = row.index("Where") if "Where" in row else None
-        elif crate:
+            where = next((row.index(name) for name in ("Where", "File") if name in row), None)
+        elif crate or where:
             # A name in parentheses is the file of the names before it.
             cell, _, inside = PLANNED.sub("", row[1]).partition(" (")
             stands = NAME.findall(inside) or (NAME.findall(row[where]) if where else files)
-            stands = [name[:-5] if name.endswith(".antt") else name for name in stands] or ["*"]
+            source = stands[0].split("/")[0] if stands and "/" in stands[0] else crate
+            stands = [name.split("/")[-1].removesuffix(".antt") for name in stands] or ["*"]
             for word in NAME.findall(cell):
                 words.add(word)
-                if not any(word in declared(crate, file) for file in stands):
-                    problems.append(f"{page}:{number}: {word} isn't declared in {', '.join(stands)} of {crate}")
+                if not any(word in declared(source, file) for file in stands):
+                    problems.append(f"{page}:{number}: {word} isn't declared in {', '.join(stands)} of {source}")
     return words
 
 
@@ -92,9 +96,9 @@ def lemmas(where, cell, problems):
         names = []
 
 
-def proved(problems):
-    """Looks for the functions and clauses of docs/PROVED.md."""
-    page, crate, table = "docs/PROVED.md", "ux_run", None
+def proved(page, problems):
+    """Looks for the functions, clauses, lemmas and wrong bodies of the tables of a page."""
+    crate, table = "ux_run", None
     for number, row in rows(page):
         if isinstance(row, str):
             found = re.search(r"`(ux_\w+)`", row)
@@ -227,7 +231,8 @@ def copied(problems):
 def main():
     problems = []
     words = defined(problems)
-    proved(problems)
+    proved("docs/PROVED.md", problems)
+    proved("docs/CONTRACTS.md", problems)
     for (word, crate, file), function in sorted(cited().items(), key=lambda pair: pair[0][1:]):
         if word not in words:
             problems.append(f"docs/DEFINITIONS.md: {word} of {crate}/specs/{file}.antt is missing, cited by {function}")
