@@ -31,6 +31,7 @@ mod ways;
 pub use admissible::{Admission, AdmissionError, admit};
 pub use closers::closers_of;
 pub use context_close::{first_bad_context, refuse_bad_contexts};
-pub use line::is_silent;
+pub use line::{is_opening, is_silent};
 pub use negative_recursion::{LevelsError, levels_of};
 pub use spot::Spot;
+pub use uses::{Link, links_of};

@@ -1,0 +1,17 @@
+pub mod KindLemmas
+pub mod WordKinds
+pub mod RunLifts
+pub mod RunProjects
+pub mod EntryLemmas
+pub mod BadStates
+pub mod LoopStates
+pub mod AdmittedLaws
+pub mod ArrivalLemmas
+pub mod KeptLemmas
+pub mod PlacedLaw
+pub mod MetLaw
+pub mod MeetingLemmas
+pub mod KeepingLemmas
+pub mod ArrivingLemmas
+pub mod PlacingLemmas
+pub mod RawLemmas

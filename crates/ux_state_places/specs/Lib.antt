@@ -1,0 +1,9 @@
+pub mod Kinds
+pub mod Standing
+pub mod RefusingStates
+pub mod Arrivals
+pub mod Meeting
+pub mod Keeping
+pub mod Arriving
+pub mod Placing
+pub mod RawPlaces

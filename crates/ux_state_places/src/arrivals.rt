@@ -1,0 +1,126 @@
+//! The ways by which steps come into the states of a graph, in the order of the states.
+//!
+//! The kinds of the edges into each state stand in a row, and a set keeps each way once. So the time
+//! is linear in the states and edges.
+
+ghost use Rattle.std.specs.Prelude.{◌≡◌, ◌↔◌, ℕ, ◌+◌, ◌<◌, List, [], ◌∷◌, ◌++◌, true, Some, length, slice_get, slice_set, Contains, IfOk, OnOk};
+ghost use Rattle.ux_state_places.specs.Arrivals.{AreArrivals, HaveInsideTargets, hub_arrival};
+ghost use Rattle.ux_state_places.specs.Arriving.{AddKinds, AreAdded, AreInOrder, AreKindsInto, IsOneMore, IsWayInto, kinds_at, way_into};
+
+use crate::arrival::{Arrival, Kind, kind_of_label};
+use indexmap::IndexSet;
+use std::alloc::{AllocError, Global};
+use std::hash::Hash;
+use std::mem;
+use ux_base::{Lst, Mem};
+use ux_net::{Edge, State};
+
+/// The ways into the states, that of the start first, each once.
+pub fn arrivals_of(alloc: Global, states: &[State]) -> Mem<IndexSet<Arrival>>
+    requires some { 0 < length states.now }
+    requires few { length states.now < 4294967296 }
+    requires inside { HaveInsideTargets states.now }
+    ensures { IfOk result (λ arrivals. AreArrivals states.now arrivals.keys) }
+{
+    let rows = kinds_into(alloc, states)?;
+    let mut arrivals = IndexSet::new(alloc);
+    for state in 0..states.len() {
+        push_arrivals(&mut arrivals, state as u32, rows[state].as_slice())?;
+    }
+    Ok(arrivals)
+}
+
+/// Adds the ways into a state: to its hub, and those of these kinds.
+fn push_arrivals(
+    arrivals: &mut IndexSet<Arrival>,
+    state: u32,
+    kinds: &[Kind],
+) -> Result<(), AllocError>
+    requires { AreInOrder state arrivals.now.keys }
+    ensures first { OnOk result (arrivals.old.keys ≡ [] →
+        slice_get arrivals.new.keys 0 ≡ Some (hub_arrival state)) }
+    ensures added { OnOk result (AreAdded state arrivals.old.keys arrivals.new.keys
+        (IsWayInto kinds.now state)) }
+{
+    add(arrivals, state, Kind::Hub)?;
+    for kind in kinds {
+        add(arrivals, state, *kind)?;
+    }
+    Ok(())
+}
+
+/// Adds the way of this kind into the state, if it is new.
+fn add(arrivals: &mut IndexSet<Arrival>, state: u32, kind: Kind) -> Result<(), AllocError>
+    requires { AreInOrder state arrivals.now.keys }
+    ensures first { OnOk result (arrivals.old.keys ≡ [] →
+        slice_get arrivals.new.keys 0 ≡ Some (way_into state kind)) }
+    ensures added { OnOk result (AreAdded state arrivals.old.keys arrivals.new.keys
+        (λ x. way_into state kind ≡ x)) }
+{
+    insert(arrivals, Arrival { state, kind })?;
+    Ok(())
+}
+
+/// Puts the item behind the others, if it is new.
+fn insert<T: Eq + Hash + Drop>(set: &mut IndexSet<T>, item: T) -> Result<(), AllocError>
+    requires { (a b : T) → (T.eq a b ≡ true) ↔ (a ≡ b) }
+    ensures { OnOk result (IsOneMore set.old.keys item set.new.keys) }
+{
+    set.insert(item)?;
+    Ok(())
+}
+
+/// For each state the kinds of the edges into it.
+fn kinds_into(alloc: Global, states: &[State]) -> Mem<Vec<Lst<Kind>>>
+    requires inside { HaveInsideTargets states.now }
+    ensures len { IfOk result (λ rows. length rows.items ≡ length states.now) }
+    ensures kinds { IfOk result (λ rows. AreKindsInto states.now rows.items) }
+{
+    let mut rows = no_kinds(alloc, states.len())?;
+    for state in states {
+        put_kinds(alloc, &mut rows, state.edges.as_slice())?;
+    }
+    Ok(rows)
+}
+
+/// An empty row for each state.
+fn no_kinds(alloc: Global, count: usize) -> Mem<Vec<Lst<Kind>>>
+    ensures len { IfOk result (λ rows. length rows.items ≡ count) }
+    ensures empty { IfOk result (λ rows. (n : ℕ) → kinds_at rows.items n ≡ []) }
+{
+    let mut rows = Vec::new(alloc);
+    for _ in 0..count {
+        rows.push(Lst::new(Vec::new(alloc)))?;
+    }
+    Ok(rows)
+}
+
+/// Puts the kind of each edge at the end of the row of its target.
+fn put_kinds(alloc: Global, rows: &mut Vec<Lst<Kind>>, edges: &[Edge]) -> Result<(), AllocError>
+    requires inside { (edge : Edge) → Contains edges.now edge → edge.target < length rows.now.items }
+    ensures len { OnOk result (length rows.new.items ≡ length rows.old.items) }
+    ensures kinds { OnOk result (AddKinds rows.old.items rows.new.items edges.now) }
+{
+    for edge in edges {
+        put(
+            alloc,
+            rows,
+            edge.target as usize,
+            kind_of_label(&edge.label),
+        )?;
+    }
+    Ok(())
+}
+
+/// Puts the kind at the end of the row.
+fn put(alloc: Global, rows: &mut Vec<Lst<Kind>>, state: usize, kind: Kind) -> Result<(), AllocError>
+    requires inside { state < length rows.now.items }
+    ensures len { OnOk result (length rows.new.items ≡ length rows.old.items) }
+    ensures put { OnOk result (rows.new.items ≡
+        slice_set rows.old.items state (kinds_at rows.old.items state ++ kind ∷ [])) }
+{
+    let mut row = mem::replace(&mut rows[state], Lst::new(Vec::new(alloc))).into_vec();
+    row.push(kind)?;
+    rows[state] = Lst::new(row);
+    Ok(())
+}

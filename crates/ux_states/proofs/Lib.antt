@@ -1,0 +1,11 @@
+pub mod PartedLemmas
+pub mod Found
+pub mod HubLemmas
+pub mod NetStates
+pub mod RunsOfNet
+pub mod MarkedLaw
+pub mod BuildingLemmas
+pub mod TellsLaw
+pub mod SameLetters
+pub mod WordsLaw
+pub mod SoundLaw
