@@ -8,6 +8,7 @@ use Rattle.ux_boxes.specs.Boxes.{Drawn}
 use Rattle.ux_compile.specs.Refusing.{IsCompilable}
 use Rattle.ux_net.specs.declared.net_graph.NetGraph.{NetGraph}
 use Rattle.ux_grammars.specs.Reading.{Compiles}
+use Rattle.ux_grammars.specs.Sources.{of_boxes}
 use Rattle.ux_cmd_bench.specs.Bench.{AreGraphs}
 
 -- the text draws some graph
@@ -19,4 +20,4 @@ pub record IsPhraseNet (letters : Letters) (net : List NetGraph) : Type 0 where
   pub graphs : List Drawn
   pub are : AreGraphs graphs
   pub compilable : IsCompilable letters graphs
-  pub compiles : Compiles letters graphs net
+  pub compiles : Compiles letters (of_boxes graphs) net

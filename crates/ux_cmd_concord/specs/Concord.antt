@@ -6,7 +6,7 @@ use Rattle.ux_base.specs.declared.settings.NoVar.{NoVar}
 use Rattle.ux_base.specs.declared.settings.Policy.{Policy}
 use Rattle.ux_plan.specs.Commands.{Command}
 use Rattle.ux_reasons.specs.declared.reason.Reason.{Reason}
-use Rattle.ux_boxes.specs.Boxes.{box_grammar}
+use Rattle.ux_grammars.specs.Sources.{grammar_of}
 use Rattle.ux_cmd_locate.specs.Reading.{Searched, search_plan}
 use Rattle.ux_cmd_locate.specs.Laws.{search_laws}
 use Rattle.ux_cmd_concord.specs.Applied.{IsAppliedConcordance}
@@ -16,7 +16,7 @@ use Rattle.ux_cmd_concord.specs.declared.layout.Layout.{Layout}
 abbrev pub IsConcordanceOf : (mode : Mode) (policy : Policy) (novar : NoVar) (layout : Layout)
     (read : Searched) → (answer : List ℕ) → Type 0
 IsConcordanceOf mode policy novar layout read answer =
-    IsAppliedConcordance read.letters read.tokens read.dics (box_grammar read.letters read.graphs)
+    IsAppliedConcordance read.letters read.tokens read.dics (grammar_of read.letters read.source)
     mode policy novar layout answer
 
 -- a search whose hits are rendered in this mode, and what the policy keeps of them laid out so

@@ -14,7 +14,7 @@ use ux_plan::Stop;
 use ux_reasons::Reason;
 use ux_texts::read_alphabet;
 
-/// Reads an alphabet and the graphs of a grammar, and gives the text of its net. With `chars` each
+/// Reads an alphabet and a grammar, and gives the text of its net. With `chars` each
 /// letter is a word of its own.
 #[tactic(auto, using(ux_plan::proofs::PlanSteps::plan_steps))]
 pub fn fst2<F: Folder>(

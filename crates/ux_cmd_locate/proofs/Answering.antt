@@ -6,7 +6,7 @@ use Rattle.ux_base.specs.declared.settings.NoVar.{NoVar}
 use Rattle.ux_base.specs.declared.settings.Policy.{Policy}
 use Rattle.ux_base.specs.declared.settings.Policy.TheVariants.{Shortest, Longest, All}
 use Rattle.ux_tokens.specs.Tokens.{Token}
-use Rattle.ux_boxes.specs.Boxes.{box_grammar}
+use Rattle.ux_grammars.specs.Sources.{grammar_of}
 use Rattle.ux_net.specs.Nets.{net_grammar}
 use Rattle.ux_net.specs.Words.{Grammar}
 use Rattle.ux_net.specs.declared.net_graph.NetGraph.{NetGraph}
@@ -94,15 +94,15 @@ pub answered : (graph text alphabet : List ℕ) (names : List (List ℕ)) (mode 
     Answers (locate graph text alphabet names mode policy novar chars) told answer
 answered graph text alphabet names mode policy novar chars told letters net tokens dics answer files
     index = record {
-      read = record { letters = letters; graphs = files.graphs; tokens = tokens; dics = dics };
+      read = record { letters = letters; source = files.source; tokens = tokens; dics = dics };
       comes = files.comes;
       answers = record {
         tables = index.tables;
         applied = index.applied;
         is = index_alike letters tokens index.tables mode novar (net_grammar net)
-            (box_grammar letters files.graphs)
+            (grammar_of letters files.source)
             (λ i j events. let same = same_meaning (applied_text letters tokens index.tables)
-            (box_grammar letters files.graphs) (net_grammar net) files.compiles.same 1 i j events in
+            (grammar_of letters files.source) (net_grammar net) files.compiles.same 1 i j events in
             (same.1, same.0)) policy answer index.is;
       };
     }

@@ -15,13 +15,13 @@ pub search_laws : (graph text alphabet : List ℕ) (names : List (List ℕ)) (ch
     Laws (search_plan graph text alphabet names chars)
 search_laws graph text alphabet names chars = (
   alphabet_sound chars,
-  λ letters. laws_then (λ graphs. reads text (text_format letters) (λ tokens.
+  λ letters. laws_then (λ source. reads text (text_format letters) (λ tokens.
       then (each dictionary_format names) (λ dics.
-      gives (record { letters = letters; graphs = graphs; tokens = tokens; dics = dics }))))
-      (λ graphs. (
+      gives (record { letters = letters; source = source; tokens = tokens; dics = dics }))))
+      (λ source. (
         text_sound letters,
         λ tokens. laws_then (λ dics.
-            gives (record { letters = letters; graphs = graphs; tokens = tokens; dics = dics }))
+            gives (record { letters = letters; source = source; tokens = tokens; dics = dics }))
             (λ dics. tt) (each dictionary_format names)
             (dictionaries_laws names),
       ))

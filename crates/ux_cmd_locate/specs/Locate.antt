@@ -6,7 +6,7 @@ use Rattle.ux_base.specs.declared.settings.NoVar.{NoVar}
 use Rattle.ux_base.specs.declared.settings.Policy.{Policy}
 use Rattle.ux_plan.specs.Commands.{Command}
 use Rattle.ux_reasons.specs.declared.reason.Reason.{Reason}
-use Rattle.ux_boxes.specs.Boxes.{box_grammar}
+use Rattle.ux_grammars.specs.Sources.{grammar_of}
 use Rattle.ux_cmd_locate.specs.Indexes.{IsAppliedIndex}
 use Rattle.ux_cmd_locate.specs.Reading.{Searched, search_plan}
 use Rattle.ux_cmd_locate.specs.Laws.{search_laws}
@@ -15,7 +15,7 @@ use Rattle.ux_cmd_locate.specs.Laws.{search_laws}
 abbrev pub IsIndexOf : (mode : Mode) (policy : Policy) (novar : NoVar) (read : Searched) →
     (answer : List ℕ) → Type 0
 IsIndexOf mode policy novar read answer =
-    IsAppliedIndex read.letters read.tokens read.dics (box_grammar read.letters read.graphs) mode
+    IsAppliedIndex read.letters read.tokens read.dics (grammar_of read.letters read.source) mode
     policy novar answer
 
 -- a search whose hits are rendered in this mode, and kept by this policy

@@ -55,7 +55,8 @@ usage: unitex COMMAND ARGUMENTS
 A mask in a graph takes tokens of a kind, as <WORD>, <NB> or <TOKEN>, or by the
 entries that the dictionaries have for them, as <N:p>, <be.V> or <!DIC>.
 
-A dictionary of forms whose name ends in .udi is read as an image.
+A dictionary of forms whose name ends in .udi is read as an image, a grammar
+whose name ends in .fst2 as a compiled one.
 
 Options and names of files stand in any order, an option as --name value or
 --name=value. After -- all words are names of files. --help and --version stand

@@ -1,20 +1,28 @@
 -- The formats of graphs are sound, so the plans of graphs and grammars keep the laws.
-use Rattle.std.proofs.Common.{arith, ◌≡◌, ◌⊎◌, inl, inr, ℕ, ◌<◌, ◌≤◌, List, [], sym, ◌∙◌, ap}
+use Rattle.std.proofs.Common.{arith, Bool, true, false, ◌≡◌, ◌⊎◌, inl, inr, ℕ, ◌<◌, ◌≤◌, List, [], sym, ◌∙◌, ap}
 use Rattle.ux_plan.specs.Laws.{IsSound, IsSoundTest, Laws}
-use Rattle.ux_plan.specs.Plans.{gives, refusing, said_as, tests}
+use Rattle.ux_plan.specs.Plans.{Plan, gives, refusing, said_as, tests}
 use Rattle.ux_plan.proofs.PlanLaws.{decoded_sound, laws_grows, laws_then, refusing_sound, said_sound}
 use Rattle.ux_reasons.specs.declared.reason.Reason.{Reason}
-use Rattle.ux_reasons.specs.declared.reason.Reason.TheVariants.{Decode, Grf, Net, TooManyGraphs}
+use Rattle.ux_reasons.specs.declared.reason.Reason.TheVariants.{Decode, Fst2, Grf, Net, TooManyGraphs}
 use Rattle.ux_grf.specs.declared.graph.GraphKind.TheVariants.{Plain}
 use Rattle.ux_grf.specs.File.{IsGraphOf}
 use Rattle.ux_grf.specs.declared.graph.Graph.{Graph}
 use Rattle.ux_grf.specs.declared.graph.GrfBox.{GrfBox}
 use Rattle.ux_boxes.specs.Boxes.{Drawn}
+use Rattle.ux_net.specs.StateGraphs.{state_grammar}
+use Rattle.ux_net.specs.declared.state_graph.StateGraph.{StateGraph}
+use Rattle.ux_admission.specs.SoundGrammar.{IsSoundGrammar}
+use Rattle.ux_fst2.specs.Reading.{SaysGraphs}
+use Rattle.ux_fst2.proofs.TagLaws.{tag_once}
 use Rattle.ux_compile.specs.Refusing.{IsCompilable}
 use Rattle.ux_compile.proofs.RefusingLemmas.{compilable_not_refused}
-use Rattle.ux_grammars.specs.Graphs.{IsNoGraph, MOST_GRAPHS, MOST_READS, RefusesGrammar, drawing_format, grammar_plan, graph_format, graphs_plan}
+use Rattle.ux_grammars.specs.Graphs.{IsNoFst2, IsNoGraph, MOST_GRAPHS, MOST_READS, RefusesCompiled, RefusesGrammar, boxes_plan, drawing_format, fst2_format, grammar_plan, graph_format, graphs_plan, plan_by, states_plan}
 use Rattle.ux_alphabet.specs.Letters.{Letters}
-use Rattle.ux_grammars.specs.Naming.{file_of, next_name}
+use Rattle.ux_grammars.specs.Naming.{file_of, is_compiled, next_name}
+use Rattle.ux_grammars.specs.Sources.{of_boxes}
+use Rattle.ux_grammars.proofs.CompiledLaws.{graphs_once, said_not_refused, text_refused_once}
+use Rattle.ux_grammars.proofs.StatesRefusedOnce.{sound_not_refused, states_refused_once}
 use Rattle.ux_grammars.proofs.GrammarRefusedOnce.{grammar_error_once, named_not_memory}
 use Rattle.ux_grammars.proofs.GraphRefusedOnce.{graph_refused_once}
 use Rattle.ux_grammars.proofs.GraphRefusals.{drawn_not_refused, drawn_once}
@@ -92,8 +100,41 @@ grammar_test word letters graphs =
     refusing_sound (IsCompilable letters graphs) (RefusesGrammar word letters graphs)
     (meaning word letters graphs) (one_cause word letters graphs)
 
+boxes_laws : (word : List ℕ) (letters : Letters) → Laws (boxes_plan word letters)
+boxes_laws word letters =
+    laws_then (λ graphs. tests (IsCompilable letters graphs)
+    (refusing (RefusesGrammar word letters graphs)) (gives (of_boxes graphs)))
+    (λ graphs. (grammar_test word letters graphs, tt)) (graphs_plan word) (graphs_laws word)
+
+-- a text says one compiled grammar, and is then not refused; one that is refused is so for one cause
+fst2_sound : IsSound fst2_format
+fst2_sound =
+    decoded_sound Decode (said_as Fst2 SaysGraphs IsNoFst2)
+    (said_sound Fst2 SaysGraphs IsNoFst2 said_not_refused (graphs_once tag_once) text_refused_once)
+
+-- its graphs are refused for one cause, or have a meaning
+states_test : (word : List ℕ) (graphs : List StateGraph) →
+    IsSoundTest (IsSoundGrammar (state_grammar graphs)) (refusing (RefusesCompiled word graphs))
+states_test word graphs =
+    refusing_sound (IsSoundGrammar (state_grammar graphs)) (RefusesCompiled word graphs)
+    (λ file reason sound refused. sound_not_refused graphs refused.1.error sound
+    refused.1.refuses.1 refused.1.refuses.0)
+    (λ file other reason also a b. (
+      a.0 ∙ sym b.0,
+      a.1.is ∙ (ap Net (states_refused_once graphs a.1.error b.1.error a.1.refuses.1 b.1.refuses.1
+          a.1.refuses.0 b.1.refuses.0) ∙ sym b.1.is),
+    ))
+
+states_laws : (word : List ℕ) → Laws (states_plan word)
+states_laws word = (fst2_sound, λ graphs. (states_test word graphs, tt))
+
+-- the laws of one of two plans
+laws_by : {R A : Type 0} (is : Bool) (so other : Plan R A) → Laws so → Laws other →
+    Laws (plan_by is so other)
+laws_by true so other one also = one
+laws_by false so other one also = also
+
 pub grammar_laws : (word : List ℕ) (letters : Letters) → Laws (grammar_plan word letters)
 grammar_laws word letters =
-    laws_then (λ graphs. tests (IsCompilable letters graphs)
-    (refusing (RefusesGrammar word letters graphs)) (gives graphs))
-    (λ graphs. (grammar_test word letters graphs, tt)) (graphs_plan word) (graphs_laws word)
+    laws_by (is_compiled word) (states_plan word) (boxes_plan word letters) (states_laws word)
+    (boxes_laws word letters)

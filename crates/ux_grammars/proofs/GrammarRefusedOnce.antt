@@ -35,13 +35,13 @@ module _ (IsSo : (g node : ℕ) → Type 0) where
   ]
 
 -- a number is that of one name
-one_name : (names : List (List ℕ)) (g : ℕ) (name other : List ℕ) → is_name_at names g name →
+pub one_name : (names : List (List ℕ)) (g : ℕ) (name other : List ℕ) → is_name_at names g name →
     is_name_at names g other → name ≡ other
 one_name names zero name other at also = absurd at
 one_name names (suc n) name other at also = same_Some name other (sym at ∙ also)
 
 -- so the first graph has one name, and the same node is named with it
-first_named : (names : List (List ℕ)) (IsSo : (g node : ℕ) → Type 0) (kind : List ℕ → ℕ → NetError)
+pub first_named : (names : List (List ℕ)) (IsSo : (g node : ℕ) → Type 0) (kind : List ℕ → ℕ → NetError)
     (name other : List ℕ) (node place : ℕ) → IsFirstAmong names IsSo name node →
     IsFirstAmong names IsSo other place → kind name node ≡ kind other place
 first_named names IsSo kind name other node place one also =
@@ -118,7 +118,7 @@ module _ (graphs : List Drawn) where
 -- THE TESTS IN THEIR ORDER
 
 -- of calls, of masks, of contexts, of recursion by contexts, of loops and of recursion
-abbrev step : NetError → ℕ
+abbrev pub step : NetError → ℕ
 step (MissingGraph name) = 0
 step (BadMask name node place) = 1
 step (ContextClose name node) = 2

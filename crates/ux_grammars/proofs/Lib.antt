@@ -1,3 +1,4 @@
+pub mod CompiledLaws
 pub mod CompilingLemmas
 pub mod DrawingLemmas
 pub mod GrammarLaws
@@ -7,4 +8,6 @@ pub mod GraphRefusedOnce
 mod MaskRefusedOnce
 mod NamingExamples
 pub mod ReadingLemmas
+pub mod SaidLemmas
+pub mod StatesRefusedOnce
 pub mod TableLemmas

@@ -1,9 +1,9 @@
 -- The graphs of a grammar: which files are read in which order, what each must be, and why a grammar
 -- is refused. This file carries the crate's public meaning.
-use Rattle.std.specs.Prelude.{◌≡◌, ◌≢◌, ◌⊎◌, ℕ, ◌<◌, ◌≤◌, List, []}
-use Rattle.ux_plan.specs.Plans.{Format, Plan, Tells, decoded, gives, grows, refusing, said_as, tests, then}
+use Rattle.std.specs.Prelude.{◌≡◌, ◌≢◌, ◌⊎◌, ℕ, ◌<◌, ◌≤◌, Bool, true, false, List, []}
+use Rattle.ux_plan.specs.Plans.{Format, Plan, Tells, decoded, gives, grows, reads, refusing, said_as, tests, then}
 use Rattle.ux_reasons.specs.declared.reason.Reason.{Reason}
-use Rattle.ux_reasons.specs.declared.reason.Reason.TheVariants.{Decode, Grf, Net, TooManyGraphs}
+use Rattle.ux_reasons.specs.declared.reason.Reason.TheVariants.{Decode, Fst2, Grf, Net, TooManyGraphs}
 use Rattle.ux_grf.specs.declared.graph.GraphKind.TheVariants.{Plain}
 use Rattle.ux_grf.specs.File as grf
 use Rattle.ux_grf.specs.declared.error.GrfError.{GrfError}
@@ -14,8 +14,15 @@ use Rattle.ux_compile.specs.Refusing as net
 use Rattle.ux_compile.specs.Refusing.{IsCompilable}
 use Rattle.ux_boxes.specs.declared.error.NetError.{NetError}
 use Rattle.ux_boxes.specs.declared.error.NetError.TheVariants as net_error
+use Rattle.ux_net.specs.StateGraphs.{state_grammar}
+use Rattle.ux_net.specs.declared.state_graph.StateGraph.{StateGraph}
+use Rattle.ux_admission.specs.SoundGrammar.{IsSoundGrammar}
+use Rattle.ux_state_places.specs.RefusingStates.{RefusesStates}
+use Rattle.ux_fst2.specs.Reading as fst2
+use Rattle.ux_fst2.specs.declared.error.Fst2Error.{Fst2Error}
 use Rattle.ux_alphabet.specs.Letters.{Letters}
-use Rattle.ux_grammars.specs.Naming.{file_of, named_file, next_name}
+use Rattle.ux_grammars.specs.Naming.{file_of, is_compiled, named_file, next_name}
+use Rattle.ux_grammars.specs.Sources.{Source, of_boxes, of_states}
 
 -- the most graphs that a grammar may have
 abbrev pub MOST_GRAPHS : ℕ
@@ -69,9 +76,41 @@ abbrev pub RefusesGrammar : (word : List ℕ) → Letters → List Drawn → (fi
 RefusesGrammar word letters graphs file reason =
     Tells Net (λ error. net.Refuses letters graphs error × NamesFile word error file) reason
 
--- the graphs of a grammar that has a meaning
-abbrev pub grammar_plan : (word : List ℕ) → Letters → Plan Reason (List Drawn)
-grammar_plan word letters =
+-- the graphs of a grammar of boxes that has a meaning
+abbrev pub boxes_plan : (word : List ℕ) → Letters → Plan Reason Source
+boxes_plan word letters =
     then (graphs_plan word) (λ graphs.
     tests (IsCompilable letters graphs) (refusing (RefusesGrammar word letters graphs))
-    (gives graphs))
+    (gives (of_boxes graphs)))
+
+-- the text says no graphs of states
+abbrev pub IsNoFst2 : (text : List ℕ) → Fst2Error → Type 0
+IsNoFst2 text error = fst2.Refuses text error
+
+-- files whose text says graphs of states
+abbrev pub fst2_format : Format Reason (List StateGraph)
+fst2_format = decoded Decode (said_as Fst2 fst2.SaysGraphs IsNoFst2)
+
+-- the graphs of states are read, and have no meaning: their file is named
+abbrev pub RefusesCompiled : (word : List ℕ) → List StateGraph → (file : List ℕ) → Reason →
+    Type 0
+RefusesCompiled word graphs file reason =
+    (file ≡ word) × Tells Net (λ error. RefusesStates graphs error × (error ≢ net_error.NoMemory))
+    reason
+
+-- a compiled grammar that has a meaning
+abbrev pub states_plan : (word : List ℕ) → Plan Reason Source
+states_plan word =
+    reads word fst2_format (λ graphs.
+    tests (IsSoundGrammar (state_grammar graphs)) (refusing (RefusesCompiled word graphs))
+    (gives (of_states graphs)))
+
+-- the second of two plans, or the first where this is so
+abbrev pub plan_by : {R A : Type 0} → Bool → (so other : Plan R A) → Plan R A
+plan_by true so other = so
+plan_by false so other = other
+
+-- a grammar that has a meaning: a compiled one where the word ends so
+abbrev pub grammar_plan : (word : List ℕ) → Letters → Plan Reason Source
+grammar_plan word letters =
+    plan_by (is_compiled word) (states_plan word) (boxes_plan word letters)

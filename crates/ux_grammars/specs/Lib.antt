@@ -1,3 +1,4 @@
 pub mod Graphs
 pub mod Naming
 pub mod Reading
+pub mod Sources

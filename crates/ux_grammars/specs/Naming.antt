@@ -1,6 +1,6 @@
 -- The names of the graphs of a grammar: in which files they stand, and in which order they are read.
 -- This file carries public meaning.
-use Rattle.std.specs.Prelude.{ℕ, zero, suc, ◌-◌, nat_eq, if◌then◌else◌, List, ◌∷◌, ◌++◌, length, take, codes, Option, slice_get}
+use Rattle.std.specs.Prelude.{Bool, ℕ, zero, suc, ◌-◌, nat_eq, if◌then◌else◌, List, ◌∷◌, ◌++◌, length, take, codes, Option, slice_get}
 use Rattle.std.specs.List.{ends_with, flat_map}
 use Rattle.std.specs.Str.{bytes_eq}
 use Rattle.ux_plan.specs.FileNames.{base_of, folder_of}
@@ -12,6 +12,10 @@ use Rattle.ux_boxes.specs.Refusing.{calls_of}
 abbrev pub without_ending : List ℕ → List ℕ
 without_ending name =
     if ends_with nat_eq name (codes ".grf") then take (length name - 4) name else name
+
+-- the word names the file of a compiled grammar
+abbrev pub is_compiled : List ℕ → Bool
+is_compiled word = ends_with nat_eq word (codes ".fst2")
 
 -- the name of the main graph, whose file the word names
 abbrev pub main_name : List ℕ → List ℕ

@@ -8,9 +8,12 @@ use Rattle.ux_reasons.specs.declared.reason.Reason.{Reason}
 use Rattle.ux_grf.specs.Size.{size_of}
 use Rattle.ux_grf.specs.WellFormed.{IsWellFormed}
 use Rattle.ux_grf.specs.declared.graph.Graph.{Graph}
-use Rattle.ux_boxes.specs.Boxes.{Drawn, box_grammar}
+use Rattle.ux_boxes.specs.Boxes.{Drawn}
 use Rattle.ux_compile.specs.Compiling.{IsConstructed}
 use Rattle.ux_net.specs.Nets.{net_grammar}
+use Rattle.ux_net.specs.StateGraphs.{AreInsideStates}
+use Rattle.ux_net.specs.Whole.{HaveSameStates}
+use Rattle.ux_net.specs.declared.state_graph.StateGraph.{StateGraph}
 use Rattle.ux_boxes.specs.Refusing.{AreWhole, drawn}
 use Rattle.ux_net.specs.Words.{SayTheSame}
 use Rattle.ux_boxes.specs.declared.error.NetError.{NetError}
@@ -19,6 +22,7 @@ use Rattle.ux_net.specs.declared.net_graph.NetGraph.{NetGraph}
 use Rattle.ux_grammars.specs.Graphs.{MOST_GRAPHS}
 use Rattle.ux_alphabet.specs.Letters.{Letters}
 use Rattle.ux_grammars.specs.Naming.{names_after}
+use Rattle.ux_grammars.specs.Sources.{Source, grammar_of, of_boxes, of_states}
 
 -- what every graph that is read has: it is well formed, and not too large to be numbered
 pub record IsGivenGraph (graph : Graph) : Type 0 where
@@ -58,14 +62,25 @@ IsPlaced (LeftRecursion graph node) = ⊤
 IsPlaced (MissingGraph name) = ⊥
 IsPlaced NoMemory = ⊤
 
--- the net says the same as the graphs, and has the states of their boxes
-pub record Compiles (letters : Letters) (graphs : List Drawn) (net : List NetGraph) : Type 0 where
-  pub same : SayTheSame (box_grammar letters graphs) (net_grammar net)
-  pub built : IsConstructed letters graphs net
+-- graphs of states that a net can be made of: there are not too many, and edges stay inside
+pub record AreStateGraphs (graphs : List StateGraph) : Type 0 where
+  pub some : 1 ≤ length graphs
+  pub few : length graphs ≤ MOST_GRAPHS
+  pub inside : AreInsideStates graphs
 
--- the net is that of the graphs to which the plan of a grammar comes
-pub record HasNet (plan : Plan Reason (List Drawn)) (told : Option Files)
+-- the net has the states that are made of the boxes, or the very states that were told
+abbrev pub HasStatesOf : Letters → Source → (net : List NetGraph) → Type 0
+HasStatesOf letters (of_boxes graphs) net = IsConstructed letters graphs net
+HasStatesOf letters (of_states graphs) net = HaveSameStates net graphs
+
+-- the net says the same as the grammar, and has its states
+pub record Compiles (letters : Letters) (source : Source) (net : List NetGraph) : Type 0 where
+  pub same : SayTheSame (grammar_of letters source) (net_grammar net)
+  pub states : HasStatesOf letters source net
+
+-- the net is that of the grammar to which the plan comes
+pub record HasNet (plan : Plan Reason Source) (told : Option Files)
     (letters : Letters) (net : List NetGraph) : Type 0 where
-  pub graphs : List Drawn
-  pub comes : Comes plan told graphs
-  pub compiles : Compiles letters graphs net
+  pub source : Source
+  pub comes : Comes plan told source
+  pub compiles : Compiles letters source net

@@ -1,15 +1,17 @@
-//! The net of a grammar.
+//! The net of a grammar: of graphs that are drawn, or of a compiled one.
 
 ghost use Rattle.std.specs.Prelude.{◌≡◌, ◌⊎◌, ℕ, List, IfErr, IfOk, OnOk};
 ghost use Rattle.ux_base.specs.Outside.{IsLater};
 ghost use Rattle.ux_plan.specs.Plans.{Halts, StopsTest, refusing};
 ghost use Rattle.ux_boxes.specs.Refusing.{drawn};
 ghost use Rattle.ux_compile.specs.Refusing.{IsCompilable};
-ghost use Rattle.ux_grammars.specs.Graphs.{NamesFile, RefusesGrammar, grammar_plan};
+ghost use Rattle.ux_grammars.specs.Graphs.{NamesFile, RefusesGrammar, boxes_plan, grammar_plan};
+ghost use Rattle.ux_grammars.specs.Sources.{of_boxes};
 ghost use Rattle.ux_grammars.specs.Reading.{AreWholeGraphs, Compiles, HasNet, IsPlaced};
 
+use crate::compiled::read_states_net;
 use crate::graphs::read_graphs;
-use crate::naming::named_file;
+use crate::naming::{is_compiled, named_file};
 use std::alloc::Global;
 use ux_alphabet::Alphabet;
 use ux_base::{Folder, Txt};
@@ -19,8 +21,8 @@ use ux_net::Net;
 use ux_plan::Stop;
 use ux_reasons::Reason;
 
-/// Reads the graphs of the grammar whose main graph's file the word names, and compiles them.
-#[tactic(auto, using(ux_plan::proofs::PlanSteps::plan_steps))]
+/// Reads the grammar that the word names: a compiled one where the word ends in `.fst2`, and else the
+/// graphs of which it names the main one's file, which are compiled.
 pub fn read_net<F: Folder>(
     alloc: Global,
     word: &str,
@@ -33,6 +35,28 @@ pub fn read_net<F: Folder>(
         (F.seen folder.old).files alphabet.now) }
     ensures err { IfErr result
         (Halts (grammar_plan word.now alphabet.now)
+        (F.seen folder.old) (F.seen folder.new)) }
+{
+    if is_compiled(word) {
+        return read_states_net(alloc, word, folder);
+    }
+    read_boxes_net(alloc, word, alphabet, folder)
+}
+
+/// Reads the graphs of the grammar whose main graph's file the word names, and compiles them.
+#[tactic(auto, using(ux_plan::proofs::PlanSteps::plan_steps))]
+fn read_boxes_net<F: Folder>(
+    alloc: Global,
+    word: &str,
+    alphabet: &Alphabet,
+    folder: &mut F,
+) -> Result<Net, Stop<Reason>>
+    ensures later { IsLater (F.seen folder.old) (F.seen folder.new) }
+    ensures ok { IfOk result
+        (HasNet (boxes_plan word.now alphabet.now)
+        (F.seen folder.old).files alphabet.now) }
+    ensures err { IfErr result
+        (Halts (boxes_plan word.now alphabet.now)
         (F.seen folder.old) (F.seen folder.new)) }
 {
     let graphs = read_graphs(alloc, word, folder)?;
@@ -49,7 +73,8 @@ fn compile(
 ) -> Result<Net, Stop<Reason>>
     requires { AreWholeGraphs graphs.items }
     ensures compilable { OnOk result (IsCompilable alphabet.now (drawn graphs.items)) }
-    ensures compiles { IfOk result (λ net. Compiles alphabet.now (drawn graphs.items) net) }
+    ensures compiles { IfOk result (λ net.
+        Compiles alphabet.now (of_boxes (drawn graphs.items)) net) }
     ensures err { IfErr result (StopsTest (refusing
         (RefusesGrammar word.now alphabet.now (drawn graphs.items)))) }
 {

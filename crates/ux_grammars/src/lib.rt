@@ -13,6 +13,7 @@
 //! ```
 #![tactic(auto)]
 
+mod compiled;
 mod compiling;
 pub mod graphs;
 mod naming;

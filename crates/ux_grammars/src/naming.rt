@@ -1,11 +1,18 @@
 //! The names of graphs, and their files.
 
 ghost use Rattle.std.specs.Prelude.{◌≡◌, IfOk, string_bytes};
-ghost use Rattle.ux_grammars.specs.Naming.{callee_file as file_of_callee, file_of as file_of_graph, main_name as main_name_of, named_file as file_of_named, without_ending as without_ending_of};
+ghost use Rattle.ux_grammars.specs.Naming.{callee_file as file_of_callee, file_of as file_of_graph, is_compiled as is_compiled_of, main_name as main_name_of, named_file as file_of_named, without_ending as without_ending_of};
 
 use std::alloc::Global;
 use ux_base::Mem;
 use ux_plan::{base_of, folder_of};
+
+/// Whether the word names the file of a compiled grammar.
+pub(crate) fn is_compiled(word: &str) -> bool
+    ensures { result ≡ is_compiled_of word.now }
+{
+    word.as_bytes().ends_with(b".fst2")
+}
 
 /// The name of the main graph, whose file the word names.
 pub(crate) fn main_name(word: &str) -> &str

@@ -1,6 +1,6 @@
 -- A run that is not answered ends by what stops the plan of its command, and where all files of it are
 -- accepted, since memory ran out.
-use Rattle.std.proofs.Common.{arith, ◌≡◌, ◌⊎◌, inl, inr, ℕ, Bool, true, false, List, Option, Some, None, Result, Ok, Err, Vec, IfOk, IfErr, length, refl, sym, ap, ◌∙◌, ◌++◌, subst}
+use Rattle.std.proofs.Common.{arith, ◌≡◌, ◌⊎◌, inl, inr, ℕ, List, Option, Some, None, Result, Ok, Err, Vec, IfOk, IfErr, length, refl, sym, ap, ◌∙◌, ◌++◌, subst}
 use Rattle.std.specs.declared.alloc.Global.{Global}
 use Rattle.std.proofs.lemmas.List.{take_all}
 use Rattle.ux_base.specs.Outside.{Appended, AppendedFront, Files, Rose, Seen}
@@ -15,7 +15,7 @@ use Rattle.ux_reasons.specs.declared.reason.Reason.{Reason}
 use Rattle.ux_status.specs.declared.status.Status.{Status}
 use Rattle.ux_status.specs.declared.status.Status.TheVariants.{Done, Usage, Absent, Refused, ReadFault, WriteFault, TooLarge, NoMemory}
 use Rattle.ux_status.specs.Statuses.{line_of}
-use Rattle.ux_run.specs.Running.{Asked, Denies, EndsBy, IsAnswer, IsAnswerable, IsAsked, IsStopped, asks, nothing, only_if, status_of, told_of, unread_command}
+use Rattle.ux_run.specs.Running.{Asked, Denies, EndsBy, IsAnswer, IsAnswerable, IsAsked, IsStopped, asks, nothing, status_of, told_of, unread_command}
 
 -- WHAT A COMMAND ANSWERS
 
@@ -45,24 +45,6 @@ module _ (command : Command Reason) (answer : Result (Vec ℕ Global) (Stop Reas
           IfErr (told_of a) (Denies (asks command) old new)
       by (Ok v) halts = tt
       by (Err s) halts = record { by = s; halts = halts; is = refl }
-
-module _ (test : Bool) (asked : Asked) (result : Result (Vec ℕ Global) Status) where
-  pub built_answers : test ≡ true → (files : Option Files) →
-      IfOk result (λ a. IsAnswer asked files a.items) →
-      IfOk result (λ a. IsAnswer (only_if test asked) files a.items)
-  built_answers is files answers =
-      subst (λ (t : Bool). IfOk result (λ a. IsAnswer (only_if t asked) files a.items)) (sym is)
-      answers
-
-  pub built_denies : test ≡ true → (old new : Seen) → IfErr result (Denies asked old new) →
-      IfErr result (Denies (only_if test asked) old new)
-  built_denies is old new denies =
-      subst (λ (t : Bool). IfErr result (Denies (only_if t asked) old new)) (sym is) denies
-
-pub unbuilt : (test : Bool) (asked : Asked) (old new : Seen) → test ≡ false →
-    Denies (only_if test asked) old new Usage
-unbuilt test asked old new is =
-    subst (λ (t : Bool). Denies (only_if t asked) old new Usage) (sym is) (inl refl)
 
 -- memory may run out before anything is answered
 pub memory_denies : (asked : Asked) (old new : Seen) → Denies asked old new NoMemory

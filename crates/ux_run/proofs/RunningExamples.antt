@@ -11,10 +11,10 @@ use Rattle.ux_status.specs.declared.status.Status.{Status}
 use Rattle.ux_status.specs.declared.status.Status.TheVariants.{NoMemory}
 use Rattle.ux_run.specs.Running.{Denies, IsAsked, IsStopped, asked_by, asked_of, status_of}
 
--- a compiled graph is not searched by yet
+-- a compiled grammar is searched by
 compiled_graph :
-    IsAsked (asked_by (codes "locate" ∷ codes "g.fst2" ∷ codes "t.txt" ∷ codes "a.txt" ∷ [])) → ⊥
-compiled_graph is = is
+    IsAsked (asked_by (codes "locate" ∷ codes "g.fst2" ∷ codes "t.txt" ∷ codes "a.txt" ∷ []))
+compiled_graph = tt
 
 -- a dictionary that is a text is
 a_dictionary : IsAsked (asked_by (codes "locate" ∷ codes "g.grf" ∷ codes "t.txt" ∷ codes "a.txt"
@@ -42,8 +42,8 @@ a_concordance : IsAsked (asked_by (codes "concord" ∷ codes "--left=5" ∷ code
 a_concordance = tt
 
 a_compiled_concordance :
-    IsAsked (asked_by (codes "concord" ∷ codes "g.fst2" ∷ codes "t.txt" ∷ codes "a.txt" ∷ [])) → ⊥
-a_compiled_concordance is = is
+    IsAsked (asked_by (codes "concord" ∷ codes "g.fst2" ∷ codes "t.txt" ∷ codes "a.txt" ∷ []))
+a_compiled_concordance = tt
 
 some_tokens : IsAsked (asked_by (codes "tokenize" ∷ codes "t.txt" ∷ codes "a.txt" ∷ []))
 some_tokens = tt
@@ -53,8 +53,9 @@ a_compiled_grammar :
     IsAsked (asked_by (codes "fst2" ∷ codes "--chars" ∷ codes "g.grf" ∷ codes "a.txt" ∷ []))
 a_compiled_grammar = tt
 
-a_compiled_file : IsAsked (asked_by (codes "fst2" ∷ codes "g.fst2" ∷ codes "a.txt" ∷ [])) → ⊥
-a_compiled_file is = is
+-- or read from a file of one
+a_compiled_file : IsAsked (asked_by (codes "fst2" ∷ codes "g.fst2" ∷ codes "a.txt" ∷ []))
+a_compiled_file = tt
 
 an_image : IsAsked (asked_by (codes "check" ∷ codes "d.udi" ∷ []))
 an_image = tt

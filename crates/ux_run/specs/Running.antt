@@ -28,17 +28,11 @@ use Rattle.ux_cmd_elag.specs.Elag.{elag}
 use Rattle.ux_cmd_bench.specs.Bench.{IsSummaryOf}
 use Rattle.ux_status.specs.declared.status.Status.{Status}
 use Rattle.ux_status.specs.declared.status.Status.TheVariants.{Done, Usage, Absent, Refused, ReadFault, WriteFault, TooLarge, NoMemory}
-use Rattle.ux_run.specs.Requests.{is_drawn}
 
 -- what is asked for: nothing that there is, or a command
 pub data Asked : Type 1 where
   nothing : Asked
   asks : Command Reason → Asked
-
--- this where the test holds, and else nothing
-abbrev pub only_if : Bool → Asked → Asked
-only_if true asked = asked
-only_if false asked = nothing
 
 -- the command that reads nothing, and whose answer is so
 abbrev pub unread_command : (List ℕ → Type 0) → Command Reason
@@ -67,16 +61,14 @@ concordance_command search left right sort =
 
 -- what a request asks for: a command where it is built
 abbrev pub asked_of : Request → Asked
-asked_of (Locate search) = only_if (is_drawn search.graph) (asks (index_command search))
-asked_of (Concord search left right sort) =
-    only_if (is_drawn search.graph) (asks (concordance_command search left right sort))
+asked_of (Locate search) = asks (index_command search)
+asked_of (Concord search left right sort) = asks (concordance_command search left right sort)
 asked_of (Tokenize text alphabet chars) = asks (tokenize text alphabet chars)
 asked_of (Check false file) = asks (check_entries file)
 asked_of (Check true file) = asks (check_stems file)
 asked_of (Compress dic) = asks (compress dic)
 asked_of (Dico text alphabet dics chars) = asks (dico text alphabet dics chars)
-asked_of (Fst2 graph alphabet chars) =
-    only_if (is_drawn graph) (asks (fst2 graph alphabet chars))
+asked_of (Fst2 graph alphabet chars) = asks (fst2 graph alphabet chars)
 asked_of (Tfst text alphabet dics chars) = asks (txt2tfst text alphabet dics chars)
 asked_of (Elag tfst rules) = asks (elag tfst rules)
 asked_of (Bench n) = asks (unread_command (IsSummaryOf n))

@@ -7,7 +7,6 @@ ghost use Rattle.ux_plan.specs.Plans.{Halts};
 ghost use Rattle.ux_cmd_bench.specs.Bench.{IsSummaryOf};
 ghost use Rattle.ux_run.specs.Running.{Denies, IsAnswer, asked_of, concordance_command, index_command};
 
-use crate::built::is_drawn;
 use crate::stops::by_command;
 use std::alloc::Global;
 use ux_base::{Folder, Sort};
@@ -39,17 +38,13 @@ pub fn answer_to<F: Folder>(
         (Denies (asked_of request.now) (F.seen folder.old) (F.seen folder.new)) }
 {
     match request {
-        Request::Locate(search) if is_drawn(search.graph.as_str()) => {
-            by_command(index_of(alloc, search, folder))
-        }
+        Request::Locate(search) => by_command(index_of(alloc, search, folder)),
         Request::Concord {
             search,
             left,
             right,
             sort,
-        } if is_drawn(search.graph.as_str()) => {
-            by_command(concordance_of(alloc, search, *left, *right, *sort, folder))
-        }
+        } => by_command(concordance_of(alloc, search, *left, *right, *sort, folder)),
         Request::Tokenize {
             text,
             alphabet,
@@ -75,9 +70,7 @@ pub fn answer_to<F: Folder>(
             graph,
             alphabet,
             chars,
-        } if is_drawn(graph.as_str()) => {
-            by_command(fst2(alloc, graph.as_str(), alphabet.as_str(), *chars, folder))
-        }
+        } => by_command(fst2(alloc, graph.as_str(), alphabet.as_str(), *chars, folder)),
         Request::Tfst {
             text,
             alphabet,
@@ -93,10 +86,7 @@ pub fn answer_to<F: Folder>(
         Request::Bench { n } => summary_of(alloc, *n),
         Request::Help => text_of(alloc, HELP),
         Request::Version => text_of(alloc, VERSION),
-        Request::Locate(_)
-        | Request::Concord { .. }
-        | Request::Fst2 { .. }
-        | Request::Inflect { .. }
+        Request::Inflect { .. }
         | Request::Cascade { .. }
         | Request::Flatten { .. }
         | Request::Tfind { .. }

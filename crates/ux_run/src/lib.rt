@@ -2,11 +2,10 @@
 //!
 //! `top_call::run` does the work over a folder and two sinks; the program `unitex` gives it the real
 //! ones. What is asked for is told by one table, `asked_of` in `specs/Running.antt`: for each request
-//! the command that answers it. Here `commands` has a line for each, and `built` which requests there
-//! are; reading and work stand in the crates of the commands. `stops` has what stops a command as a status.
+//! the command that answers it. Here `commands` has a line for each; reading and work stand in the
+//! crates of the commands. `stops` has what stops a command as a status.
 #![tactic(auto)]
 
-mod built;
 mod commands;
 mod stops;
 mod top_call;

@@ -13,18 +13,18 @@ returns-in_err-net-clause-err g c =
     rw (p.1, p.2) (halts_later _ _ _ _ _ _ _ _ letters.ok letters.later
     (halts_first _ _ _ _ _ c.in_err-net.ensures.err))
 
--- the letters and the graphs were read, and the text is that of their net
+-- the letters and the grammar were read, and the text is that of their net
 pub returns-clause-ok : goal.returns-clause-ok
 returns-clause-ok g c =
     let letters = c.in_ok-alphabet.ensures in
     let net = c.in_ok-net.ensures in
     let comes = rw letters.later.kept at net.ok.comes in
     record {
-      read = (c.in_ok-alphabet.alphabet, net.ok.graphs);
+      read = (c.in_ok-alphabet.alphabet, net.ok.source);
       comes = comes_read _ _ _ _ _ _ letters.ok (comes_then _ _ _ _ _ comes (comes_gives _ _ _));
       answers = record {
         net = c.in_ok-net.net;
-        constructed = net.ok.compiles.built;
+        states = net.ok.compiles.states;
         is = subst (IsTextOf c.in_ok-net.net)
             (sym (ap (λ (v : Vec ℕ Global). v.items) c.into_bytes.ensures.value))
             c.in_ok-file.ensures.is;

@@ -47,7 +47,7 @@ returns-clause-ok g c =
     let three = later_both _ _ _ both text.later in
     let dics = rw three.kept at c.in_ok-dics.ensures.ok in
     record {
-      graphs = net.ok.graphs;
+      source = net.ok.source;
       comes = comes_read _ _ _ _ _ _ letters.ok
           (comes_then _ _ _ _ _ comes (comes_read _ _ _ _ _ _ has
           (comes_then _ _ _ _ _ dics (comes_gives _ _ _))));

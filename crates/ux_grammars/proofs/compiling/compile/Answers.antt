@@ -10,5 +10,5 @@ refused_net-requires c =
 pub returns-in-Ok-clause-compiles : goal.returns-in-Ok-clause-compiles
 returns-in-Ok-clause-compiles c = record {
   same = c.in-Ok.ensures.words;
-  built = c.in-Ok.ensures.built;
+  states = c.in-Ok.ensures.built;
 }

@@ -1,7 +1,8 @@
 use Rattle.std.proofs.lemmas.Result.{err_from_is_err_and}
 use Rattle.ux_plan.proofs.PlanSteps.{comes_gives, comes_test, comes_then, halts_second, halts_test}
 use Rattle.ux_boxes.specs.Refusing.{drawn}
-use Rattle.ux_grammars.proofs.compiling.read_net.Goals as goal
+use Rattle.ux_grammars.specs.Sources.{of_boxes}
+use Rattle.ux_grammars.proofs.compiling.read_boxes_net.Goals as goal
 
 -- the graphs were read, and are refused
 pub returns-in_err-net-clause-err : goal.returns-in_err-net-clause-err
@@ -16,7 +17,7 @@ pub returns-clause-ok : goal.returns-clause-ok
 returns-clause-ok g c =
     let net = c.in_ok-net.ensures in
     record {
-      graphs = drawn c.in_ok-graphs.graphs.items;
+      source = of_boxes (drawn c.in_ok-graphs.graphs.items);
       comes = comes_then _ _ _ _ _ c.in_ok-graphs.ensures.ok
           (comes_test _ _ _ _ _ net.compilable (comes_gives _ _ _));
       compiles = net.compiles;
