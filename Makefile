@@ -8,6 +8,7 @@
 # `make install PREFIX=DIR` puts the built program, its manual page, the documents and their examples under DIR.
 # `make bench` times searches beside GNU grep, the tokens of a text beside a C program, dictionaries beside wc and
 # grep, and images beside a map of the crate fst, which it compiles from Debian's package of its sources.
+# `make hostile` runs each command over the inputs that cost it most, and fails where time or memory grows more than it may.
 # `make images` changes each byte of two small images, and compares what the built program says with a reading by itself.
 # `make wrong-bodies NAMES="ux_dela ux_dict"` tries the wrong bodies of these crates that the gate leaves out, each of which the
 # prover has to refuse; `make wrong-bodies SINCE=COMMIT` those of each crate whose own files differ from that commit's, and
@@ -16,7 +17,7 @@
 
 PREFIX ?= /usr/local
 
-.PHONY: unproved example build tour rows install bench images wrong-bodies gate
+.PHONY: unproved example build tour rows install bench hostile images wrong-bodies gate
 
 # A run by `rt try` is given copies of these, since it sees no files but those that it is handed.
 FILES := time.grf part.grf text.txt alphabet.txt
@@ -69,6 +70,10 @@ bench:
 	@bench/contexts.py
 	@bench/concord.py
 	@bench/images.py
+	@bench/compiled.py
+
+hostile:
+	@bench/hostile.py
 
 images:
 	@bench/image_bytes.py

@@ -407,6 +407,62 @@ MERGE, LONGEST, SHORTEST = ("--mode", "merge"), ("--policy", "longest"), ("--pol
 # Compiled grammars.
 
 
+def compiled(graphs, tags):
+    """The file of graphs, each a list of lines of states, and of tags after the empty word."""
+    lines = ["%010d" % len(graphs)]
+    for number, states in enumerate(graphs, 1):
+        lines += [f"-{number} g{number}", *states, "f"]
+    return (put("g.fst2", "\n".join([*lines, "%<E>", *tags, "f"]) + "\n"), text("a a"), letters())
+
+
+def printed(words):
+    """The words of fst2, which reads no text."""
+    return (words[0], words[2])
+
+
+@case("fst2", 50_000)
+def chain_of_states(n):
+    """n states in a chain"""
+    return printed(compiled([[f": 1 {k + 1}" for k in range(n)] + ["t"]], ["%a"]))
+
+
+@case("fst2", 50_000)
+def edges_of_one_state(n):
+    """n edges of one state"""
+    return printed(compiled([[": " + "1 1 " * n, "t"]], ["%a"]))
+
+
+@case("fst2", 50_000)
+def tags_of_one_use(n):
+    """n edges, each with a tag of its own"""
+    return printed(compiled([[": " + " ".join(f"{k + 1} 1" for k in range(n)), "t"]], [f"%w{k}" for k in range(n)]))
+
+
+@case("fst2", 10_000)
+def graphs_of_one_state(n):
+    """n graphs of one state"""
+    return printed(compiled([["t"] for _ in range(n)], []))
+
+
+@case("locate", 50_000)
+def states_that_nothing_leads_to(n):
+    """n states to which nothing leads, each with an empty edge to itself"""
+    return compiled([[": 1 1", "t"] + [f": 0 {k + 2}" for k in range(n)]], ["%a"])
+
+
+@case("locate", 20_000)
+def states_in_a_ring_of_empty_edges(n):
+    """n empty edges in a chain"""
+    return compiled([[f": 0 {k + 1}" for k in range(n)] + [f": 1 {n + 1}", "t"]], ["%a"])
+
+
+@case("locate", 500, 2, 1, status=3)
+def contexts_closed_in_all_states(n):
+    """a negative context that is closed into n states"""
+    return compiled([[": 1 1", ": " + " ".join(f"3 {k + 2}" for k in range(n))] + [": 2 %d" % (k + 2 + n) for k in range(n)]
+                     + ["t"] * n], ["%$![", "%$]", "%a"])
+
+
 @case("fst2", 10_000)
 def boxes_compiled(n):
     """n boxes of a word in a chain, compiled"""
