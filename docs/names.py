@@ -27,6 +27,7 @@ import speeds
 TOP = os.path.dirname(os.path.dirname(os.path.abspath(__file__)))
 CRATES = os.path.join(TOP, "crates")
 DECLARED = re.compile(r"^ *(?:(?:abbrev|unfoldable|opaque) pub|pub (?:record|data)) ([\w-]+)(?= |$)", re.M)
+CONSTRUCTOR = re.compile(r"^  (\w+) : ", re.M)
 IMPORT = re.compile(r"ghost use Rattle\.(ux_\w+)\.specs\.(\w+)\.\{([^}]*)\};")
 PLANNED = re.compile(r"\*`[^`]+`\*")
 NAME = re.compile(r"`([^`]+)`")
@@ -52,9 +53,9 @@ def rows(path):
 
 
 def declared(crate, file):
-    """What a file of a crate's specs/ declares; `*` stands for all of them."""
+    """What a file of a crate's specs/ declares, constructors among it; `*` stands for all of them."""
     paths = glob.glob(os.path.join(CRATES, crate, "specs", f"{file}.antt"))
-    return {name for path in paths for name in DECLARED.findall(text_of(path))}
+    return {name for path in paths for kind in (DECLARED, CONSTRUCTOR) for name in kind.findall(text_of(path))}
 
 
 def defined(problems):
