@@ -456,6 +456,12 @@ def states_in_a_ring_of_empty_edges(n):
     return compiled([[f": 0 {k + 1}" for k in range(n)] + [f": 1 {n + 1}", "t"]], ["%a"])
 
 
+@case("locate", 15_000)
+def compiled_graphs_in_a_chain_of_calls(n):
+    """n compiled graphs, each of which calls the next"""
+    return compiled([[": 1 1", f": -{k + 2} 2", "t"] for k in range(n - 1)] + [[": 1 1", "t"]], ["%a"])
+
+
 @case("locate", 500, 2, 1, status=3)
 def contexts_closed_in_all_states(n):
     """a negative context that is closed into n states"""
