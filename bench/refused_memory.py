@@ -1,6 +1,6 @@
 #!/usr/bin/env python3
-"""Refuses each request for memory in turn, over small searches, dictionaries, images, sentences and rules: the run then ends as
-it would have, or in status 7 with nothing written to standard output.
+"""Refuses each request for memory in turn, over small searches, dictionaries, images, compiled grammars, sentences and
+rules: the run then ends as it would have, or in status 7 with nothing written to standard output.
 
 A small library, compiled by cc, stands before the C library's `malloc` and `realloc` (LD_PRELOAD) and refuses the request of
 one number; each number is tried up to those that the run makes. Prints how many requests a run makes and how the runs ended,
@@ -77,9 +77,12 @@ FILES = {
                     ("<=>", [8]), ("<DET>", [9]), ("<=>", [10]), ("<N>", [11]), ("<=>", [1])]),
 }
 SEARCH = ("locate", "--mode", "merge", "g.grf", "t.txt", "a.txt")
+# Files that the program itself writes, and the words by which it does.
+WRITTEN = {"d.udi": ("compress", "d.dic"), "g.fst2": ("fst2", "g.grf", "a.txt")}
 ROWS = [
     (*SEARCH, "d.dic"),
     (*SEARCH, "d.udi"),
+    ("locate", "--mode", "merge", "g.fst2", "t.txt", "a.txt", "d.dic"),
     ("concord", "g.grf", "t.txt", "a.txt", "d.dic"),
     ("tokenize", "t.txt", "a.txt"),
     ("check", "d.dic"),
@@ -89,6 +92,8 @@ ROWS = [
     ("dico", "t.txt", "a.txt", "d.dic"),
     ("txt2tfst", "run.txt", "a.txt", "run.dic"),
     ("elag", "run.tfst", "r.grf"),
+    ("fst2", "g.grf", "a.txt"),
+    ("fst2", "g.fst2", "a.txt"),
     ("bench", "5"),
     # These end otherwise: a dictionary that is none, a file that isn't there, words that are no request.
     ("check", "t.txt"),
@@ -109,8 +114,9 @@ def prepared(program):
     for name, content in FILES.items():
         with open(os.path.join(FOLDER, name), "w", encoding="utf-8") as file:
             file.write(content)
-    with open(os.path.join(FOLDER, "d.udi"), "wb") as file:
-        file.write(run([program, "compress", "d.dic"])[1])
+    for name, words in WRITTEN.items():
+        with open(os.path.join(FOLDER, name), "wb") as file:
+            file.write(run([program, *words])[1])
     source, library = [os.path.join(FOLDER, name) for name in ("refusing.c", "refusing.so")]
     with open(source, "w", encoding="utf-8") as file:
         file.write(LIBRARY)
