@@ -69,15 +69,18 @@ def defined(problems):
         elif row[:2] == ["Name", "Word"]:
             where = next((row.index(name) for name in ("Where", "File") if name in row), None)
         elif crate or where:
-            # A name in parentheses is the file of the names before it.
+            # A name in parentheses is the file of the names before it. A file without a crate is of the one before it.
             cell, _, inside = PLANNED.sub("", row[1]).partition(" (")
-            stands = NAME.findall(inside) or (NAME.findall(row[where]) if where else files)
-            source = stands[0].split("/")[0] if stands and "/" in stands[0] else crate
-            stands = [name.split("/")[-1].removesuffix(".antt") for name in stands] or ["*"]
+            stands, source = [], crate
+            for name in NAME.findall(inside) or (NAME.findall(row[where]) if where else files) or ["*"]:
+                source = name.split("/")[0] if "/" in name else source
+                stands.append((source, name.split("/")[-1].removesuffix(".antt")))
             for word in NAME.findall(cell):
-                words.add(word)
-                if not any(word in declared(source, file) for file in stands):
-                    problems.append(f"{page}:{number}: {word} isn't declared in {', '.join(stands)} of {source}")
+                found = [source for source, file in stands if word in declared(source, file)]
+                words.update((source, word) for source in found)
+                if not found:
+                    named = ", ".join(f"{source}/{file}" for source, file in stands)
+                    problems.append(f"{page}:{number}: {word} isn't declared in {named}")
     return words
 
 
@@ -235,7 +238,7 @@ def main():
     proved("docs/PROVED.md", problems)
     proved("docs/CONTRACTS.md", problems)
     for (word, crate, file), function in sorted(cited().items(), key=lambda pair: pair[0][1:]):
-        if word not in words:
+        if (crate, word) not in words:
             problems.append(f"docs/DEFINITIONS.md: {word} of {crate}/specs/{file}.antt is missing, cited by {function}")
     links = linked(problems)
     copied(problems)
@@ -244,4 +247,5 @@ def main():
     sys.exit(1 if problems else 0)
 
 
-main()
+if __name__ == "__main__":
+    main()
