@@ -11,7 +11,7 @@ An example stands in a fenced block of README.md or docs/*.md, or in the manual 
 - A line `$ unitex .. > FILE` is a command whose standard output is the file FILE of examples/, whole. Of a line
   `$ unitex .. | ..` the shell does what stands after the program.
 - A line `$ ./graph.py .. > FILE` is the same of the script of examples/ that makes graphs.
-- A line `$ cat FILE` shows a file of examples/, and `$ diff FILE FILE` in what two of them differ.
+- A line `$ cat FILE` shows a file of examples/, and `$ diff FILE FILE` in what two of them differ, also before a `|`.
 - A block that begins with ```text FILE is the whole of that file of examples/, and one that begins with
   ```text FILE part is some lines of it, as they stand there one below the other.
 - Another block of kind text is refused, so that none is left out by mistake.
@@ -68,7 +68,7 @@ def lines_of(path):
 
 
 def blocks(path):
-    """The fenced blocks of a document: the number of the first line, what stands behind the fence, and the lines."""
+    """The fenced blocks of a document: the number of the first line, what stands after the fence, and the lines."""
     begun = None
     for number, line in enumerate(lines_of(path), 1):
         if begun is None and line.startswith("```"):
@@ -89,7 +89,7 @@ def sessions(path, begun, block):
             command, _, remark = line[2:].partition(" #")
             status = re.search(r"\bstatus (\d+)$", remark)
             words, _, kept = command.partition(" > ")
-            words, _, pipe = words.partition(" | ") if words.startswith("unitex ") else (words, "", "")
+            words, _, pipe = words.partition(" | ") if words.startswith(("unitex ", "diff ")) else (words, "", "")
             ending = int(status[1]) if status else 0
             shown = Shown(f"{path}:{number}", shlex.split(words), "", ending, kept=kept.strip(), pipe=pipe)
             yield shown
@@ -232,7 +232,7 @@ def main():
         elif shown.words[0] == "part":
             answer = part(shown.words[1], shown.text)
         elif shown.words[0] == "diff":
-            answer = diff(shown.words[1:])
+            answer = piped(shown.pipe, *diff(shown.words[1:]))
         else:
             answer = "this is no command of the tour\n", 127
         good += compare(shown, *answer)
