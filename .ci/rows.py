@@ -140,7 +140,7 @@ class Reader:
         elif word == "status":
             self.rows[-1].status = number_of(rest, 255)
         elif rest != "":
-            raise Malformed("nothing stands behind this word")
+            raise Malformed("nothing follows this word")
 
     def begin(self, named):
         if self.name == "" or self.name in named:

@@ -3,7 +3,7 @@
 a context in front of it, `$![`, `<V>`, `$]`, beside the phrase alone: a generated dictionary of 150,000 lines, a third of
 them compounds, over a text of 2 MB. Calls that multiply: a graph that calls itself in two ways and fails in both, over 40
 and over 4,000 tokens; graphs that call themselves and never come to their ends; thirty graphs that each call the next
-twice, of which the last takes nothing; calls inside each other that may each end. Two hundred graphs of ten phrases behind
+twice, of which the last takes nothing; calls inside each other that may each end. Two hundred graphs of ten phrases after
 a context, over 4 MB. A graph that calls itself 50,000 times, beside a loop over as many tokens, and 500 to 2,000 times with
 an output. Prints the best of three runs, what each found, and peak memory.
 
@@ -54,8 +54,8 @@ def failing(alphabet):
 
 
 def going_down(alphabet):
-    """A graph that calls itself behind `a`, and ends at `b`, which isn't there: each start goes down to the text's end."""
-    print("a graph that calls itself at its end, and one that goes on behind the call, over a text of `a` alone")
+    """A graph that calls itself after `a`, and ends at `b`, which isn't there: each start goes down to the text's end."""
+    print("a graph that calls itself at its end, and one that goes on after the call, over a text of `a` alone")
     write("down.grf", graph([("<E>", [2, 3]), ("", []), ("a", [4]), ("a b", [1]), (":down", [1])]))
     write("inside.grf", graph([("<E>", [2]), ("", []), ("a", [3, 4]), (":inside", [4]), ("b", [1])]))
     for count in (4_000, 8_000, 16_000):
@@ -65,7 +65,7 @@ def going_down(alphabet):
 
 
 def doubling(alphabet):
-    """Thirty graphs that each call the next twice, of which the last takes nothing; `a` behind them all."""
+    """Thirty graphs that each call the next twice, of which the last takes nothing; `a` after them all."""
     print("thirty graphs that each call the next twice, the last one takes nothing, over ten words")
     for number in range(1, 30):
         write(f"twice{number}.grf", graph([
@@ -87,7 +87,7 @@ def nested(alphabet):
 
 
 def many(alphabet):
-    """Two hundred graphs of ten phrases over 4 MB, alone and behind a context."""
+    """Two hundred graphs of ten phrases over 4 MB, alone and after a context."""
     print("200 graphs of ten phrases over 4 MB")
     text, phrases = phrases_of(4)
     corpus = corpus_of("many.txt", text)
@@ -98,11 +98,11 @@ def many(alphabet):
     alone = tell("the graphs", write("many.grf", graph([("<E>", [2]), ("", []), (calls, [1])])), corpus, alphabet)
     grammar = write("manybehind.grf", graph([
         ("<E>", [3]), ("", []), (calls, [1]), ("$![", [4]), ("zz", [5]), ("$]", [2])]))
-    print(f"  {tell('behind a context', grammar, corpus, alphabet) / alone:.2f} times as long")
+    print(f"  {tell('after a context', grammar, corpus, alphabet) / alone:.2f} times as long")
 
 
 def depth(alphabet):
-    """`s`, then as many `b` as `a` behind the `a`, by a graph that calls itself; and a loop over as many tokens."""
+    """`s`, then as many `b` as `a` after the `a`, by a graph that calls itself; and a loop over as many tokens."""
     print("a graph that calls itself 50,000 times, and a loop of as many tokens")
     write("deep.grf", graph([("<E>", [2]), ("", []), ("a", [3, 4]), (":deep", [4]), ("b", [1])]))
     grammar = write("deepest.grf", graph([("<E>", [2]), ("", []), ("s", [3]), (":deep", [1])]))
@@ -112,7 +112,7 @@ def depth(alphabet):
     print(f"  {tell('the graph', grammar, text, alphabet, '--policy', 'longest') / flat:.2f} times as long")
     charted = write("charted.grf", graph([
         ("<E>", [2]), ("", []), ("s", [4]), (":deep", [1]), ("$![", [5]), ("zz", [6]), ("$]", [3])]))
-    print(f"  {tell('the same behind a context', charted, text, alphabet, '--policy', 'longest') / flat:.2f} times as long")
+    print(f"  {tell('the same after a context', charted, text, alphabet, '--policy', 'longest') / flat:.2f} times as long")
 
 
 def outputs(alphabet):

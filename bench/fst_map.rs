@@ -48,7 +48,7 @@ fn split(map: &str, text: &str) {
     println!("{} {} {}", map.len(), found, known.len());
 }
 
-/// Puts the numbers of the forms that the text begins with, up to the end of a word behind the first one.
+/// Puts the numbers of the forms that the text begins with, up to the end of a word after the first one.
 fn put_spans(fst: &Fst, text: &str, lower: bool, found: &mut Vec<u64>) {
     let mut node = fst.root();
     let mut out = Output::zero();

@@ -1,5 +1,5 @@
 #!/usr/bin/env python3
-"""Changes each byte of a small image to each other value, cuts the image at each place, and puts a byte behind it, and
+"""Changes each byte of a small image to each other value, cuts the image at each place, and puts a byte after it, and
 compares what the program says with a reading of the layout by this script alone (docs/FORMATS.md, "Image of a
 dictionary"): the same refusal, or the same entries. Entries are compared by what `compress` writes of them.
 
@@ -129,7 +129,7 @@ class Image:
         return lists
 
     def read_code(self, place, codes, number):
-        """A code of this place among all, behind these of the list of this number."""
+        """A code of this place among all, after these of the list of this number."""
         fault = Refused(f"BadCode n={place}")
         pairs = []
         count = self.number() if self.version == 2 else 1
