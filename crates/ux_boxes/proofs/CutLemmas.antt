@@ -24,6 +24,7 @@ cut_more {A} (places ∷ graphs) items (suc k) h =
     (r ∙ ap (λ (xs : List A). cut (take k graphs) (drop (length places) items)
     ++ take (length (get_or graphs k [])) xs ∷ []) d)
 
+-- there is a row for each graph
 pub length-cut : {A : Type 0} (graphs : List (List Place)) (items : List A) →
     length (cut graphs items) ≡ length graphs
 length-cut [] items = refl
@@ -92,6 +93,7 @@ split_fits {A} graphs items rest k places whole h e is =
     rw n (before_rises graphs (suc k) (length graphs) h) in
     omega arith
 
+-- what is left after one row more
 pub rest_next : {A : Type 0} (graphs : List (List Place)) (items rest after : List A) (k : ℕ)
     (places : List Place) → k < length graphs → places ≡ get_or graphs k [] →
     rest ≡ drop (places_before graphs (suc k)) items → after ≡ drop (length places) rest →

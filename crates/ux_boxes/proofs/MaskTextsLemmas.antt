@@ -80,6 +80,7 @@ abbrev pub AreMasksBefore : List GrfBox → ℕ → Type 0
 AreMasksBefore boxes n = (m : ℕ) → m < n → AreMasks (mask_texts_in (slice_get boxes m))
 
 module _ (boxes : List GrfBox) where
+  -- one box more whose texts are masks
   pub boxes_more : (n : ℕ) (box : GrfBox) → n < length boxes → box ≡ get_or boxes n box →
       AreMasksBefore boxes n → AreMasks (mask_texts_of box) → AreMasksBefore boxes (n + 1)
   boxes_more n box within is before here m lt = elim (less_or m n) [
@@ -91,11 +92,13 @@ module _ (boxes : List GrfBox) where
         (sym (slice_get_read boxes (length boxes) n box refl within is)) here)
   ]
 
+  -- at the end of a loop all boxes have masks
   pub boxes_all : (n : ℕ) → length boxes ≤ n → AreMasksBefore boxes n → HaveMasks boxes
   boxes_all n past before i box lt =
       subst (λ (o : Option GrfBox). AreMasks (mask_texts_in o)) (slice_get-get_or boxes i box lt)
       (before i (omega (arith, past, lt)))
 
+  -- the first box with a bad text
   pub box_bad : (n : ℕ) (box : GrfBox) (place : ℕ) → n < length boxes → box ≡ get_or boxes n box →
       AreMasksBefore boxes n → IsFirstBad (mask_texts_of box) place →
       IsFirstBadBox boxes (record { node = n; place = place })
@@ -105,6 +108,7 @@ module _ (boxes : List GrfBox) where
     before = before;
   }
 
+  -- where all are masks, no box has a bad text
   pub none_bad : (m : ℕ) → HaveMasks boxes → HasBadText boxes m → ⊥
   none_bad m all (text, has, bad) = elim (less_or m (length boxes)) [
     | inl lt ↦
@@ -117,6 +121,7 @@ module _ (boxes : List GrfBox) where
         (slice_get_past boxes m past) has)
   ]
 
+  -- the first bad box has one
   pub bad_here : (bad : BadText) → IsFirstBadBox boxes bad → HasBadText boxes bad.node
   bad_here bad first = (
     first.here.text,
@@ -126,11 +131,13 @@ module _ (boxes : List GrfBox) where
     λ is. first.here.bad.none is.0 is.1,
   )
 
+  -- and no box before it has
   pub bad_least : (bad : BadText) → IsFirstBadBox boxes bad → (m : ℕ) → m < bad.node →
       HasBadText boxes m → ⊥
   bad_least bad first m low (text, has, not_mask) =
       not_mask (All-contains IsMask (mask_texts_in (slice_get boxes m)) text (first.before m low) has)
 
+-- of no boxes none has one
 pub no_box_bad : (m : ℕ) → HasBadText [] m → ⊥
 no_box_bad m (text, has, bad) =
     nothing_in (subst (λ (o : Option GrfBox). Contains (mask_texts_in o) text)

@@ -139,6 +139,7 @@ module _ (names : List (List ℕ)) (needed : List (String Global)) where
       slice_get-map string_bytes needed i
       ∙ ap (option_map string_bytes) (slice_get_read needed (length needed) i s refl within is)
 
+  -- one name more that is there
   pub there_more : (i : ℕ) (s : String Global) → i < length needed → s ≡ get_or needed i s →
       AreThereTo i → Contains names (string_bytes s) → AreThereTo (i + 1)
   there_more i s within is so_far here j name lt found = elim (less_or j i) [
@@ -151,6 +152,7 @@ module _ (names : List (List ℕ)) (needed : List (String Global)) where
         subst (λ (n : List ℕ). Contains names n) (sym one) here
   ]
 
+  -- the first name that is not there
   pub lacking_first : (i : ℕ) (s : String Global) → i < length needed → s ≡ get_or needed i s →
       AreThereTo i → (Contains names (string_bytes s) → ⊥) →
       IsFirstLacking called names (string_bytes s)
@@ -161,6 +163,7 @@ module _ (names : List (List ℕ)) (needed : List (String Global)) where
     before = λ j other lt found. so_far j other lt found;
   }
 
+  -- at the end of a loop all are there
   pub there_all : (i : ℕ) → length needed ≤ i → AreThereTo i → AreThere called names
   there_all i past so_far name (j, lt, is) =
       so_far j name
@@ -233,9 +236,11 @@ module _ (graphs : List Given) (i : ℕ) (graph : Given) (within : i < length gr
 
 -- what a search tells, where it found something and where it didn't
 module _ {X : Type 0} (IsNone : Type 0) (Found : X → Type 0) where
+  -- what an answer that found something tells
   pub told_some : (found : Option X) (x : X) → found ≡ Some x → MatchOption found IsNone Found →
       Found x
   told_some found x is told = subst (λ (o : Option X). MatchOption o IsNone Found) is told
 
+  -- and one that found nothing
   pub told_none : (found : Option X) → found ≡ None → MatchOption found IsNone Found → IsNone
   told_none found is told = subst (λ (o : Option X). MatchOption o IsNone Found) is told

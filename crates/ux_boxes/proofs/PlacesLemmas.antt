@@ -42,6 +42,7 @@ module _ (alphabet : Letters) (names : List (List ℕ)) where
     pub each : (k : ℕ) (grf_box : GrfBox) (place : Place) → slice_get boxes k ≡ Some grf_box →
         slice_get places k ≡ Some place → IsPlaceOf alphabet names k grf_box place
 
+  -- no places are those of no boxes
   pub places_start : ArePlacesSoFar [] []
   places_start = record {
     count = refl;
@@ -154,6 +155,7 @@ module _ (alphabet : Letters) (names : List (List ℕ)) where
   lines_same boxes places (suc (suc n)) some (neither past no_box no_place) =
       split_same [] _ [] _ (ap box_lines_in no_box) (ap lines_in no_place) tt
 
+  -- the places of all boxes
   pub places_whole : (boxes : List GrfBox) (places : List Place) → 0 < length boxes →
       ArePlacesSoFar boxes places → ArePlaces alphabet names boxes places
   places_whole boxes places some all = record {

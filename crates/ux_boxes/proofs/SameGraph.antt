@@ -67,6 +67,7 @@ module _ (alphabet : Letters) (names : List (List ℕ)) (once : StandOnce names)
   split_same ContextEnd v w a b = a ∙ sym b
   split_same Cut v w a b = a ∙ sym b
 
+  -- a line has one list of labels
   pub split_line_same : (line : List Item) (v w : List Label) → IsSplitLine alphabet names line v →
       IsSplitLine alphabet names line w → v ≡ w
   split_line_same [] v w a b = a ∙ sym b
@@ -77,6 +78,7 @@ module _ (alphabet : Letters) (names : List (List ℕ)) (once : StandOnce names)
 module _ (alphabet : Letters) (names : List (List ℕ)) (boxes : List GrfBox)
     (places : List Place) (once : StandOnce names)
     (are : ArePlaces alphabet names boxes places) where
+  -- a step of the boxes is one of the places
   pub place_step : (s : Step) → IsBoxStep alphabet names boxes s → IsPlaceStep places s
   place_step s b =
       let p = partner (IsSplitLine alphabet names) (lines_at boxes s.to) (label_lines places s.to)
@@ -89,6 +91,7 @@ module _ (alphabet : Letters) (names : List (List ℕ)) (boxes : List GrfBox)
         puts = b.puts ∙ sym (are.outputs s.to);
       }
 
+  -- and back
   pub box_step : (s : Step) → IsPlaceStep places s → IsBoxStep alphabet names boxes s
   box_step s p =
       let b = partner_back (IsSplitLine alphabet names) (lines_at boxes s.to) (label_lines places s.to)

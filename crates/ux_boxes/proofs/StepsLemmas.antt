@@ -13,6 +13,7 @@ use Rattle.ux_net.specs.Nets.{IsCalled}
 use Rattle.ux_boxes.specs.Fit.{is_call, IsFit, IsFitLine}
 use Rattle.ux_boxes.proofs.NumbersLemmas.{graph_so, graph_so_at}
 
+-- a place with a target is there
 pub target_from : (places : List Place) (a b : ℕ) → Contains (place_targets places a) b →
     a < length places
 target_from places a b h = elim (less_or a (length places)) [
@@ -21,6 +22,7 @@ target_from places a b h = elim (less_or a (length places)) [
       (subst (λ o. Contains (targets_in o) b) (slice_get_past places a p) h))
 ]
 
+-- and one with a line
 pub line_from : (places : List Place) (a : ℕ) (line : List Label) →
     Contains (label_lines places a) line → a < length places
 line_from places a line h = elim (less_or a (length places)) [
@@ -29,6 +31,7 @@ line_from places a line h = elim (less_or a (length places)) [
       (subst (λ o. Contains (lines_in o) line) (slice_get_past places a p) h))
 ]
 
+-- both ends of a step are there
 pub step_inside : (places : List Place) (s : Step) → IsPlaceStep places s →
     (s.from < length places) × (s.to < length places)
 step_inside places s i =
@@ -47,6 +50,7 @@ one_call [] back h k e = cc
 one_call (x ∷ []) back h k e = absurd (cc)
 one_call (x ∷ y ∷ front) back h k e = absurd (cc)
 
+-- a label is a call or none
 call_or : (x : Label) → ((h : ℕ) × (x ≡ Call h)) ⊎ (is_call x ≡ false)
 call_or Empty = inr refl
 call_or (CaseFolded text) = inr refl
@@ -90,7 +94,8 @@ call_alone count line front back h fit e = elim (fit_cases count line fit) [
       (subst (λ l. All (λ (x : Label). is_call x ≡ false) l) e n))
 ]
 
-same_call : (h k : ℕ) → Call h ∷ [] ≡ Call k ∷ [] → h ≡ k
+-- calls are one where their lines are
+pub same_call : (h k : ℕ) → Call h ∷ [] ≡ Call k ∷ [] → h ≡ k
 same_call h k e = cc
 
 -- the graph of a fit call is there

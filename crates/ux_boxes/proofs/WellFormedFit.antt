@@ -20,7 +20,7 @@ use Rattle.ux_net.specs.declared.label.Label.{Label}
 use Rattle.ux_net.specs.declared.label.Label.TheVariants.{Empty, CaseFolded, CaseExact, Mask, Brace, Space, NoSpace, Begin, End, Positive, Negative, ContextEnd, Cut, Call}
 use Rattle.ux_boxes.specs.declared.place.Place.{Place}
 use Rattle.ux_boxes.specs.Boxes.{box_reached_in, fold_label, exact_label, IsCut, IsSplit, IsSplitLine, lines_at, targets_at, box_targets_in, box_lines_in}
-use Rattle.ux_boxes.specs.Places.{label_lines, place_targets, targets_in, is_reached, ArePlaces}
+use Rattle.ux_boxes.specs.Places.{label_lines, targets_in, is_reached, ArePlaces}
 use Rattle.ux_net.specs.Nets.{IsCalled}
 use Rattle.ux_boxes.specs.Fit.{is_call, is_mark, IsFitLine, place_ways, HasTargetsInside, IsFit, HasLinesWhereReached}
 
@@ -57,32 +57,58 @@ cut_some alphabet label_of text labels some (tokens, are, is) = go tokens are is
 abbrev NoCall : List Label → Type 0
 NoCall labels = All (λ (x : Label). is_call x ≡ false) labels
 
--- what a text is cut into calls nothing
-cut_calls_none : (label_of : Kind → List ℕ → Label) →
-    ((k : Kind) (text : List ℕ) → is_call (label_of k text) ≡ false) → (tokens : List Token) →
-    NoCall (map (λ (token : Token). label_of token.kind token.text) tokens)
-cut_calls_none label_of never [] = All-nil (λ (x : Label). is_call x ≡ false)
-cut_calls_none label_of never (token ∷ tokens) =
-    All-cons (λ (x : Label). is_call x ≡ false) (label_of token.kind token.text)
-    (map (λ (t : Token). label_of t.kind t.text) tokens) (never token.kind token.text)
-    (cut_calls_none label_of never tokens)
+-- a label that others may stand beside: it calls nothing, and opens and closes no context
+abbrev MayBeBeside : Label → Type 0
+MayBeBeside (Call h) = ⊥
+MayBeBeside Positive = ⊥
+MayBeBeside Negative = ⊥
+MayBeBeside ContextEnd = ⊥
+MayBeBeside x = Unit {0}
 
-fold_calls_none : (k : Kind) (text : List ℕ) → is_call (fold_label k text) ≡ false
-fold_calls_none kind.Word text = refl
-fold_calls_none kind.Space text = refl
-fold_calls_none kind.Other text = refl
-fold_calls_none kind.Sentence text = refl
-fold_calls_none kind.Stop text = refl
-fold_calls_none kind.Tag text = refl
+beside_calls_none : (x : Label) → MayBeBeside x → is_call x ≡ false
+beside_calls_none (Call h) b = absurd b
+beside_calls_none x b = refl
 
-exact_calls_none : (k : Kind) (text : List ℕ) → is_call (exact_label k text) ≡ false
-exact_calls_none kind.Word text = refl
-exact_calls_none kind.Space text = refl
-exact_calls_none kind.Other text = refl
-exact_calls_none kind.Sentence text = refl
-exact_calls_none kind.Stop text = refl
-exact_calls_none kind.Tag text = refl
+beside_marks_none : (x : Label) → MayBeBeside x → is_mark x ≡ false
+beside_marks_none Positive b = absurd b
+beside_marks_none Negative b = absurd b
+beside_marks_none ContextEnd b = absurd b
+beside_marks_none x b = refl
 
+-- others may stand beside each label of the line
+abbrev AllBeside : List Label → Type 0
+AllBeside labels = All MayBeBeside labels
+
+-- so it is with what a text is cut into
+cut_beside : (label_of : Kind → List ℕ → Label) →
+    ((k : Kind) (text : List ℕ) → MayBeBeside (label_of k text)) → (tokens : List Token) →
+    AllBeside (map (λ (token : Token). label_of token.kind token.text) tokens)
+cut_beside label_of beside [] = All-nil MayBeBeside
+cut_beside label_of beside (token ∷ tokens) =
+    All-cons MayBeBeside (label_of token.kind token.text)
+    (map (λ (t : Token). label_of t.kind t.text) tokens) (beside token.kind token.text)
+    (cut_beside label_of beside tokens)
+
+fold_beside : (k : Kind) (text : List ℕ) → MayBeBeside (fold_label k text)
+fold_beside kind.Word text = tt
+fold_beside kind.Space text = tt
+fold_beside kind.Other text = tt
+fold_beside kind.Sentence text = tt
+fold_beside kind.Stop text = tt
+fold_beside kind.Tag text = tt
+
+exact_beside : (k : Kind) (text : List ℕ) → MayBeBeside (exact_label k text)
+exact_beside kind.Word text = tt
+exact_beside kind.Space text = tt
+exact_beside kind.Other text = tt
+exact_beside kind.Sentence text = tt
+exact_beside kind.Stop text = tt
+exact_beside kind.Tag text = tt
+
+one_beside : (x : Label) → MayBeBeside x → AllBeside (x ∷ [])
+one_beside x b = All-cons MayBeBeside x [] b (All-nil MayBeBeside)
+
+-- a line of one label that is no call
 one_none : (x : Label) → is_call x ≡ false → NoCall (x ∷ [])
 one_none x h =
     All-cons (λ (x : Label). is_call x ≡ false) x [] h (All-nil (λ (x : Label). is_call x ≡ false))
@@ -108,35 +134,14 @@ called_none count (Call g) h = absurd (cc)
 abbrev NoMark : List Label → Type 0
 NoMark labels = All (λ (x : Label). is_mark x ≡ false) labels
 
--- what a text is cut into opens and closes none
-cut_marks_none : (label_of : Kind → List ℕ → Label) →
-    ((k : Kind) (text : List ℕ) → is_mark (label_of k text) ≡ false) → (tokens : List Token) →
-    NoMark (map (λ (token : Token). label_of token.kind token.text) tokens)
-cut_marks_none label_of never [] = All-nil (λ (x : Label). is_mark x ≡ false)
-cut_marks_none label_of never (token ∷ tokens) =
-    All-cons (λ (x : Label). is_mark x ≡ false) (label_of token.kind token.text)
-    (map (λ (t : Token). label_of t.kind t.text) tokens) (never token.kind token.text)
-    (cut_marks_none label_of never tokens)
+-- a line of such labels calls nothing, and opens and closes no context
+calls_none : (labels : List Label) → AllBeside labels → NoCall labels
+calls_none labels all =
+    All-weaker MayBeBeside (λ (x : Label). is_call x ≡ false) beside_calls_none labels all
 
-fold_marks_none : (k : Kind) (text : List ℕ) → is_mark (fold_label k text) ≡ false
-fold_marks_none kind.Word text = refl
-fold_marks_none kind.Space text = refl
-fold_marks_none kind.Other text = refl
-fold_marks_none kind.Sentence text = refl
-fold_marks_none kind.Stop text = refl
-fold_marks_none kind.Tag text = refl
-
-exact_marks_none : (k : Kind) (text : List ℕ) → is_mark (exact_label k text) ≡ false
-exact_marks_none kind.Word text = refl
-exact_marks_none kind.Space text = refl
-exact_marks_none kind.Other text = refl
-exact_marks_none kind.Sentence text = refl
-exact_marks_none kind.Stop text = refl
-exact_marks_none kind.Tag text = refl
-
-one_unmarked : (x : Label) → is_mark x ≡ false → NoMark (x ∷ [])
-one_unmarked x h =
-    All-cons (λ (x : Label). is_mark x ≡ false) x [] h (All-nil (λ (x : Label). is_mark x ≡ false))
+marks_none : (labels : List Label) → AllBeside labels → NoMark labels
+marks_none labels all =
+    All-weaker MayBeBeside (λ (x : Label). is_mark x ≡ false) beside_marks_none labels all
 
 -- a line that has a label, and calls nothing, is fit where it has no mark or is one label
 plain_fit : (count : ℕ) (labels : List Label) → 0 < length labels → NoCall labels →
@@ -177,79 +182,46 @@ module _ (alphabet : Letters) (names : List (List ℕ)) where
   item_some item.ContextEnd labels h s = rw s (omega arith)
   item_some item.Cut labels h s = rw s (omega arith)
 
-  -- an item that may have others beside it calls nothing
-  item_calls_none : (x : Item) (labels : List Label) → may_be_beside x ≡ true →
-      IsSplit alphabet names x labels → NoCall labels
-  item_calls_none (item.Literal text) labels h s =
-      subst NoCall (sym s.2) (cut_calls_none fold_label fold_calls_none s.0)
-  item_calls_none (item.Quoted text) labels h s =
-      subst NoCall (sym s.2) (cut_calls_none exact_label exact_calls_none s.0)
-  item_calls_none item.NoSpace labels h s = subst NoCall (sym s) (one_none NoSpace refl)
-  item_calls_none item.Empty labels h s = subst NoCall (sym s) (one_none Empty refl)
-  item_calls_none (item.Call name) labels h s = absurd cc
-  item_calls_none (item.Mask text) labels h s = subst NoCall (sym s.2) (one_none (Mask s.0) refl)
-  item_calls_none (item.Brace text) labels h s = subst NoCall (sym s) (one_none (Brace text) refl)
-  item_calls_none (item.Begin name) labels h s = subst NoCall (sym s) (one_none (Begin name) refl)
-  item_calls_none (item.End name) labels h s = subst NoCall (sym s) (one_none (End name) refl)
-  item_calls_none item.Positive labels h s = subst NoCall (sym s) (one_none Positive refl)
-  item_calls_none item.Negative labels h s = subst NoCall (sym s) (one_none Negative refl)
-  item_calls_none item.ContextEnd labels h s = subst NoCall (sym s) (one_none ContextEnd refl)
-  item_calls_none item.Cut labels h s = subst NoCall (sym s) (one_none Cut refl)
+  -- the labels of an item that may have others beside it are such
+  item_beside : (x : Item) (labels : List Label) → may_be_beside x ≡ true →
+      IsSplit alphabet names x labels → AllBeside labels
+  item_beside (item.Literal text) labels h s =
+      subst AllBeside (sym s.2) (cut_beside fold_label fold_beside s.0)
+  item_beside (item.Quoted text) labels h s =
+      subst AllBeside (sym s.2) (cut_beside exact_label exact_beside s.0)
+  item_beside item.NoSpace labels h s = subst AllBeside (sym s) (one_beside NoSpace tt)
+  item_beside item.Empty labels h s = subst AllBeside (sym s) (one_beside Empty tt)
+  item_beside (item.Call name) labels h s = absurd cc
+  item_beside (item.Mask text) labels h s = subst AllBeside (sym s.2) (one_beside (Mask s.0) tt)
+  item_beside (item.Brace text) labels h s = subst AllBeside (sym s) (one_beside (Brace text) tt)
+  item_beside (item.Begin name) labels h s = absurd cc
+  item_beside (item.End name) labels h s = absurd cc
+  item_beside item.Positive labels h s = absurd cc
+  item_beside item.Negative labels h s = absurd cc
+  item_beside item.ContextEnd labels h s = absurd cc
+  item_beside item.Cut labels h s = absurd cc
 
-  line_calls_none : (line : List Item) (labels : List Label) →
+  line_beside : (line : List Item) (labels : List Label) →
       All (λ (x : Item). may_be_beside x ≡ true) line → IsSplitLine alphabet names line labels →
-      NoCall labels
-  line_calls_none [] labels h s = subst NoCall (sym s) (All-nil (λ (x : Label). is_call x ≡ false))
-  line_calls_none (x ∷ xs) labels h s =
+      AllBeside labels
+  line_beside [] labels h s = subst AllBeside (sym s) (All-nil MayBeBeside)
+  line_beside (x ∷ xs) labels h s =
       let here : may_be_beside x ≡ true = h 0 x (omega arith) in
       let later : All (λ (x : Item). may_be_beside x ≡ true) xs =
       All-tail (λ (x : Item). may_be_beside x ≡ true) x xs h in
-      subst NoCall (sym s.4)
-      (All-append (λ (x : Label). is_call x ≡ false) s.0 s.1 (item_calls_none x s.0 here s.2)
-      (line_calls_none xs s.1 later s.3))
-
-  -- an item that may have others beside it opens and closes no context
-  item_marks_none : (x : Item) (labels : List Label) → may_be_beside x ≡ true →
-      IsSplit alphabet names x labels → NoMark labels
-  item_marks_none (item.Literal text) labels h s =
-      subst NoMark (sym s.2) (cut_marks_none fold_label fold_marks_none s.0)
-  item_marks_none (item.Quoted text) labels h s =
-      subst NoMark (sym s.2) (cut_marks_none exact_label exact_marks_none s.0)
-  item_marks_none item.NoSpace labels h s = subst NoMark (sym s) (one_unmarked NoSpace refl)
-  item_marks_none item.Empty labels h s = subst NoMark (sym s) (one_unmarked Empty refl)
-  item_marks_none (item.Call name) labels h s = absurd cc
-  item_marks_none (item.Mask text) labels h s =
-      subst NoMark (sym s.2) (one_unmarked (Mask s.0) refl)
-  item_marks_none (item.Brace text) labels h s =
-      subst NoMark (sym s) (one_unmarked (Brace text) refl)
-  item_marks_none (item.Begin name) labels h s =
-      subst NoMark (sym s) (one_unmarked (Begin name) refl)
-  item_marks_none (item.End name) labels h s =
-      subst NoMark (sym s) (one_unmarked (End name) refl)
-  item_marks_none item.Positive labels h s = absurd cc
-  item_marks_none item.Negative labels h s = absurd cc
-  item_marks_none item.ContextEnd labels h s = absurd cc
-  item_marks_none item.Cut labels h s = absurd cc
-
-  line_marks_none : (line : List Item) (labels : List Label) →
-      All (λ (x : Item). may_be_beside x ≡ true) line → IsSplitLine alphabet names line labels →
-      NoMark labels
-  line_marks_none [] labels h s = subst NoMark (sym s) (All-nil (λ (x : Label). is_mark x ≡ false))
-  line_marks_none (x ∷ xs) labels h s =
-      let here : may_be_beside x ≡ true = h 0 x (omega arith) in
-      let later : All (λ (x : Item). may_be_beside x ≡ true) xs =
-      All-tail (λ (x : Item). may_be_beside x ≡ true) x xs h in
-      subst NoMark (sym s.4)
-      (All-append (λ (x : Label). is_mark x ≡ false) s.0 s.1 (item_marks_none x s.0 here s.2)
-      (line_marks_none xs s.1 later s.3))
+      subst AllBeside (sym s.4)
+      (All-append MayBeBeside s.0 s.1 (item_beside x s.0 here s.2)
+      (line_beside xs s.1 later s.3))
 
   -- a line that is filled is fit
   line_fit : (line : List Item) (labels : List Label) → IsFilled line →
       IsSplitLine alphabet names line labels → IsFitLine (length names) labels
   line_fit line labels filled s = elim filled.shared [
     | inl one ↦ alone line labels one filled.texts s
-    | inr all ↦ plain_fit (length names) labels (some line labels filled.some filled.texts s)
-        (line_calls_none line labels all s) (λ more. line_marks_none line labels all s)
+    | inr all ↦
+        let beside = line_beside line labels all s in
+        plain_fit (length names) labels (some line labels filled.some filled.texts s)
+        (calls_none labels beside) (λ more. marks_none labels beside)
   ]
     where
       some : (line : List Item) (labels : List Label) → 0 < length line → All HasText line →
@@ -273,9 +245,10 @@ module _ (alphabet : Letters) (names : List (List ℕ)) where
 
       plain : (x : Item) (labels : List Label) → HasText x → may_be_beside x ≡ true →
           IsSplit alphabet names x labels → IsFitLine (length names) labels
-      plain x labels text beside s =
+      plain x labels text may s =
+          let beside = item_beside x labels may s in
           plain_fit (length names) labels (item_some x labels text s)
-          (item_calls_none x labels beside s) (λ more. item_marks_none x labels beside s)
+          (calls_none labels beside) (λ more. marks_none labels beside)
 
       lone : (x : Label) (labels : List Label) → labels ≡ x ∷ [] → is_call x ≡ false →
           IsFitLine (length names) labels

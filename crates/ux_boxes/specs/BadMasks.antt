@@ -1,4 +1,5 @@
--- What a search for bad mask texts answers. Inner: the crate's own functions alone speak of it.
+-- What a search for bad mask texts answers. Public: the contract of `refuse_bad_masks` speaks of
+-- it.
 use Rattle.std.specs.Prelude.{ℕ, ◌<◌, List, Option, MatchOption, slice_get}
 use Rattle.ux_grf.specs.declared.graph.GrfBox.{GrfBox}
 use Rattle.ux_boxes.specs.declared.bad_masks.BadText.{BadText}

@@ -1,5 +1,5 @@
--- What is asked of boxes whose lines are split, before states are made of them. Inner: compiling
--- alone speaks of it.
+-- What is asked of boxes whose lines are split, before states are made of them. Inner: the crates
+-- that make nets alone speak of it.
 use Rattle.std.specs.Prelude.{◌≡◌, ◌≢◌, ℕ, ◌<◌, ◌≤◌, ◌↔◌, ◌⊎◌, true, false, List, [], ◌∷◌, All, length, map, Contains, Bool}
 use Rattle.ux_grf.specs.Reached.{ways_of, Reached}
 use Rattle.ux_net.specs.declared.label.Label.{Label}

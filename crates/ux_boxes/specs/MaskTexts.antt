@@ -1,5 +1,5 @@
--- The mask texts of boxes, and which of them is no mask's. The manual, on lexical masks. Public:
--- the crate's public contracts speak of it.
+-- The mask texts of boxes, and which of them is no mask's. The manual, on lexical masks. Public,
+-- through `Refusing`.
 use Rattle.std.specs.Prelude.{◌≡◌, ℕ, List, [], ◌∷◌, ◌++◌, Option, All}
 use Rattle.std.specs.List.{flat_map}
 use Rattle.std.specs.Option.{option_map_or}

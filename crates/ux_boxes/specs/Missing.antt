@@ -1,4 +1,4 @@
--- What the test of calls answers. Inner: the crate's own functions alone speak of it.
+-- What the test of calls answers. Public: the contract of `refuse_missing` speaks of it.
 use Rattle.std.specs.Prelude.{◌≡◌, ℕ, ◌<◌, List, Some, slice_get, Contains}
 use Rattle.ux_boxes.specs.declared.error.NetError.{NetError}
 use Rattle.ux_boxes.specs.declared.error.NetError.TheVariants.{MissingGraph, BadMask, ContextClose, NegativeRecursion, EmptyLoop, LeftRecursion, NoMemory}

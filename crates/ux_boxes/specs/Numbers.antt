@@ -1,5 +1,5 @@
--- One number for each place of all graphs: the graphs stand one after another. Inner: compiling
--- alone speaks of it.
+-- One number for each place of all graphs: the graphs stand one after another. Inner: the crates
+-- that make nets alone speak of it.
 use Rattle.std.specs.Prelude.{◌≡◌, ℕ, zero, suc, ◌+◌, ◌<◌, ◌≤◌, List, [], ◌∷◌, length, get_or}
 use Rattle.ux_boxes.specs.declared.place.Place.{Place}
 

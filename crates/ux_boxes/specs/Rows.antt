@@ -1,5 +1,5 @@
--- A list with an entry for each place of all graphs, cut into rows. Inner: compiling alone speaks
--- of it.
+-- A list with an entry for each place of all graphs, cut into rows. Inner: the crates that make
+-- nets alone speak of it.
 use Rattle.std.specs.Prelude.{List, [], ◌∷◌, length, take, drop}
 use Rattle.ux_boxes.specs.declared.place.Place.{Place}
 

@@ -1,5 +1,5 @@
--- How a box's lines become those of a place, one item after another. Inner: compiling alone speaks
--- of it.
+-- How a box's lines become those of a place, one item after another. Inner: the crates that make
+-- nets alone speak of it.
 use Rattle.std.specs.Prelude.{◌≡◌, ℕ, zero, suc, ◌+◌, List, [], ◌∷◌, ◌++◌, All, Contains, Some, slice_get, ◌<◌, length}
 use Rattle.std.specs.List.{AllZip}
 use Rattle.ux_alphabet.specs.Letters.{Letters}

@@ -7,7 +7,7 @@ use ux_base::{Lst, Mem};
 use ux_grf::Piece;
 
 /// A copy of the pieces.
-pub fn copied(alloc: Global, pieces: &[Piece]) -> Mem<Lst<Piece>>
+pub fn copied_output(alloc: Global, pieces: &[Piece]) -> Mem<Lst<Piece>>
     ensures { IfOk result (λ copy. copy ≡ pieces.now) }
 {
     let mut copy = Vec::with_capacity(alloc, pieces.len())?;

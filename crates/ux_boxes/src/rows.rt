@@ -1,6 +1,6 @@
-//! What stands at the places of all graphs, in a row for each graph.
+//! Rows: what stands at the places of all graphs, in a row for each graph, and a row by its number.
 
-ghost use Rattle.std.specs.Prelude.{◌≡◌, length, IfOk};
+ghost use Rattle.std.specs.Prelude.{◌≡◌, [], length, get_or, IfOk};
 ghost use Rattle.ux_boxes.specs.Numbers.{all_places};
 ghost use Rattle.ux_boxes.specs.Rows.{cut};
 
@@ -32,4 +32,14 @@ fn copied<T: Copy>(alloc: Global, items: &[T]) -> Mem<Vec<T>>
         row.push(*item)?;
     }
     Ok(row)
+}
+
+/// The row of this number; nothing, where there is none.
+pub fn row_at<T>(rows: &[Lst<T>], number: usize) -> &[T]
+    ensures { result.now ≡ get_or rows.now number [] }
+{
+    match rows.get(number) {
+        Some(row) => row.as_slice(),
+        None => &[],
+    }
 }

@@ -13,7 +13,7 @@ ghost use Rattle.ux_boxes.specs.MaskTexts.{IsMask};
 ghost use Rattle.ux_boxes.specs.Places.{ArePlaces};
 ghost use Rattle.ux_boxes.specs.Splitting.{AreSplitLines, IsBehind, IsCutBehind, IsMaskBehind, IsNumberOf, IsNumbered, IsPlaceOf, IsSplittable, IsSplittableBox, numbered_output, label_by as label_by_of, text_label as text_label_of};
 
-use crate::output::copied;
+use crate::output::copied_output;
 use crate::place::Place;
 use indexmap::IndexSet;
 use std::alloc::{AllocError, Global};
@@ -86,7 +86,7 @@ fn split_output(alloc: Global, number: usize, grf_box: &GrfBox) -> Mem<Lst<Piece
 {
     match number {
         0 | 1 => Ok(Lst::new(Vec::new(alloc))),
-        _ => copied(alloc, grf_box.output.as_slice()),
+        _ => copied_output(alloc, grf_box.output.as_slice()),
     }
 }
 

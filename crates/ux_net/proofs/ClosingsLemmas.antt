@@ -7,6 +7,7 @@ use Rattle.ux_net.specs.Closings.{closing_in, Ascend}
 use Rattle.ux_base.proofs.Lists.{less_or}
 use Rattle.ux_net.proofs.KeysLemmas.{first_at}
 
+-- what stands for an entry where a list has none
 abbrev nothing : Closing
 nothing = record { opening = 0; closing = 0 }
 
@@ -14,6 +15,7 @@ nothing = record { opening = 0; closing = 0 }
 abbrev pub opening_at : List Closing → ℕ → ℕ
 opening_at entries i = (get_or entries i nothing).opening
 
+-- an empty list ascends
 pub none_ascend : Ascend []
 none_ascend = record { by_opening = λ i j lt within. absurd (omega (arith, within)) }
 
@@ -29,6 +31,7 @@ pub record Below (entries : List Closing) (most : ℕ) : Type 0 where
   pub up : Ascend entries
   pub below : (i : ℕ) → i < length entries → opening_at entries i < most
 
+-- what lies below fewer lies below more
 pub wider : (entries : List Closing) (few more : ℕ) → few ≤ more → Below entries few →
     Below entries more
 wider entries few more le b =

@@ -2,17 +2,25 @@
 use Rattle.std.proofs.Common.{arith, ◌≡◌, ℕ, zero, suc, List, [], ◌∷◌, Bool, true, false, refl, sym, ◌∙◌, ap, subst, ◌&&◌, ◌<◌, ◌≤◌, length, get_or, None, Some, ◌⊎◌, inl, inr, ◌↔◌}
 use Rattle.std.specs.Prelude.{slice_get, Contains}
 use Rattle.std.specs.List.{list_all}
+use Rattle.ux_base.proofs.FirstsLemmas.{Contains-from_place}
 use Rattle.ux_net.specs.declared.label.Label.{Label}
 use Rattle.ux_net.specs.declared.label.Label.TheVariants.{Empty, CaseFolded, CaseExact, Mask, Brace, Space, NoSpace, Begin, End, Positive, Negative, ContextEnd, Cut, Call}
 use Rattle.ux_net.specs.declared.state.Edge.{Edge}
 use Rattle.ux_net.specs.declared.state.State.{State}
 use Rattle.ux_net.specs.declared.net_graph.NetGraph.{NetGraph}
 use Rattle.ux_net.specs.Nets.{ArePlain, CutNothing, CutsNothing, EachLabel, IsPlain, each_in_graph, each_in_state, is_plain, is_uncut, states_in}
+use Rattle.ux_net.specs.Words.{closes, mark_of}
 use Rattle.std.proofs.lemmas.Bool.{and_parts, false≢true}
-use Rattle.std.proofs.lemmas.Option.{slice_get_cases, slice_get_read, slice_get_within, get_or_from_slice_get}
+use Rattle.std.proofs.lemmas.Option.{slice_get_cases, slice_get_read}
 use Rattle.std.specs.Bool.{IsTrue}
 
+-- what closes a context is a closing label
+pub closing_label : (x : Label) → mark_of (x ∷ []) ≡ closes → x ≡ ContextEnd
+closing_label ContextEnd e = refl
+closing_label x e = cc
+
 module _ {X : Type 0} (p : X → Bool) where
+  -- what all pass, each passes
   all_told : (xs : List X) (x : X) → list_all p xs ≡ true → Contains xs x → p x ≡ true
   all_told [] x all c = absurd (omega (arith, c.1))
   all_told (y ∷ xs) x all (zero, lt, e) =
@@ -20,12 +28,14 @@ module _ {X : Type 0} (p : X → Bool) where
   all_told (y ∷ xs) x all (suc k, lt, e) =
       all_told xs x (and_parts (p y) (list_all p xs) all).1 (k, omega (arith, lt), e)
 
+  -- and what each passes, all pass
   all_shown : (xs : List X) → ((x : X) → Contains xs x → p x ≡ true) → list_all p xs ≡ true
   all_shown [] each = refl
   all_shown (y ∷ xs) each =
       ap (λ (b : Bool). b && list_all p xs) (each y (0, omega arith, refl))
       ∙ all_shown xs (λ x c. each x (suc c.0, (let lt = c.1 in omega (arith, lt)), c.2))
 
+-- a label that passes the test is plain
 plain_told : (x : Label) → is_plain x ≡ true → IsPlain x
 plain_told Empty is = tt
 plain_told (CaseFolded text) is = tt
@@ -42,6 +52,7 @@ plain_told ContextEnd is = absurd (false≢true is)
 plain_told Cut is = absurd (false≢true is)
 plain_told (Call graph) is = tt
 
+-- and a plain one passes it
 plain_shown : (x : Label) → IsPlain x → is_plain x ≡ true
 plain_shown Empty is = refl
 plain_shown (CaseFolded text) is = refl
@@ -58,6 +69,7 @@ plain_shown ContextEnd is = absurd is
 plain_shown Cut is = absurd is
 plain_shown (Call graph) is = refl
 
+-- a label that passes the test cuts nothing
 uncut_told : (x : Label) → is_uncut x ≡ true → CutsNothing x
 uncut_told Empty is = tt
 uncut_told (CaseFolded text) is = tt
@@ -74,6 +86,7 @@ uncut_told ContextEnd is = tt
 uncut_told Cut is = absurd (false≢true is)
 uncut_told (Call graph) is = tt
 
+-- and one that cuts nothing passes it
 uncut_shown : (x : Label) → CutsNothing x → is_uncut x ≡ true
 uncut_shown Empty is = refl
 uncut_shown (CaseFolded text) is = refl
@@ -90,22 +103,20 @@ uncut_shown ContextEnd is = refl
 uncut_shown Cut is = absurd is
 uncut_shown (Call graph) is = refl
 
-within : {X : Type 0} (xs : List X) (k : ℕ) (x : X) → slice_get xs k ≡ Some x → Contains xs x
-within xs k x found =
-    (k, slice_get_within xs k x found, get_or_from_slice_get xs k x x found)
-
 module _ (test : Label → Bool) (Is : Label → Type 0) (told : (x : Label) → test x ≡ true → Is x)
     (shown : (x : Label) → Is x → test x ≡ true) (graphs : List NetGraph) where
+  -- each label of a graph that passes is so
   in_graph : list_all (each_in_graph test) graphs ≡ true → (graph : NetGraph) →
       Contains graphs graph → (n : ℕ) (state : State) (edge : Edge) →
       slice_get graph.states n ≡ Some state → Contains state.edges edge → Is edge.label
   in_graph all graph there n state edge found inside =
       let states = all_told (each_in_graph test) graphs graph all there in
       let edges = all_told (each_in_state test) graph.states state states
-      (within graph.states n state found) in
+      (Contains-from_place graph.states n state found) in
       told edge.label
       (all_told (λ (e : Edge). test e.label) state.edges edge edges inside)
 
+  -- and so is each of a net
   are_so : list_all (each_in_graph test) graphs ≡ true → EachLabel Is graphs
   are_so all zero n state edge found inside = cc
   are_so all (suc g) n state edge found inside = by (slice_get_cases graphs g).1
@@ -114,7 +125,7 @@ module _ (test : Label → Bool) (Is : Label → Type 0) (told : (x : Label) →
           × (get_or graphs g graph ≡ graph))
           ⊎ ((length graphs ≤ g) × (slice_get graphs g ≡ None)) → Is edge.label
       by (inl h) =
-          in_graph all h.0 (within graphs g h.0 h.2) n state edge
+          in_graph all h.0 (Contains-from_place graphs g h.0 h.2) n state edge
           (subst (λ o. slice_get (states_in o) n ≡ Some state) h.2 found) inside
       by (inr past) =
           let none = subst (λ o. slice_get (states_in o) n ≡ Some state) past.1 found in cc
@@ -129,6 +140,7 @@ module _ (test : Label → Bool) (Is : Label → Type 0) (told : (x : Label) →
       (sym (slice_get_read graphs (length graphs) g graph refl lt (sym is)))
       (slice_get_read graph.states (length graph.states) n state refl below (sym at))) inside))))
 
+  -- the test of all labels of a net tells what each is
   label_law : (result : Bool) → result ≡ list_all (each_in_graph test) graphs →
       IsTrue result ↔ EachLabel Is graphs
   label_law true is = (λ t. are_so (sym is), λ are. refl)
@@ -138,10 +150,12 @@ module _ (test : Label → Bool) (Is : Label → Type 0) (told : (x : Label) →
   )
 
 module _ (graphs : List NetGraph) where
+  -- a net is plain exactly where each label is
   pub plain_law : (result : Bool) → result ≡ list_all (each_in_graph is_plain) graphs →
       IsTrue result ↔ ArePlain graphs
   plain_law = label_law is_plain IsPlain plain_told plain_shown graphs
 
+  -- a net cuts nothing exactly where no label does
   pub uncut_law : (result : Bool) → result ≡ list_all (each_in_graph is_uncut) graphs →
       IsTrue result ↔ CutNothing graphs
   uncut_law = label_law is_uncut CutsNothing uncut_told uncut_shown graphs

@@ -27,6 +27,7 @@ module _ {T : Type 0} (eq : T → T → Bool) (decides : (a b : T) → Decides (
           (subst (λ (b : Bool). (b || list_any (λ (s : Bor T). eq x.now s.now) slots) ≡ true) is
           found))
 
+  -- where no slot is the same, none of them is lent for it
   any_lacks : (slots : List (Bor T)) (x : Bor T) →
       list_any (λ (slot : Bor T). eq x.now slot.now) slots ≡ false →
       Contains (lent slots) x.now → ⊥

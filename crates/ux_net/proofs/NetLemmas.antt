@@ -40,6 +40,7 @@ closings_there graphs g before found from at lt is =
     ap closings_at (graph_behind graphs g before from at
     ∙ slice_get_read graphs (length graphs) before found refl lt is)
 
+-- a graph that is not there tells no closings
 pub closings_past : (graphs : List NetGraph) (g before : ℕ) → 1 ≤ g → before ≡ g - 1 →
     length graphs ≤ before → closings_at (graph_at graphs g) ≡ []
 closings_past graphs g before from at past =

@@ -3,7 +3,7 @@
 use Rattle.std.proofs.Common.{◌≡◌, ℕ, List, [], ◌∷◌, ◌++◌, map, refl, sym, ◌∙◌, ap, subst, ◌⊎◌, inl, inr, append_assoc, append-nil}
 use Rattle.ux_grf.specs.declared.item.Piece.{Piece}
 use Rattle.ux_net.specs.declared.label.Label.{Label}
-use Rattle.ux_net.specs.declared.label.Label.TheVariants.{Empty, CaseFolded, CaseExact, Mask, Brace, Space, NoSpace, Begin, End, Positive, Negative, ContextEnd, Cut, Call}
+use Rattle.ux_net.specs.declared.label.Label.TheVariants.{Empty}
 use Rattle.ux_net.specs.Words.{Sign, Letter, piece, context, ordinary, opens, closes, mark_of, letter_of, letters, Step, put_by, StepGraph, Grammar, Run, stop, along, across, IsWord, IsBody, HasPlace, same_plain, same_piece, same_context, AreRenumbered, none, more, SayTheSame}
 use Rattle.ux_net.proofs.RunLemmas.{run_joined}
 
@@ -12,36 +12,29 @@ abbrev pub letters_along : Step → List Letter
 letters_along step = put_by step ++ letters step.labels
 
 module _ (old : Grammar) (number : (g place : ℕ) → ℕ) where
+  -- words that are the same but for places are so joined
   pub renumbered_joined : {v w x y : List Letter} → AreRenumbered old number v w →
       AreRenumbered old number x y → AreRenumbered old number (v ++ x) (w ++ y)
   renumbered_joined none later = later
   renumbered_joined (more one rest) later = more one (renumbered_joined rest later)
 
-  -- letters along a step name no places
-  put_same : (parts : List Piece) → AreRenumbered old number (map piece parts) (map piece parts)
+  -- an output names no places
+  pub put_same : (parts : List Piece) →
+      AreRenumbered old number (map piece parts) (map piece parts)
   put_same [] = none
   put_same (part ∷ parts) = more same_piece (put_same parts)
 
+  -- nor does a label
   label_same : (label : Label) → AreRenumbered old number (letter_of label) (letter_of label)
   label_same Empty = none
-  label_same (CaseFolded text) = more same_plain none
-  label_same (CaseExact text) = more same_plain none
-  label_same (Mask text) = more same_plain none
-  label_same (Brace text) = more same_plain none
-  label_same Space = more same_plain none
-  label_same NoSpace = more same_plain none
-  label_same (Begin name) = more same_plain none
-  label_same (End name) = more same_plain none
-  label_same Positive = more same_plain none
-  label_same Negative = more same_plain none
-  label_same ContextEnd = more same_plain none
-  label_same Cut = more same_plain none
-  label_same (Call graph) = more same_plain none
+  label_same label = more same_plain none
 
-  line_same : (line : List Label) → AreRenumbered old number (letters line) (letters line)
+  -- nor do labels
+  pub line_same : (line : List Label) → AreRenumbered old number (letters line) (letters line)
   line_same [] = none
   line_same (label ∷ line) = renumbered_joined (label_same label) (line_same line)
 
+  -- nor do the letters along a step
   along_same : (step : Step) →
       AreRenumbered old number (letters_along step) (letters_along step)
   along_same step = renumbered_joined (put_same step.output) (line_same step.labels)

@@ -3,6 +3,7 @@ use Rattle.std.proofs.Common.{◌≡◌, ℕ, List, [], ◌∷◌, ◌++◌, sub
 use Rattle.ux_net.specs.Words.{Sign, Step, StepGraph, Letter, context, ordinary, opens, mark_of, Run, stop, along, across, letters, put_by, IsBody}
 
 module _ (g : ℕ) (graph : StepGraph) where
+  -- a run, and one from where it ends, are a run
   pub run_joined : {a b c : ℕ} {u v : List Letter} → Run g graph a b u → Run g graph b c v →
       Run g graph a c (u ++ v)
   run_joined stop q = q
@@ -14,6 +15,7 @@ module _ (g : ℕ) (graph : StepGraph) where
       (sym (append_assoc (put_by s) (context sign g s.to t.to ∷ word) v))
       (across sign s t i m body j n (run_joined r q))
 
+  -- an ordinary step is a run
   pub one_step : (s : Step) → graph.IsStep s → mark_of s.labels ≡ ordinary →
       Run g graph s.from s.to (put_by s ++ letters s.labels)
   one_step s i m = subst (λ w. Run g graph s.from s.to w)

@@ -9,6 +9,7 @@ use Rattle.ux_net.specs.declared.state.State.{State}
 use Rattle.ux_net.specs.Nets.{graph_at, states_in, states_of}
 use Rattle.ux_net.specs.Whole.{unmet_in, put_back, whole_from, whole_in, whole_states_of, unmet_at}
 
+-- what stands for an entry where a list has none
 abbrev pub nothing : UnmetState
 nothing = record { number = 0; is_final = false; edges = [] }
 

@@ -44,12 +44,14 @@ module _ (a b : List ℕ) where
   abbrev beyond : Step
   beyond = bare 5 6 (CaseFolded b ∷ [])
 
+  -- a context in a context
   abbrev nested : List Step
   nested = outer_opens ∷ inner_opens ∷ middle ∷ inner_closes ∷ outer_closes ∷ beyond ∷ []
 
   abbrev Nested : StepGraph
   Nested = listed nested 6
 
+  -- a run inside the inner context
   innermost : Run 1 Nested 2 3 (plain (CaseFolded a) ∷ [])
   innermost = along middle (2, omega arith, refl) refl stop
 
@@ -59,6 +61,7 @@ module _ (a b : List ℕ) where
       across negative inner_opens inner_closes (1, omega arith, refl) refl innermost
       (3, omega arith, refl) refl stop
 
+  -- the whole outer context is one letter of the word
   pub nested_word : IsWord 1 Nested (context positive 1 1 5 ∷ plain (CaseFolded b) ∷ [])
   nested_word = record {
     last = 6;
@@ -68,6 +71,7 @@ module _ (a b : List ℕ) where
         (4, omega arith, refl) refl (along beyond (5, omega arith, refl) refl stop);
   }
 
+  -- the body of the outer context has the inner one as a letter
   pub outer_body : IsBody 1 Nested 1 5 (context negative 1 2 4 ∷ [])
   outer_body = record {
     step = outer_closes;
@@ -77,6 +81,7 @@ module _ (a b : List ℕ) where
     run = outer_run;
   }
 
+  -- the body of the inner context is its one label
   pub inner_body : IsBody 1 Nested 2 4 (plain (CaseFolded a) ∷ [])
   inner_body = record {
     step = inner_closes;
@@ -91,6 +96,7 @@ module _ (part : Piece) (a : List ℕ) where
   abbrev calling : Step
   calling = putting 0 1 part (Call 2 ∷ [])
 
+  -- the output stands before the call
   pub output_before_call :
       IsWord 1 (listed (calling ∷ []) 1) (piece part ∷ plain (Call 2) ∷ [])
   output_before_call = record {
@@ -111,6 +117,7 @@ module _ (part : Piece) (a : List ℕ) where
   abbrev opened : List Step
   opened = opening ∷ found ∷ closing ∷ []
 
+  -- the output stands before the context
   pub output_before_context :
       IsWord 1 (listed opened 3) (piece part ∷ context positive 1 1 3 ∷ [])
   output_before_context = record {
@@ -138,12 +145,14 @@ module _ (a b : List ℕ) where
   abbrev closes_there : Step
   closes_there = bare 2 4 (ContextEnd ∷ [])
 
+  -- a context that is closed at two places
   abbrev forked : List Step
   forked = opens_at ∷ first ∷ second ∷ closes_here ∷ closes_there ∷ []
 
   abbrev Forked : StepGraph
   Forked = listed forked 4
 
+  -- its body up to the first
   pub body_here : IsBody 1 Forked 1 3 (plain (CaseFolded a) ∷ [])
   body_here = record {
     step = closes_here;
@@ -153,6 +162,7 @@ module _ (a b : List ℕ) where
     run = along first (1, omega arith, refl) refl stop;
   }
 
+  -- and up to the second
   pub body_there : IsBody 1 Forked 1 4 (plain (CaseFolded a) ∷ plain (CaseFolded b) ∷ [])
   body_there = record {
     step = closes_there;
@@ -164,6 +174,7 @@ module _ (a b : List ℕ) where
         (along second (2, omega arith, refl) refl stop);
   }
 
+  -- a word over the context to the second
   pub word_there : IsWord 1 Forked (context positive 1 1 4 ∷ [])
   word_there = record {
     last = 4;

@@ -1,4 +1,4 @@
--- Lists whose entries have keys. Public: the crate's public contracts speak of it.
+-- Lists whose entries have keys. Public, through `Closings`.
 use Rattle.std.specs.Prelude.{ℕ, List, [], ◌∷◌, Option, Some, None, nat_eq, cond}
 
 -- what the first of the entries with a key gives

@@ -8,6 +8,7 @@ pub mod StateGraphs
 pub mod Whole
 pub mod Sound
 pub mod Silent
+pub mod Nullable
 pub mod Closers
 pub mod Keys
 pub mod Closings

@@ -2,14 +2,14 @@
 use Rattle.std.proofs.Common.{arith, ◌≡◌, ℕ, ◌≤◌, List, [], ◌∷◌, refl, sym, subst, inl, inr}
 use Rattle.ux_net.specs.declared.label.Label.{Label}
 use Rattle.ux_net.specs.declared.label.Label.TheVariants as label
+use Rattle.ux_net.specs.Nullable.{IsSilent, IsFree, none, silent, call}
 use Rattle.ux_net.specs.Words.{Letter, plain, piece, Step, Grammar}
 use Rattle.ux_outputs.specs.declared.event.Event.{Event}
 use Rattle.ux_grf.specs.declared.item.Piece.TheVariants.{Chars, Value}
 use Rattle.ux_meaning.specs.Inputs.{Input}
 use Rattle.ux_meaning.specs.Meaning.{Stays, Seq, done, takes, stays, calls, holds, refused, RefusesBy}
 use Rattle.ux_parts.specs.Runs.{NextBy}
-use Rattle.ux_parts.specs.Ordered.{GoesAhead, MayStay, IsFree, none, NeverRises, IsOrdered}
-use Rattle.ux_parts.specs.Ordered as ordered
+use Rattle.ux_parts.specs.Ordered.{GoesAhead, NeverRises, IsOrdered}
 
 module _ (input : Input) (last : ℕ) (goes : GoesAhead input last) (grammar : Grammar) where
   module _ (R : ℕ → ℕ → ℕ → ℕ → Type 0) where
@@ -31,14 +31,15 @@ module _ (input : Input) (last : ℕ) (goes : GoesAhead input last) (grammar : G
     within (holds w i s) h = within s h
     within (refused r s) h = within s h
 
-    may_stay : (x : Letter) (p : ℕ) (here : List Event) → Stays input x p here → MayStay x
-    may_stay (plain label.NoSpace) p here h = tt
-    may_stay (plain (label.Begin name)) p here h = tt
-    may_stay (plain (label.End name)) p here h = tt
-    may_stay (plain label.Cut) p here h = tt
-    may_stay (piece (Chars text)) p here h = tt
-    may_stay (piece (Value name)) p here h = tt
-    may_stay x p here h = absurd h
+    -- a letter that stays is silent
+    stays_silent : (x : Letter) (p : ℕ) (here : List Event) → Stays input x p here → IsSilent x
+    stays_silent (plain label.NoSpace) p here h = refl
+    stays_silent (plain (label.Begin name)) p here h = refl
+    stays_silent (plain (label.End name)) p here h = refl
+    stays_silent (plain label.Cut) p here h = refl
+    stays_silent (piece (Chars text)) p here h = tt
+    stays_silent (piece (Value name)) p here h = tt
+    stays_silent x p here h = absurd h
 
     -- a word that takes nothing is one that may take nothing
     pub free_word : {w : List Letter} {p j : ℕ} {events : List Event} →
@@ -47,12 +48,12 @@ module _ (input : Input) (last : ℕ) (goes : GoesAhead input last) (grammar : G
     free_word (takes t s) h =
         let a = goes.forward t in let b = forward s in absurd (omega arith)
     free_word (stays {x = x} {p = p} here t s) h =
-        ordered.IsFree.stays (may_stay x p here t) (free_word s h)
+        silent (stays_silent x p here t) (free_word s h)
     free_word (calls {k = k} w i s) h =
         let a = forward i in let b = forward s in
-        ordered.IsFree.calls w (free_word i (omega arith)) (free_word s (omega arith))
-    free_word (holds w i s) h = ordered.IsFree.stays tt (free_word s h)
-    free_word (refused r s) h = ordered.IsFree.stays tt (free_word s h)
+        call w (free_word i (omega arith)) (free_word s (omega arith))
+    free_word (holds w i s) h = silent tt (free_word s h)
+    free_word (refused r s) h = silent tt (free_word s h)
 
   module _ (levels : ℕ) (rank : ℕ → ℕ → ℕ) where
     -- a step from state `from` at position i to state b at position k

@@ -1,41 +1,10 @@
 -- What is left of a list that doesn't fall once neighbours that are the same are one.
-use Rattle.std.proofs.Common.{arith, ◌≡◌, ℕ, zero, suc, ◌<◌, ◌≤◌, List, [], ◌∷◌, Bool, true, false, cond, inl, inr, refl, sym, subst}
-use Rattle.std.specs.Prelude.{Contains, Some, slice_get}
+use Rattle.std.proofs.Common.{arith, ◌≡◌, ℕ, zero, suc, ◌<◌, ◌≤◌, List, [], ◌∷◌, Bool, true, false, cond, inl, inr, subst}
+use Rattle.std.specs.Prelude.{Some, slice_get}
 use Rattle.std.specs.List.{dedup, dedup_from}
 use Rattle.std.specs.List.Sorted.{IsNonDecreasingBy}
 use Rattle.std.proofs.lemmas.Option.{same_Some, slice_get_within}
-use Rattle.ux_base.proofs.Lists.{less_or, first_or_later, contains_first, contains_later}
-
-module _ {X : Type 0} (same : X → X → Bool) (sound : (x y : X) → same x y ≡ true → x ≡ y) where
-  kept_from : (x : X) (xs : List X) (y : X) → Contains (x ∷ xs) y →
-      Contains (dedup_from same x xs) y
-  kept_from x [] y h = h
-  kept_from x (z ∷ zs) y h =
-      go (same z x) refl (λ later. kept_from x zs y later) (λ later. kept_from z zs y later)
-    where
-      go : (t : Bool) → same z x ≡ t →
-          (Contains (x ∷ zs) y → Contains (dedup_from same x zs) y) →
-          (Contains (z ∷ zs) y → Contains (dedup_from same z zs) y) →
-          Contains (cond t (dedup_from same x zs) (x ∷ dedup_from same z zs)) y
-      go true is one other = one (elim (first_or_later x (z ∷ zs) y h) [
-        | inl e ↦ subst (λ (t : X). Contains (x ∷ zs) t) e (contains_first x zs)
-        | inr later ↦ elim (first_or_later z zs y later) [
-          | inl e ↦
-              subst (λ (t : X). Contains (x ∷ zs) t) e
-              (subst (λ (t : X). Contains (x ∷ zs) t) (sym (sound z x is)) (contains_first x zs))
-          | inr rest ↦ contains_later x zs y rest
-        ]
-      ])
-      go false is one other = elim (first_or_later x (z ∷ zs) y h) [
-        | inl e ↦ subst (λ (t : X). Contains (x ∷ dedup_from same z zs) t) e
-            (contains_first x (dedup_from same z zs))
-        | inr later ↦ contains_later x (dedup_from same z zs) y (other later)
-      ]
-
-  -- each element is left
-  pub kept : (xs : List X) (y : X) → Contains xs y → Contains (dedup same xs) y
-  kept [] y h = h
-  kept (x ∷ xs) y h = kept_from x xs y h
+use Rattle.ux_base.proofs.Lists.{less_or}
 
 module _ {X : Type 0} (same : X → X → Bool) (weight : X → ℕ) where
   -- no weight is below the one before, from this one on
@@ -43,10 +12,12 @@ module _ {X : Type 0} (same : X → X → Bool) (weight : X → ℕ) where
   Rises low [] = Unit {0}
   Rises low (x ∷ xs) = (low ≤ weight x) × Rises (weight x) xs
 
+  -- it rises from a lower one, too
   rises_low : (low lower : ℕ) (xs : List X) → lower ≤ low → Rises low xs → Rises lower xs
   rises_low low lower [] le h = tt
   rises_low low lower (x ∷ xs) le h = (let first = h.0 in omega (arith, le, first), h.1)
 
+  -- a list that does not fall rises from its first element
   rises_from : (x : X) (xs : List X) → IsNonDecreasingBy weight (x ∷ xs) → Rises (weight x) xs
   rises_from x [] h = tt
   rises_from x (y ∷ ys) h = (
@@ -54,6 +25,7 @@ module _ {X : Type 0} (same : X → X → Bool) (weight : X → ℕ) where
     rises_from y ys (λ i j d le lt. h (suc i) (suc j) d (omega (arith, le)) (omega (arith, lt))),
   )
 
+  -- it still rises with neighbours made one
   rises_deduped : (low : ℕ) (x : X) (xs : List X) → low ≤ weight x → Rises (weight x) xs →
       Rises low (dedup_from same x xs)
   rises_deduped low x [] le h = (le, tt)
@@ -67,6 +39,7 @@ module _ {X : Type 0} (same : X → X → Bool) (weight : X → ℕ) where
       go true one other = one
       go false one other = (le, other)
 
+  -- what rises has no element below where it begins
   above : (low : ℕ) (xs : List X) → Rises low xs → (u : ℕ) (p : X) → slice_get xs u ≡ Some p →
       low ≤ weight p
   above low [] h u p at = absurd (let w = slice_get_within [] u p at in omega (arith, w))
@@ -77,6 +50,7 @@ module _ {X : Type 0} (same : X → X → Bool) (weight : X → ℕ) where
       let later = above (weight x) xs h.1 u p at in
       omega (arith, first, later)
 
+  -- no later element is lighter
   no_fall : (low : ℕ) (xs : List X) → Rises low xs → (u v : ℕ) (p q : X) → u ≤ v →
       slice_get xs u ≡ Some p → slice_get xs v ≡ Some q → weight p ≤ weight q
   no_fall low [] h u v p q le at_u at_v =

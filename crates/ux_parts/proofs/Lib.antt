@@ -2,6 +2,6 @@ pub mod Running
 pub mod Ahead
 pub mod Marked
 mod Deduped
-pub mod Mapped
+mod Mapped
 mod OrderingLemmas
 mod PartsLemmas

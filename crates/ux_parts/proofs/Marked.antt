@@ -1,5 +1,5 @@
 -- Marks of edges tell of runs: a net whose marks hold along its edges is ordered, and has levels.
-use Rattle.std.proofs.Common.{◌≡◌, ◌≤◌, ℕ, List, [], ◌∷◌, ◌++◌, refl, sym, ap, subst, ◌∙◌, true}
+use Rattle.std.proofs.Common.{◌≡◌, ◌≤◌, ℕ, List, [], ◌∷◌, ◌++◌, sym, ap, subst, ◌∙◌, true}
 use Rattle.std.specs.Prelude.{Contains, map}
 use Rattle.ux_grf.specs.declared.item.Piece.{Piece}
 use Rattle.ux_net.specs.declared.label.Label.{Label}
@@ -8,14 +8,12 @@ use Rattle.ux_net.specs.declared.net_graph.NetGraph.{NetGraph}
 use Rattle.ux_net.specs.Words.{Sign, positive, negative, Letter, plain, piece, context, ordinary, opens, closes, mark_of, letters, Step, put_by, Grammar, Run, stop, along, across, IsBody}
 use Rattle.ux_net.specs.Nets.{states_of, net_grammar, IsNetStep, IsNetEnd}
 use Rattle.ux_net.specs.Levels.{LetterLevel, WordLevel, HasLevels}
+use Rattle.ux_net.proofs.LabelLaws.{closing_label}
 use Rattle.ux_meaning.specs.Inputs.{Input}
 use Rattle.ux_meaning.proofs.Levels.{word_above}
-use Rattle.ux_parts.specs.Ordered.{MayStay, IsFree, none, stays, calls, IsNullable, NeverRises, IsOrdered}
+use Rattle.ux_parts.specs.Ordered.{NeverRises, IsOrdered}
+use Rattle.ux_net.specs.Nullable.{IsSilent, IsFree, none, silent, call, IsNullable}
 use Rattle.ux_net.specs.Marked.{Marks, Keeps, Stands, HoldAlong, AreMarksOf}
-
-pub is_closer : (x : Label) → mark_of (x ∷ []) ≡ closes → x ≡ label.ContextEnd
-is_closer label.ContextEnd e = refl
-is_closer x e = cc
 
 -- an input that no label takes: levels speak of no input
 abbrev nothing : Input
@@ -34,6 +32,7 @@ module _ (net : List NetGraph) (top : ℕ) (marks : Marks) (are : AreMarksOf net
   abbrev HasLevel : (g a : ℕ) → List Letter → Type 0
   HasLevel g a w = WordLevel grammar marks.level (marks.level g a) w
 
+  -- a step has the marks of its edge
   marks_of : (g : ℕ) (s : Step) → IsNetStep (states_of net g) s →
       (x : Label) × (s.labels ≡ x ∷ []) × At g s.from s.to x
   marks_of g s step = (
@@ -43,6 +42,7 @@ module _ (net : List NetGraph) (top : ℕ) (marks : Marks) (are : AreMarksOf net
         (are.edges g s.from step.state step.edge step.found step.inside),
   )
 
+  -- along an ordinary step closers, levels and free states are kept
   ordinary_keeps : (g a b : ℕ) (x : Label) → mark_of (x ∷ []) ≡ ordinary → At g a b x →
       Keeps marks g a b
   ordinary_keeps g a b label.Empty mark m = m.keeps
@@ -56,17 +56,19 @@ module _ (net : List NetGraph) (top : ℕ) (marks : Marks) (are : AreMarksOf net
   ordinary_keeps g a b label.ContextEnd mark m = cc
   ordinary_keeps g a b x mark m = m
 
+  -- a step that opens a context has what stands over it
   jumps : (g a o : ℕ) (x : Label) (sign : Sign) → mark_of (x ∷ []) ≡ opens sign → At g a o x →
       (c : ℕ) → Contains (marks.closers g o) c → Stands marks g a c
   jumps g a o label.Positive sign mark m = m.2
   jumps g a o label.Negative sign mark m = m.2
   jumps g a o x sign mark m = cc
 
+  -- a step that closes a context closes into its end
   closing : (g : ℕ) (t : Step) → IsNetStep (states_of net g) t → mark_of t.labels ≡ closes →
       Contains (marks.closers g t.from) t.to
   closing g t step mark =
       let m = marks_of g t step in
-      subst (At g t.from t.to) (is_closer m.0 (ap mark_of (sym m.1) ∙ mark)) m.2
+      subst (At g t.from t.to) (closing_label m.0 (ap mark_of (sym m.1) ∙ mark)) m.2
 
   -- what closes behind the end of a run is told at its beginning
   keeps_run : (g : ℕ) {a b : ℕ} {w : List Letter} → IsRun g a b w →
@@ -82,6 +84,7 @@ module _ (net : List NetGraph) (top : ℕ) (marks : Marks) (are : AreMarksOf net
       let behind = jumps g s.from s.to m.0 sign (ap mark_of (sym m.1) ∙ mark) m.2 t.to in_body in
       behind.keeps.closers c (keeps_run g run c h)
 
+  -- where a body is closed is told at its first state
   pub body_closers : (g o c : ℕ) (w : List Letter) → IsBody g (grammar.graph g) o c w →
       Contains (marks.closers g o) c
   body_closers g o c w body =
@@ -94,16 +97,19 @@ module _ (net : List NetGraph) (top : ℕ) (marks : Marks) (are : AreMarksOf net
   level_append n [] w a b = b
   level_append n (x ∷ v) w a b = (a.0, level_append n v w a.1 b)
 
+  -- an output is at each level
   level_put : (n : ℕ) (ps : List Piece) → WordLevel grammar marks.level n (map piece ps)
   level_put n [] = tt
   level_put n (p ∷ ps) = (tt, level_put n ps)
 
+  -- the letters of an ordinary label are at the level of its state
   level_letters : (g a b : ℕ) (x : Label) → mark_of (x ∷ []) ≡ ordinary → At g a b x →
       HasLevel g a (letters (x ∷ []))
   level_letters g a b label.Empty mark m = tt
   level_letters g a b (label.Call h) mark m = (m.1, tt)
   level_letters g a b x mark m = (tt, tt)
 
+  -- and so is a context
   level_context : (g a o c : ℕ) (x : Label) (sign : Sign) → mark_of (x ∷ []) ≡ opens sign →
       At g a o x → LetterLevel grammar marks.level (marks.level g a) (context sign g o c)
   level_context g a o c label.Positive positive mark m = m.0
@@ -115,6 +121,7 @@ module _ (net : List NetGraph) (top : ℕ) (marks : Marks) (are : AreMarksOf net
       WordLevel grammar marks.level high w
   raised = word_above nothing grammar marks.level
 
+  -- and so is the word of a run
   level_run : (g : ℕ) {a b : ℕ} {w : List Letter} → IsRun g a b w → HasLevel g a w
   level_run g stop = tt
   level_run g (along {word = v} s inside mark run) =
@@ -138,6 +145,7 @@ module _ (net : List NetGraph) (top : ℕ) (marks : Marks) (are : AreMarksOf net
         raised (marks.level g t.to) n low v (level_run g run),
       )
 
+  -- the levels of the states are levels of the grammar
   pub has_levels : HasLevels grammar marks.level top
   has_levels = record {
     of_graphs = λ h w word. level_run h word.run;
@@ -148,20 +156,23 @@ module _ (net : List NetGraph) (top : ℕ) (marks : Marks) (are : AreMarksOf net
   -- words that may take nothing
   abbrev LetterFree : Letter → Type 0
   LetterFree (plain (label.Call h)) = marks.free h 0 ≡ true
-  LetterFree x = MayStay x
+  LetterFree x = IsSilent x
 
   abbrev WordFree : List Letter → Type 0
   WordFree [] = Unit {0}
   WordFree (x ∷ w) = LetterFree x × WordFree w
 
+  -- the rear of a free word is free
   free_later : (v w : List Letter) → WordFree (v ++ w) → WordFree w
   free_later [] w f = f
   free_later (x ∷ v) w f = free_later v w f.1
 
+  -- and so is its front
   free_front : (v w : List Letter) → WordFree (v ++ w) → WordFree v
   free_front [] w f = tt
   free_front (x ∷ v) w f = (f.0, free_front v w f.1)
 
+  -- before a free step to a free state the state is free
   step_free : (g a b : ℕ) (x : Label) → mark_of (x ∷ []) ≡ ordinary → At g a b x →
       WordFree (letters (x ∷ [])) → marks.free g b ≡ true → marks.free g a ≡ true
   step_free g a b label.Empty mark m f h = m.free h
@@ -173,7 +184,7 @@ module _ (net : List NetGraph) (top : ℕ) (marks : Marks) (are : AreMarksOf net
   step_free g a b label.Positive mark m f h = cc
   step_free g a b label.Negative mark m f h = cc
   step_free g a b label.ContextEnd mark m f h = cc
-  step_free g a b x mark m f h = absurd f.0
+  step_free g a b x mark m f h = let e = f.0 in cc
 
   -- a run to an end whose letters may take nothing begins at a marked state
   run_free : (g : ℕ) {a last : ℕ} {w : List Letter} → IsRun g a last w →
@@ -192,19 +203,23 @@ module _ (net : List NetGraph) (top : ℕ) (marks : Marks) (are : AreMarksOf net
       (jumps g s.from s.to m.0 sign (ap mark_of (sym m.1) ∙ mark) m.2 t.to in_body).free
       (run_free g run end (free_later (put_by s) (context sign g s.to t.to ∷ v) f).1)
 
-  letter_free : (x : Letter) → MayStay x → LetterFree x
-  letter_free (plain (label.Call h)) m = absurd m
+  -- a silent letter is free
+  letter_free : (x : Letter) → IsSilent x → LetterFree x
+  letter_free (plain (label.Call h)) m = cc
   letter_free x m = m
 
+  -- a word that may take nothing is free
   word_free : {w : List Letter} → IsFree grammar w → WordFree w
   word_free none = tt
-  word_free (stays {x = x} m f) = (letter_free x m, word_free f)
-  word_free (calls {h = h} word inside later) =
+  word_free (silent {letter = x} m f) = (letter_free x m, word_free f)
+  word_free (call {h = h} word inside later) =
       (run_free h word.run word.ends (word_free inside), word_free later)
 
+  -- the start of a nullable graph is free
   nullable_free : (h : ℕ) → IsNullable grammar h → marks.free h 0 ≡ true
   nullable_free h n = run_free h n.of_graph.run n.of_graph.ends (word_free n.free)
 
+  -- along each edge the rank does not rise where it may not
   never_rises : (g a b : ℕ) (x : Label) → At g a b x → NeverRises grammar marks.rank g a b x
   never_rises g a b label.Empty m = m.rank
   never_rises g a b label.NoSpace m = m.rank
@@ -218,6 +233,7 @@ module _ (net : List NetGraph) (top : ℕ) (marks : Marks) (are : AreMarksOf net
       (m.1, λ c w body. (m.2 c (body_closers g b c w body)).rank)
   never_rises g a b x m = tt
 
+  -- the ranks of the states are an order
   pub is_ordered : IsOrdered grammar marks.rank
   is_ordered = record {
     falls = λ g s x inside named.

@@ -1,17 +1,19 @@
 -- Entries by rank: what stands before what, and the rows that number them.
 use Rattle.std.proofs.Common.{arith, ◌≡◌, ℕ, zero, suc, ◌+◌, ◌*◌, ◌<◌, ◌≤◌, ◌≢◌, List, [], ◌∷◌, ◌++◌, ◌⊎◌, inl, inr, refl, sym, ap, subst, ◌∙◌, length, get_or, take, append_assoc, Bool, true, false, cond}
 use Rattle.std.specs.Prelude.{Contains, Option, Some, None, slice_get, sum_by, IsSomeAnd, nat_eq, ◌&&◌}
-use Rattle.std.specs.Ordering.{nat_cmp, ordering_then, is_lt}
+use Rattle.std.specs.Ordering.{nat_cmp, ordering_then, eq_by_cmp, is_lt}
 use Rattle.std.specs.declared.cmp.Ordering.TheVariants.{Less, Equal}
-use Rattle.std.specs.Cmp.{nat_cmp_is}
+use Rattle.std.specs.Cmp.{IsEquivalence, IsTotalOrder, nat_cmp_is, nat_cmp_total, on_total, then_total, both_tied, tied_itself, eq_by_cmp_equiv, unsigned_ties}
 use Rattle.std.proofs.Math.Nat.{mul-le-mul_left}
 use Rattle.std.specs.List.{AllAdjacentBelow, flat_map, range_with_len}
+use Rattle.std.specs.List.Sorted.{IsStrictlySortedBy}
 use Rattle.std.proofs.lemmas.Bool.{eqb-true}
 use Rattle.std.proofs.lemmas.List.{get_or_past}
 use Rattle.std.proofs.lemmas.List.Sorted.{IsNonDecreasingBy-from_all_adjacent, Contains-permutation, IsPermutation-sym}
 use Rattle.std.proofs.lemmas.List.Sums.{get_or-le-sum_by}
 use Rattle.std.proofs.lemmas.List.Elements.{Contains-get_or}
-use Rattle.std.proofs.lemmas.List.Kept.{Contains-from_dedup}
+use Rattle.std.proofs.lemmas.List.Kept.{Contains-dedup, Contains-from_dedup, IsStrictlySortedBy-dedup}
+use Rattle.std.proofs.lemmas.Map.Keys.{Less-from_sorted}
 use Rattle.std.proofs.lemmas.Option.{same_Some, slice_get_within, get_or_from_slice_get}
 use Rattle.ux_net.specs.declared.net_graph.NetGraph.{NetGraph}
 use Rattle.ux_net.specs.declared.net_graph.Rank.{Rank}
@@ -21,10 +23,11 @@ use Rattle.ux_net.specs.Nets.{graph_at, states_of}
 use Rattle.ux_net.specs.Measured.{width_of, weigh, rank_in, rank_of}
 use Rattle.ux_base.proofs.Lists.{nothing_in, less_or, first_or_later, same_or, take_more}
 use Rattle.ux_base.proofs.JoinedLists.{contains_joined, contained_joined, contains_range, contained_range, joined_push}
-use Rattle.ux_parts.proofs.Deduped.{kept, lighter_first}
+use Rattle.ux_parts.proofs.Deduped.{lighter_first}
 use Rattle.ux_parts.specs.Order.{Entry, ranks_in, rank_at, entry_of, is_opening, entries_by, entries_from, entries_at, all_entries, entry_cmp, same_entry, IsOrderOf, IsPut, AreNumbers}
 use Rattle.ux_parts.specs.Parts.{number_in}
 
+-- the rank of what has none
 abbrev lowest : Rank
 lowest = record { major = 0; minor = 0 }
 
@@ -50,6 +53,7 @@ minor_fits ranks state = elim (less_or state (length ranks)) [
       omega (arith, none)
 ]
 
+-- the minor number of a state is no larger than the width of the net
 small : (net : List NetGraph) (g state : ℕ) → (rank_at net g state).minor ≤ width_of net
 small net g state = by (graph_at net g) refl
   where
@@ -91,6 +95,7 @@ weight_is net g state = by (graph_at net g)
         ∙ omega arith
     by (Some graph) = refl
 
+-- a lower weight has a lower major number, or the same and a lower minor one
 lower_major : (width a b c d : ℕ) → d ≤ width → a * (width + 1) + c < b * (width + 1) + d →
     (a < b) ⊎ ((a ≡ b) × (c < d))
 lower_major width a b c d fits lt = elim (less_or a b) [
@@ -107,6 +112,7 @@ lower_major width a b c d fits lt = elim (less_or a b) [
   ]
 ]
 
+-- what weighs less comes first
 lower_first : (net : List NetGraph) (x y : Entry) → y.1 ≤ width_of net →
     weight net x < weight net y → is_lt (entry_cmp x y) ≡ true
 lower_first net x y fits lt =
@@ -136,6 +142,22 @@ same_is x y h =
 
     parts : x.0 ≡ y.0 → x.1 ≡ y.1 → x.2 ≡ y.2 → x.3 ≡ y.3 → x ≡ y
     parts a b c d = λ i. (a i, b i, c i, d i)
+
+-- entries are totally ordered, and those that tie are the same
+entry_total : IsTotalOrder entry_cmp
+entry_total = then_total (then_total (then_total
+    (on_total (λ (x : Entry). x.0) nat_cmp_total) (on_total (λ (x : Entry). x.1) nat_cmp_total))
+    (on_total (λ (x : Entry). x.2) nat_cmp_total)) (on_total (λ (x : Entry). x.3) nat_cmp_total)
+
+-- two tie exactly where they are the same
+entry_ties : (x y : Entry) → same_entry x y ≡ eq_by_cmp entry_cmp x y
+entry_ties x y = both_tied _ _ _ _ (both_tied _ _ _ _ (both_tied _ _ _ _
+    (unsigned_ties x.0 y.0) (unsigned_ties x.1 y.1)) (unsigned_ties x.2 y.2))
+    (unsigned_ties x.3 y.3)
+
+-- being the same is an equivalence
+entry_equal : IsEquivalence same_entry
+entry_equal = subst IsEquivalence (λ i x y. sym (entry_ties x y) i) (eq_by_cmp_equiv entry_total)
 
 -- The entries of a net, in order.
 module _ (net : List NetGraph) (order : List Entry)
@@ -170,6 +192,7 @@ module _ (net : List NetGraph) (order : List Entry)
       ]
       go edge false h = absurd (nothing_in h)
 
+  -- each of all entries is that of a state
   among_all : (entry : Entry) → Contains (all_entries net (length net)) entry → IsThere entry
   among_all entry h =
       let k = contained_joined (λ k. entries_at net (k + 1)) (range_with_len 0 (length net))
@@ -177,11 +200,13 @@ module _ (net : List NetGraph) (order : List Entry)
       let lt = contained_range (length net) k.0 k.1 in
       by_edges (k.0 + 1) entry (omega arith) (omega (arith, lt)) k.2
 
+  -- and so is each that is sorted
   among_sorted : (entry : Entry) → Contains is.sorted entry → IsThere entry
   among_sorted entry h = among_all entry
       (Contains-permutation is.sorted (all_entries net (length net)) entry
       (IsPermutation-sym (all_entries net (length net)) is.sorted is.permutation) h)
 
+  -- and each of the order
   pub among : (entry : Entry) → Contains order entry → IsThere entry
   among entry h = among_sorted entry (Contains-from_dedup same_entry is.sorted entry
       (subst (λ (l : List Entry). Contains l entry) is.is h))
@@ -191,9 +216,10 @@ module _ (net : List NetGraph) (order : List Entry)
       Contains order entry
   in_order entry h =
       subst (λ (l : List Entry). Contains l entry) (sym is.is)
-      (kept same_entry same_is is.sorted entry
+      (Contains-dedup entry_equal same_is is.sorted entry
       (Contains-permutation (all_entries net (length net)) is.sorted entry is.permutation h))
 
+  -- so each entry of a graph is in the order
   pub graph_entry : (g : ℕ) → 1 ≤ g → g ≤ length net → (entry : Entry) →
       Contains (entries_at net g) entry → Contains order entry
   graph_entry zero from to entry h = absurd (omega (arith, from))
@@ -203,6 +229,34 @@ module _ (net : List NetGraph) (order : List Entry)
       (let e : k + 1 ≡ suc k = omega arith in
       subst (λ n. Contains (entries_at net n) entry) (sym e) h))
 
+  -- no entry stands at two places
+  pub one_place : (u v : ℕ) (x : Entry) → slice_get order u ≡ Some x →
+      slice_get order v ≡ Some x → u ≡ v
+  one_place u v x at_u at_v = elim (less_or u v) [
+    | inl less ↦ absurd (later u v less at_u at_v)
+    | inr no_less ↦ elim (less_or v u) [
+      | inl less ↦ absurd (later v u less at_v at_u)
+      | inr no_more ↦ omega (arith, no_less, no_more)
+    ]
+  ]
+    where
+      later : (a b : ℕ) → a < b → slice_get order a ≡ Some x → slice_get order b ≡ Some x → ⊥
+      later a b less at_a at_b =
+          let strict : IsStrictlySortedBy entry_cmp order =
+          subst (IsStrictlySortedBy entry_cmp) (sym is.is)
+          (IsStrictlySortedBy-dedup entry_total entry_ties is.sorted is.ascends) in
+          let below : entry_cmp (get_or order a x) (get_or order b x) ≡ Less =
+          Less-from_sorted entry_cmp order a b x strict less (slice_get_within order b x at_b) in
+          let same_a = get_or_from_slice_get order a x x at_a in
+          let same_b = get_or_from_slice_get order b x x at_b in
+          let itself : entry_cmp x x ≡ Less =
+          subst (λ (t : Entry). entry_cmp x t ≡ Less) same_b
+          (subst (λ (t : Entry). entry_cmp t (get_or order b x) ≡ Less) same_a below) in
+          let tied : Equal ≡ Less = sym (tied_itself entry_total x) ∙ itself in
+          let never : ⊥ = cc in
+          never
+
+  -- the minor number of an entry is no larger than the width
   fits : (entry : Entry) → IsThere entry → entry.1 ≤ width_of net
   fits entry there =
       let e = ap (λ (x : Entry). x.1) there.of_state in
@@ -223,6 +277,7 @@ module _ (net : List NetGraph) (order : List Entry)
         | inr m ↦ m
       ]
 
+  -- an entry weighs what its state ranks
   rank_here : (entry : Entry) → IsThere entry →
       weight net entry ≡ rank_of net entry.2 entry.3
   rank_here entry there =

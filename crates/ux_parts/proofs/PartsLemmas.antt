@@ -13,16 +13,17 @@ use Rattle.ux_net.specs.Closings.{closing_of as told_of, TellsClosings}
 use Rattle.ux_net.specs.Marked.{IsMarked}
 use Rattle.ux_net.specs.Measured.{rank_of}
 use Rattle.ux_net.specs.Nets.{states_in, states_of, net_grammar}
+use Rattle.ux_base.proofs.FirstsLemmas.{Contains-from_place}
 use Rattle.ux_base.proofs.Lists.{contains_first, contains_later}
 use Rattle.ux_base.proofs.JoinedLists.{contains_joined}
 use Rattle.ux_parts.specs.declared.part.Part.{Part}
 use Rattle.ux_parts.specs.declared.parts.Parts.{Parts}
-use Rattle.ux_parts.specs.Order.{Entry, entry_of, is_opening, entries_by, entries_from, entries_at, all_entries, IsOrderOf, closing_list, part_of, AreNumbers}
+use Rattle.ux_parts.specs.Order.{Entry, entry_of, is_opening, entries_by, entries_from, entries_at, all_entries, IsOrderOf, part_of, AreNumbers}
 use Rattle.ux_parts.specs.Ordered.{IsOrdered}
-use Rattle.ux_parts.specs.Parts.{number_of, closing_in, closing_at, closing_of, Begins, IsClosedInto, Opens, ArePartsOf}
-use Rattle.ux_parts.proofs.Mapped.{contains_at, mapped_at, map_at}
+use Rattle.ux_parts.specs.Parts.{number_of, closing_in, closing_at, closing_of, closing_list, Begins, TellsClosing, Opens, IsNamed, ArePartsOf}
+use Rattle.ux_parts.proofs.Mapped.{mapped_at, map_at}
 use Rattle.ux_parts.proofs.Marked.{is_ordered, has_levels}
-use Rattle.ux_parts.proofs.OrderingLemmas.{graph_entry, by_rank}
+use Rattle.ux_parts.proofs.OrderingLemmas.{among, graph_entry, one_place, by_rank}
 
 module _ (net : List NetGraph) (parts : Parts) (order : List Entry) (marked : IsMarked net)
     (told : TellsClosings net) (is : IsOrderOf (all_entries net (length net)) order)
@@ -60,6 +61,26 @@ module _ (net : List NetGraph) (parts : Parts) (order : List Entry) (marked : Is
       ∙ (ap (λ n. closing_list (told_of net n p.0.3)) p.2
       ∙ ap (λ n. closing_list (told_of net g n)) p.3))
 
+  -- a part of the list is that of an entry, whose number is the part's own, since no entry comes twice
+  named : (number : ℕ) (part : Part) → slice_get parts.list number ≡ Some part →
+      IsNamed net parts number part
+  named number part at =
+      let m = mapped_at (part_of net) order number part
+      (subst (λ (l : List Part). slice_get l number ≡ Some part) list at) in
+      let entry = m.0 in
+      let told = numbers.each number entry (slice_get_within order number entry m.1) m.1 in
+      let other = numbers.right entry.2 entry.3 told.0 told.1 in
+      let here = (among net order is entry (Contains-from_place order number entry m.1)).of_state in
+      let there = (among net order is other.0 (Contains-from_place order told.0 other.0 other.1)).of_state in
+      let same : other.0 ≡ entry =
+      there ∙ (ap (λ g. entry_of net g other.0.3) other.2
+      ∙ (ap (λ n. entry_of net entry.2 n) other.3 ∙ sym here)) in
+      let one : told.0 ≡ number =
+      one_place net order is told.0 number entry
+      (subst (λ (e : Entry). slice_get order told.0 ≡ Some e) same other.1) m.1 in
+      subst (IsNamed net parts number) m.2
+      (record { at_first = told.1 ∙ ap Some one; closing = refl })
+
   -- a graph with a state is there
   graph_there : (g n : ℕ) (state : State) → slice_get (states_of net g) n ≡ Some state →
       (1 ≤ g) × (g ≤ length net)
@@ -88,19 +109,17 @@ module _ (net : List NetGraph) (parts : Parts) (order : List Entry) (marked : Is
         begins g edge.target there.0 there.1
         (contains_later (entry_of net g 0) (flat_map (entries_from net g) (states_of net g)) entry
         (contains_joined (entries_from net g) (states_of net g) state entry
-        (contains_at (states_of net g) n state found) by_state))
+        (Contains-from_place (states_of net g) n state found) by_state))
 
     refused : edge.label ≡ label.Negative →
-        IsClosedInto net g edge.target (closing_of parts g edge.target)
+        TellsClosing net g edge.target (closing_of parts g edge.target)
     refused is_negative =
         let b = opened (ap is_opening is_negative) in
         let c = told g n state edge found inside is_negative in
         record {
           target = c.0;
           told = closing_told g edge.target b ∙ ap closing_list c.1;
-          word = c.2.into.0;
-          body = c.2.into.1;
-          only = λ m word body. c.2.only m (word, body);
+          closed = c.2;
         }
 
     opens : (x : Label) → edge.label ≡ x → Opens net parts g edge.target x
@@ -118,6 +137,7 @@ module _ (net : List NetGraph) (parts : Parts) (order : List Entry) (marked : Is
     numbers = λ g state number at.
         let p = part_at g state number at in
         record { part = part_of net p.0; found = p.1; graph = p.2; first = p.3 };
+    named = named;
     rank = rank_of net;
     sorted = λ u v p q at_u at_v lower.
         let x = mapped_at (part_of net) order u p

@@ -6,6 +6,7 @@ use Rattle.ux_grf.specs.declared.item.Piece.TheVariants.{Chars, Value}
 use Rattle.ux_net.specs.declared.label.Label.{Label}
 use Rattle.ux_net.specs.declared.label.Label.TheVariants as label
 use Rattle.ux_net.specs.Words.{Sign, positive, negative, Letter, plain, piece, context, ordinary, opens, closes, mark_of, letters, Step, put_by, Grammar, Run, stop, along, across, IsBody}
+use Rattle.ux_net.proofs.RunLemmas.{run_joined}
 use Rattle.ux_outputs.specs.declared.event.Event.{Event}
 use Rattle.ux_meaning.specs.Inputs.{Input}
 use Rattle.ux_meaning.specs.Meaning.{Seq, done, takes, stays, calls, holds, refused, RefusesBy}
@@ -14,6 +15,7 @@ use Rattle.ux_parts.specs.Ordered.{GoesAhead, AreSingle}
 
 -- an output in front, and derivations one after another
 module _ (input : Input) (grammar : Grammar) (R : ℕ → ℕ → ℕ → ℕ → Type 0) where
+  -- with an output in front a word applies as before
   pub put_front : (ps : List Piece) (w : List Letter) (i j : ℕ) (events : List Event) →
       Seq input grammar R w i j events →
       (all : List Event) × Seq input grammar R (map piece ps ++ w) i j all
@@ -23,12 +25,14 @@ module _ (input : Input) (grammar : Grammar) (R : ℕ → ℕ → ℕ → ℕ �
   put_front (Value t ∷ ps) w i j events s =
       let r = put_front ps w i j events s in (_, stays _ refl r.1)
 
+  -- and without it
   pub put_off : (ps : List Piece) (w : List Letter) (i j : ℕ) (events : List Event) →
       Seq input grammar R (map piece ps ++ w) i j events →
       (later : List Event) × Seq input grammar R w i j later
   put_off [] w i j events s = (events, s)
   put_off (p ∷ ps) w i j events (stays {later = later} here t s) = put_off ps w i j later s
 
+  -- words that apply one after the other apply joined
   pub seq_append : {v w : List Letter} {i k j : ℕ} {here later : List Event} →
       Seq input grammar R v i k here → Seq input grammar R w k j later →
       (all : List Event) × Seq input grammar R (v ++ w) i j all
@@ -39,23 +43,9 @@ module _ (input : Input) (grammar : Grammar) (R : ℕ → ℕ → ℕ → ℕ �
   seq_append (holds is inside s) t = let r = seq_append s t in (_, holds is inside r.1)
   seq_append (refused x s) t = let r = seq_append s t in (_, refused x r.1)
 
+  -- the empty word takes nothing
   empty_taken : {p j : ℕ} {events : List Event} → Seq input grammar R [] p j events → p ≡ j
   empty_taken done = refl
-
--- runs one after another
-module _ (grammar : Grammar) (g : ℕ) where
-  pub run_append : {a b c : ℕ} {v w : List Letter} → Run g (grammar.graph g) a b v →
-      Run g (grammar.graph g) b c w → Run g (grammar.graph g) a c (v ++ w)
-  run_append stop r = r
-  run_append {c = c} {w = w} (along {b = b} {word = v} s inside mark run) r =
-      subst (λ (z : List Letter). Run g (grammar.graph g) s.from c z)
-      (sym (append_assoc (put_by s ++ letters s.labels) v w))
-      (along s inside mark (run_append run r))
-  run_append {c = c} {w = w}
-      (across {body = body} {word = v} sign s t inside mark run inside' mark' rest) r =
-      subst (λ (z : List Letter). Run g (grammar.graph g) s.from c z)
-      (sym (append_assoc (put_by s) (context sign g s.to t.to ∷ v) w))
-      (across sign s t inside mark run inside' mark' (run_append rest r))
 
 -- a label that opens a context, by its sign
 pub is_opener : (x : Label) (sign : Sign) → mark_of (x ∷ []) ≡ opens sign →
@@ -297,7 +287,7 @@ module _ (input : Input) (last : ℕ) (ahead : GoesAhead input last) (grammar : 
         let all = seq_append input grammar Told f.seq one.seq in
         record {
           word = f.word ++ one.word;
-          run = run_append grammar g f.run one.run;
+          run = run_joined g (grammar.graph g) f.run one.run;
           events = all.0;
           seq = all.1;
         }

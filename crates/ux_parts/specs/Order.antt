@@ -14,7 +14,7 @@ use Rattle.ux_net.specs.declared.state.State.{State}
 use Rattle.ux_net.specs.Closings.{closing_of}
 use Rattle.ux_net.specs.Nets.{graph_at, states_of}
 use Rattle.ux_parts.specs.declared.part.Part.{Part}
-use Rattle.ux_parts.specs.Parts.{number_in}
+use Rattle.ux_parts.specs.Parts.{number_in, closing_list}
 
 -- the rank of a state as its major and its minor number, its graph, and the state
 abbrev pub Entry : Type 0
@@ -69,11 +69,6 @@ pub record IsOrderOf (entries order : List Entry) : Type 0 where
   pub permutation : IsPermutation entries sorted
   pub ascends : IsSorted entry_cmp sorted
   pub is : order ≡ dedup same_entry sorted
-
--- where a body is closed, as a list
-abbrev pub closing_list : Option ℕ → List ℕ
-closing_list None = []
-closing_list (Some target) = target ∷ []
 
 -- an entry as a part
 abbrev pub part_of : List NetGraph → Entry → Part

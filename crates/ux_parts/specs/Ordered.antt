@@ -3,7 +3,8 @@
 use Rattle.std.specs.Prelude.{◌≡◌, ℕ, ◌<◌, ◌≤◌, List, [], ◌∷◌}
 use Rattle.ux_net.specs.declared.label.Label.{Label}
 use Rattle.ux_net.specs.declared.label.Label.TheVariants as label
-use Rattle.ux_net.specs.Words.{Letter, plain, piece, context, Step, Grammar, IsWord, IsBody}
+use Rattle.ux_net.specs.Nullable.{IsNullable}
+use Rattle.ux_net.specs.Words.{Letter, plain, piece, context, Step, Grammar, IsBody}
 use Rattle.ux_meaning.specs.Inputs.{Input}
 
 -- labels that take something where they apply
@@ -21,7 +22,8 @@ pub record GoesAhead (input : Input) (last : ℕ) : Type 0 where
   pub forward : {x : Label} {p k : ℕ} → input.Takes x p k → p < k
   pub within : {x : Label} {p k : ℕ} → input.Takes x p k → k ≤ last
 
--- letters that may take nothing by themselves
+-- Letters that stay where they stand. They are the silent ones of `IsFree`, but for the empty word,
+-- which is no letter of a word.
 abbrev pub MayStay : Letter → Type 0
 MayStay (plain label.NoSpace) = Unit {0}
 MayStay (plain (label.Begin name)) = Unit {0}
@@ -32,19 +34,6 @@ MayStay (context sign g opening closing) = Unit {0}
 MayStay letter = ⊥
 
 module _ (grammar : Grammar) where
-  -- each letter of the word may take nothing: a call, where its graph has such a word
-  pub data IsFree : List Letter → Type 0 where
-    none : IsFree []
-    stays : {x : Letter} {word : List Letter} → MayStay x → IsFree word → IsFree (x ∷ word)
-    calls : {h : ℕ} {called word : List Letter} → IsWord h (grammar.graph h) called →
-        IsFree called → IsFree word → IsFree (plain (label.Call h) ∷ word)
-
-  -- the graph has a word that may take nothing
-  pub record IsNullable (h : ℕ) : Type 0 where
-    pub word : List Letter
-    pub of_graph : IsWord h (grammar.graph h) word
-    pub free : IsFree word
-
   -- each step has one label
   pub record AreSingle : Type 0 where
     pub single : (g : ℕ) (s : Step) → (grammar.graph g).IsStep s → (x : Label) × (s.labels ≡ x ∷ [])
@@ -65,7 +54,7 @@ module _ (grammar : Grammar) where
     NeverRises g from to label.Cut = rank g to ≤ rank g from
     NeverRises g from to (label.Call h) =
         (rank h (grammar.graph h).start < rank g from)
-        × (IsNullable h → rank g to ≤ rank g from)
+        × (IsNullable grammar h → rank g to ≤ rank g from)
     NeverRises g from to label.Positive =
         (rank g to < rank g from) × IsClosedBelow g to (rank g from)
     NeverRises g from to label.Negative =

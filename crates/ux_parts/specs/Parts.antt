@@ -6,7 +6,7 @@ use Rattle.ux_net.specs.declared.label.Label.TheVariants.{Positive, Negative}
 use Rattle.ux_net.specs.declared.state.Edge.{Edge}
 use Rattle.ux_net.specs.declared.state.State.{State}
 use Rattle.ux_net.specs.declared.net_graph.NetGraph.{NetGraph}
-use Rattle.ux_net.specs.Words.{Letter, IsBody}
+use Rattle.ux_net.specs.Closings.{IsClosedInto, closing_of as closing_told}
 use Rattle.ux_net.specs.Nets.{states_of, net_grammar}
 use Rattle.ux_net.specs.Levels.{HasLevels}
 use Rattle.ux_parts.specs.declared.part.Part.{Part}
@@ -51,24 +51,32 @@ abbrev pub closing_of : Parts → (g state : ℕ) → List ℕ
 closing_of parts g state = closing_at parts (number_of parts g state)
 
 -- the body that begins at the state is closed into one state, which is told
-pub record IsClosedInto (net : List NetGraph) (g state : ℕ) (closing : List ℕ) : Type 0 where
+pub record TellsClosing (net : List NetGraph) (g state : ℕ) (closing : List ℕ) : Type 0 where
   pub target : ℕ
   pub told : closing ≡ target ∷ []
-  pub word : List Letter
-  pub body : IsBody g ((net_grammar net).graph g) state target word
-  pub only : (c : ℕ) (other : List Letter) → IsBody g ((net_grammar net).graph g) state c other →
-      c ≡ target
+  pub closed : IsClosedInto net g state target
 
 -- the negative context that opens into the state has a part, which tells where it is closed
 abbrev pub IsNegativePart : List NetGraph → Parts → (g state : ℕ) → Type 0
 IsNegativePart net parts g state =
-    Begins parts g state × IsClosedInto net g state (closing_of parts g state)
+    Begins parts g state × TellsClosing net g state (closing_of parts g state)
 
 -- what a context opens is a part
 abbrev pub Opens : List NetGraph → Parts → (g to : ℕ) → Label → Type 0
 Opens net parts g to Positive = Begins parts g to
 Opens net parts g to Negative = IsNegativePart net parts g to
 Opens net parts g to label = Unit {0}
+
+-- where a body is closed, as a list
+abbrev pub closing_list : Option ℕ → List ℕ
+closing_list None = []
+closing_list (Some target) = target ∷ []
+
+-- The part of this number is the one that the number at its first state names, and it is closed where
+-- the net tells it: into no state, where the net tells none.
+pub record IsNamed (net : List NetGraph) (parts : Parts) (number : ℕ) (part : Part) : Type 0 where
+  pub at_first : number_of parts part.graph part.first ≡ Some number
+  pub closing : part.closing ≡ closing_list (closing_told net part.graph part.first)
 
 -- The parts of a net, in an order in which they can be searched: each after those that it enters with
 -- nothing taken. Ranks of the states tell that order, and levels of the parts how deep negative
@@ -82,6 +90,9 @@ pub record ArePartsOf (net : List NetGraph) (parts : Parts) : Type 0 where
   -- the number at a state is that of the part which begins there
   pub numbers : (g state number : ℕ) → number_of parts g state ≡ Some number →
       IsPartAt parts number g state
+  -- and each part of the list is the one that its state's number names
+  pub named : (number : ℕ) (part : Part) → slice_get parts.list number ≡ Some part →
+      IsNamed net parts number part
   -- parts stand by rank
   pub rank : (g state : ℕ) → ℕ
   pub sorted : (u v : ℕ) (p q : Part) → slice_get parts.list u ≡ Some p →

@@ -13,9 +13,9 @@
 //! A state is told by its rank in `ordering`, where the parts are put in order and numbered.
 #![tactic(auto)]
 
-pub mod ordering;
-pub mod part;
-pub mod parts;
+mod ordering;
+mod part;
+mod parts;
 
 pub use part::Part;
 pub use parts::Parts;

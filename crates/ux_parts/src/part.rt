@@ -9,6 +9,7 @@ pub struct Part {
     pub graph: u32,
     /// The state from which it is searched.
     pub first: u32,
-    /// The state into which the body is closed, where a negative context opens it; else none.
+    /// The state into which the body is closed, where the net tells one. It does so where a negative
+    /// context opens the part.
     pub closing: Lst<u32>,
 }

@@ -70,7 +70,8 @@ impl Parts {
         self.list.as_slice().get(number as usize)
     }
 
-    /// The states into which the body that begins at a state is closed, as its part tells.
+    /// The state into which the body that begins at a state is closed, as its part tells: where a
+    /// negative context's body is closed.
     pub fn closing(&self, graph: u32, state: u32) -> &[u32]
         ensures { result.now ≡ closing_of self.now graph state }
     {

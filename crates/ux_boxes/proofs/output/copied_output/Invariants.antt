@@ -1,5 +1,5 @@
 use Rattle.std.proofs.Common.{◌≡◌, take}
-use Rattle.ux_boxes.proofs.output.copied.Given as goal
+use Rattle.ux_boxes.proofs.output.copied_output.Given as goal
 
 -- the pieces so far
 abbrev pub invariant-loop-piece : goal.invariant-loop-piece

@@ -1,6 +1,6 @@
 use Rattle.std.proofs.Common.{arith}
 use Rattle.std.proofs.lemmas.Grind.{common_steps}
-use Rattle.ux_boxes.proofs.output.copied.Goals as goal
+use Rattle.ux_boxes.proofs.output.copied_output.Goals as goal
 
 pub loop-piece-preserved : goal.loop-piece-preserved
 loop-piece-preserved c = grind (arith, common_steps)
