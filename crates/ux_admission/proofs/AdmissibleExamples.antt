@@ -4,7 +4,8 @@ use Rattle.std.specs.Prelude.{Contains}
 use Rattle.ux_net.specs.declared.label.Label.TheVariants.{Empty, CaseFolded, Positive, ContextEnd, Call}
 use Rattle.ux_net.specs.Words.{positive, Step, StepGraph, Grammar, ordinary, opens, closes, mark_of, stop, along}
 use Rattle.ux_net.specs.Closers.{ClosesInto}
-use Rattle.ux_admission.specs.Admissible.{none, MovesFreely, along_step, over_context, IsOnMove, in_front, at_opening, by_call, by_opening, once, Enters, IsOnEmptyLoop, IsLeftRecursive}
+use Rattle.ux_net.specs.Nullable.{none}
+use Rattle.ux_admission.specs.Admissible.{MovesFreely, along_step, over_context, IsOnMove, in_front, at_opening, by_call, by_opening, once, Enters, IsOnEmptyLoop, IsLeftRecursive}
 use Rattle.ux_admission.proofs.FreeLemmas.{free_ordinary, move_of}
 use Rattle.ux_net.proofs.WordsExamples.{listed, bare}
 

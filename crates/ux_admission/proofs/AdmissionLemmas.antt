@@ -7,7 +7,8 @@ use Rattle.ux_boxes.specs.declared.place.Place.{Place}
 use Rattle.ux_net.specs.Words.{Step, stop, letters}
 use Rattle.ux_boxes.specs.Places.{places_of, place_grammar, IsPlaceStep}
 use Rattle.ux_boxes.specs.Fit.{IsFit}
-use Rattle.ux_admission.specs.Admissible.{IsFree, none, MovesFreely, along_step, over_context, EntersAt, by_call, by_opening, IsOnEmptyLoop, IsLeftRecursive}
+use Rattle.ux_net.specs.Nullable.{IsFree, none}
+use Rattle.ux_admission.specs.Admissible.{MovesFreely, along_step, over_context, EntersAt, by_call, by_opening, IsOnEmptyLoop, IsLeftRecursive}
 use Rattle.ux_boxes.specs.Numbers.{number_of, all_places}
 use Rattle.ux_admission.specs.Ways.{AreFreeMarks, EndsFreely}
 use Rattle.ux_admission.specs.Cycles.{AreNumbered, AreLoopsMet}

@@ -9,11 +9,12 @@ use Rattle.ux_boxes.specs.declared.place.Place.{Place}
 use Rattle.ux_net.specs.Words.{stop}
 use Rattle.ux_boxes.specs.Places.{places_of, place_grammar}
 use Rattle.ux_boxes.specs.Fit.{IsFit}
-use Rattle.ux_admission.specs.Admissible.{none, LeadsFreely, MovesFreely, IsOnMove, in_front, IsUnit, Enters, EntersInTurns, once, IsOnEmptyLoop, IsLeftRecursive}
+use Rattle.ux_net.specs.Nullable.{none}
+use Rattle.ux_admission.specs.Admissible.{LeadsFreely, MovesFreely, IsOnMove, in_front, IsUnit, Enters, EntersInTurns, once, IsOnEmptyLoop, IsLeftRecursive}
 use Rattle.ux_boxes.specs.Numbers.{number_of}
 use Rattle.ux_admission.specs.Ways.{IsFreeEdge, IsEntryEdge}
 use Rattle.ux_admission.specs.Cycles.{AreFreeEdges, AreAllEdges, IsLoopStep, IsEntryStep, AreLoopsMet}
-use Rattle.ux_boxes.proofs.NumbersLemmas.{same_place, place_so, number_below, graph_so}
+use Rattle.ux_boxes.proofs.NumbersLemmas.{same_place, place_so, number_below}
 use Rattle.ux_admission.proofs.FreeLemmas.{leads_joined, move_of, move_leads, Moves, rest, move, leads_moves}
 use Rattle.ux_boxes.proofs.StepsLemmas.{step_inside}
 use Rattle.ux_admission.proofs.UnitsLemmas.{move_inside, entered_inside, entered_unit}

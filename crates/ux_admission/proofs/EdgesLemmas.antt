@@ -11,7 +11,8 @@ use Rattle.ux_admission.specs.declared.spot.Spot.{Spot}
 use Rattle.ux_net.specs.Words.{Step, letters}
 use Rattle.ux_boxes.specs.Places.{places_of, place_grammar, IsPlaceStep}
 use Rattle.ux_boxes.specs.Fit.{IsFit}
-use Rattle.ux_admission.specs.Admissible.{IsFree, none, MovesFreely, along_step, over_context, IsOnMove, in_front, at_opening, EntersAt, by_call, by_opening}
+use Rattle.ux_net.specs.Nullable.{IsFree, none}
+use Rattle.ux_admission.specs.Admissible.{MovesFreely, along_step, over_context, IsOnMove, in_front, at_opening, EntersAt, by_call, by_opening}
 use Rattle.ux_boxes.specs.Numbers.{number_of, all_places}
 use Rattle.ux_admission.specs.Ways.{Passes, IsWay, AreWays, AreFreeMarks, LeadsOn, IsOpen, entered_by, opened_by, IsFreeEdge, IsEntryEdge, way_at}
 use Rattle.ux_admission.specs.Cycles.{IsLoopStep, IsEntryStep, AreFreeEdges, AreAllEdges}

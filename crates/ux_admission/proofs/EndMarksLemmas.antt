@@ -14,23 +14,6 @@ use Rattle.ux_net.specs.Words.{Sign, ordinary, opens}
 use Rattle.ux_admission.proofs.FindingLemmas.{row_inside, closes_inside}
 use Rattle.ux_admission.proofs.GainsLemmas.{gains_as, gains_none}
 
--- what is so first, and what is so then
-pub gains_both : {A : Type 0} (before now after : List A) (First Then : A → Type 0) →
-    Gains before now First → Gains now after Then → Gains before after (λ x. First x ⊎ Then x)
-gains_both before now after First Then old new = λ x. (
-  λ h. elim ((new x).0 h) [
-    | inl a ↦ elim ((old x).0 a) [ inl b ↦ inl b | inr s ↦ inr (inl s) ]
-    | inr s ↦ inr (inr s)
-  ],
-  λ h. elim h [
-    | inl b ↦ (new x).1 (inl ((old x).1 (inl b)))
-    | inr s ↦ elim s [
-      | inl f ↦ (new x).1 (inl ((old x).1 (inr f)))
-      | inr t ↦ (new x).1 (inr t)
-    ]
-  ],
-)
-
 -- a list that isn't empty has an item
 pub item_of : (xs : List ℕ) → nat_eq (length xs) 0 ≡ false → (x : ℕ) × Contains xs x
 item_of [] e = absurd (cc)

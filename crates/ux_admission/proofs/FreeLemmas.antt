@@ -7,7 +7,8 @@ use Rattle.ux_net.specs.declared.label.Label.{Label}
 use Rattle.ux_net.specs.declared.label.Label.TheVariants.{Empty, CaseFolded, CaseExact, Mask, Brace, Space, NoSpace, Begin, End, Positive, Negative, ContextEnd, Cut, Call}
 use Rattle.ux_net.specs.Words.{Sign, Step, Grammar, Letter, plain, piece, context, ordinary, mark_of, Run, stop, along, across, letters, put_by}
 use Rattle.ux_boxes.specs.Fit.{is_call}
-use Rattle.ux_admission.specs.Admissible.{IsSilent, IsFree, none, silent, call, IsNullable, LeadsFreely, MovesFreely, along_step, over_context, IsOnMove, in_front, at_opening}
+use Rattle.ux_net.specs.Nullable.{IsSilent, IsFree, none, silent, call, IsNullable}
+use Rattle.ux_admission.specs.Admissible.{LeadsFreely, MovesFreely, along_step, over_context, IsOnMove, in_front, at_opening}
 use Rattle.ux_net.specs.Silent.{is_silent, are_silent}
 use Rattle.ux_net.proofs.RunLemmas.{run_joined, one_step, over_step}
 
@@ -151,10 +152,10 @@ module _ (grammar : Grammar) where
 
   pub call_nullable : {h : ℕ} → IsFree grammar (plain (Call h) ∷ []) → IsNullable grammar h
   call_nullable (silent s f) = absurd (cc)
-  call_nullable (call {called = called} w c f) = (called, w, c)
+  call_nullable (call {called = called} w c f) = record { word = called; of_graph = w; free = c }
 
   pub nullable_call : (h : ℕ) → IsNullable grammar h → IsFree grammar (plain (Call h) ∷ [])
-  nullable_call h n = call n.1 n.2 none
+  nullable_call h n = call n.of_graph n.free none
 
 module _ (grammar : Grammar) where
   pub leads_joined : (g : ℕ) {a b c : ℕ} → LeadsFreely grammar g a b → LeadsFreely grammar g b c →

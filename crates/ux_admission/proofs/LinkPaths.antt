@@ -12,7 +12,6 @@ use Rattle.ux_admission.specs.declared.uses.Link.{Link}
 use Rattle.ux_net.specs.Words.{positive, negative, Step, Letter, Run, stop, along, across, opens, mark_of}
 use Rattle.ux_boxes.specs.Places.{places_of, place_graph, place_grammar, IsPlaceStep}
 use Rattle.ux_boxes.specs.Fit.{IsFit}
-use Rattle.ux_net.specs.Closers.{ClosesInto}
 use Rattle.ux_admission.specs.NegativeRecursion.{LeadsTo, Uses, called, opened, UsesInTurns, once, more, IsNegativeRecursive}
 use Rattle.ux_boxes.specs.Numbers.{number_of, all_places}
 use Rattle.ux_admission.specs.Uses.{refuses, link_from, IsLinkOf, onward, calling, opening, over, IsLink, IsLinked, AreLinkEdges, IsCircular, AreLevels}
@@ -21,16 +20,9 @@ use Rattle.ux_net.proofs.RunLemmas.{run_joined, one_step}
 use Rattle.ux_boxes.proofs.NumbersLemmas.{same_place, place_so, number_below}
 use Rattle.ux_boxes.proofs.StepsLemmas.{step_inside, step_line, start_inside}
 use Rattle.ux_admission.proofs.UsesLemmas.{lone_call}
+use Rattle.ux_admission.proofs.WaysExact.{closer_inside}
 
 module _ (graphs : List (List Place)) where
-  -- a place into which a body is closed is one of its graph
-  pub closer_inside : (g o c : ℕ) → ClosesInto (place_grammar graphs) g o c →
-      c < length (places_of graphs g)
-  closer_inside g o c closes =
-      let body = closes.1 in
-      subst (λ n. n < length (places_of graphs g)) body.after
-      (step_inside (places_of graphs g) body.step body.inside).1
-
   -- the link of a step is one of all
   linked : (g : ℕ) (s : Step) → IsPlaceStep (places_of graphs g) s → (to : ℕ) (into : Bool) →
       IsLinkOf graphs g s (link_from graphs g s.from to into) →
@@ -104,7 +96,7 @@ module _ (graphs : List (List Place)) where
     link_ends g s i (opening sign m) =
         number_below graphs g s.to (step_inside (places_of graphs g) s i).1
     link_ends g s i (over sign c m closes) =
-        number_below graphs g c (closer_inside g s.to c closes)
+        number_below graphs g c (closer_inside graphs g s.to c closes)
 
     link_begins : (g : ℕ) (s : Step) {link : Link} → IsPlaceStep (places_of graphs g) s →
         IsLinkOf graphs g s link → link.from < all_places graphs
@@ -143,7 +135,7 @@ module _ (graphs : List (List Place)) where
         let body = closes.1 in
         let jump : Leads g s.from body.step.to =
         (_, across sign s body.step i m body.run body.inside body.closed stop) in
-        again g first c (closer_inside g s.to c closes) refl
+        again g first c (closer_inside graphs g s.to c closes) refl
         (leads_on g first s.from c l (subst (λ n. Leads g s.from n) body.after jump))
 
     module _ (edges : List (List ℕ)) (are : AreLinkEdges graphs edges) where

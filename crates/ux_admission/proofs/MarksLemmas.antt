@@ -13,7 +13,8 @@ use Rattle.ux_admission.specs.declared.way.Passage.TheVariants.{Silent, Calls, O
 use Rattle.ux_net.specs.Words.{Step, Letter, plain, piece, context, Run, stop, along, across, letters, put_by}
 use Rattle.ux_boxes.specs.Places.{places_of, place_graph, place_grammar, IsPlaceStep, IsEndPlace}
 use Rattle.ux_boxes.specs.Fit.{IsFit, is_call}
-use Rattle.ux_admission.specs.Admissible.{IsSilent, IsFree, none, silent, call, IsNullable, MovesFreely, along_step, over_context}
+use Rattle.ux_net.specs.Nullable.{IsSilent, IsFree, none, silent, call, IsNullable}
+use Rattle.ux_admission.specs.Admissible.{MovesFreely, along_step, over_context}
 use Rattle.ux_admission.specs.Gains.{Gains, SoOfOne}
 use Rattle.ux_boxes.specs.Numbers.{number_of, all_places}
 use Rattle.ux_net.specs.Silent.{are_silent}
@@ -37,15 +38,19 @@ module _ (graphs : List (List Place)) (fit : All (IsFit (length graphs)) graphs)
 
   pub nullable_ends : (h : ℕ) → IsNullable (place_grammar graphs) h → EndsFreely graphs h 0
   nullable_ends h n = record {
-    last = n.1.last;
-    word = n.0;
-    ends = n.1.ends;
-    run = n.1.run;
-    free = n.2;
+    last = n.of_graph.last;
+    word = n.word;
+    ends = n.of_graph.ends;
+    run = n.of_graph.run;
+    free = n.free;
   }
 
   pub ends_nullable : (h : ℕ) → EndsFreely graphs h 0 → IsNullable (place_grammar graphs) h
-  ends_nullable h e = (e.word, record { last = e.last; ends = e.ends; run = e.run }, e.free)
+  ends_nullable h e = record {
+    word = e.word;
+    of_graph = record { last = e.last; ends = e.ends; run = e.run };
+    free = e.free;
+  }
 
   -- a way that leads on is a move, where the start that it calls leads freely to an end
   pub passes_move : (g : ℕ) (s : Step) → IsPlaceStep (places_of graphs g) s → (c : ℕ)

@@ -7,7 +7,8 @@ use Rattle.ux_admission.specs.NegativeRecursion.{LeadsTo, Uses, called, opened, 
 use Rattle.ux_net.proofs.SameGrammar.{IsWithin, run_within, body_within}
 
 module _ (old new : Grammar) (within : (g : ℕ) → IsWithin (old.graph g) (new.graph g)) where
-  closes_within : (g a c : ℕ) → ClosesInto old g a c → ClosesInto new g a c
+  -- a body of the one grammar is closed into the same place in the other
+  pub closes_within : (g a c : ℕ) → ClosesInto old g a c → ClosesInto new g a c
   closes_within g a c h =
       (h.0, body_within g (old.graph g) (new.graph g) (within g) a c h.0 h.1)
 

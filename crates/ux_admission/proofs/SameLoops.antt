@@ -2,10 +2,11 @@
 -- recursions take nothing in it.
 use Rattle.std.proofs.Common.{ℕ, List, subst, sym, ◌∙◌, inl, inr}
 use Rattle.ux_net.specs.Words.{Step, Grammar, Letter}
-use Rattle.ux_net.specs.Closers.{ClosesInto}
-use Rattle.ux_admission.specs.Admissible.{IsFree, none, silent, call, LeadsFreely, MovesFreely, along_step, over_context, IsOnMove, in_front, at_opening, IsUnit, EntersAt, by_call, by_opening, Enters, EntersInTurns, once, more, IsOnEmptyLoop, IsLeftRecursive, IsAdmissible}
+use Rattle.ux_net.specs.Nullable.{IsFree, none, silent, call}
+use Rattle.ux_admission.specs.Admissible.{LeadsFreely, MovesFreely, along_step, over_context, IsOnMove, in_front, at_opening, IsUnit, EntersAt, by_call, by_opening, Enters, EntersInTurns, once, more, IsOnEmptyLoop, IsLeftRecursive, IsAdmissible}
 use Rattle.ux_boxes.specs.Refusing.{IsFirst}
-use Rattle.ux_net.proofs.SameGrammar.{IsWithin, run_within, word_within, body_within}
+use Rattle.ux_net.proofs.SameGrammar.{IsWithin, run_within, word_within}
+use Rattle.ux_admission.proofs.SameContexts.{closes_within}
 
 module _ (old new : Grammar) (within : (g : ℕ) → IsWithin (old.graph g) (new.graph g)) where
   free_within : {word : List Letter} → IsFree old word → IsFree new word
@@ -18,10 +19,6 @@ module _ (old new : Grammar) (within : (g : ℕ) → IsWithin (old.graph g) (new
   leads_within : (g a b : ℕ) → LeadsFreely old g a b → LeadsFreely new g a b
   leads_within g a b l =
       (l.0, run_within g (old.graph g) (new.graph g) (within g) l.1, free_within l.2)
-
-  closes_within : (g a c : ℕ) → ClosesInto old g a c → ClosesInto new g a c
-  closes_within g a c b =
-      (b.0, body_within g (old.graph g) (new.graph g) (within g) a c b.0 b.1)
 
   unit_within : (g first : ℕ) → IsUnit old g first → IsUnit new g first
   unit_within g first (inl e) = inl (e ∙ (within g).start)
@@ -38,12 +35,12 @@ module _ (old new : Grammar) (within : (g : ℕ) → IsWithin (old.graph g) (new
   move_within : (g : ℕ) {a b : ℕ} → MovesFreely old g a b → MovesFreely new g a b
   move_within g (along_step s i f) = along_step s ((within g).steps s i) (free_within f)
   move_within g (over_context {closing = c} sign s i m b) =
-      over_context sign s ((within g).steps s i) m (closes_within g s.to c b)
+      over_context sign s ((within g).steps s i) m (closes_within old new within g s.to c b)
 
   on_within : (g : ℕ) {node a b : ℕ} → IsOnMove old g node a b → IsOnMove new g node a b
   on_within g (in_front m) = in_front (move_within g m)
   on_within g (at_opening {closing = c} sign s i m b) =
-      at_opening sign s ((within g).steps s i) m (closes_within g s.to c b)
+      at_opening sign s ((within g).steps s i) m (closes_within old new within g s.to c b)
 
   entry_within : (g : ℕ) (s : Step) {h v : ℕ} → EntersAt old g s h v → EntersAt new g s h v
   entry_within g s (by_call {h = h} front back e f) =

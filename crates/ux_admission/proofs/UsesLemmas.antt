@@ -24,26 +24,6 @@ pub gains_own : {A : Type 0} (before after : List A) (y : A) → after ≡ befor
     Gains before after (λ x. y ≡ x)
 gains_own before after y is = gains_one before after y (λ x. y ≡ x) is refl (λ x e. e)
 
--- what is so in one way is added, and then what is so in another
-pub gains_both : {A : Type 0} (before now after : List A) (One Other : A → Type 0) →
-    Gains before now One → Gains now after Other → Gains before after (λ x. One x ⊎ Other x)
-gains_both before now after One Other first later = λ x. (
-  λ h. elim ((later x).0 h) [
-    | inl a ↦ elim ((first x).0 a) [
-      | inl b ↦ inl b
-      | inr s ↦ inr (inl s)
-    ]
-    | inr s ↦ inr (inr s)
-  ],
-  λ h. elim h [
-    | inl b ↦ (later x).1 (inl ((first x).1 (inl b)))
-    | inr s ↦ elim s [
-      | inl o ↦ (later x).1 (inl ((first x).1 (inr o)))
-      | inr o ↦ (later x).1 (inr o)
-    ]
-  ],
-)
-
 -- a fit line in which a call stands is that call
 pub lone_call : (count : ℕ) (line : List Label) (h : ℕ) → IsFitLine count line →
     Contains line (Call h) → line ≡ Call h ∷ []

@@ -17,7 +17,7 @@ use Rattle.ux_boxes.specs.Numbers.{number_of, AreOffsets}
 use Rattle.ux_admission.specs.Ways.{IsOpening, IsOpeningWay, IsJump, jump_to, IsWayAlong, Passes}
 use Rattle.ux_admission.proofs.FreeLemmas.{silent_free, free_ordinary}
 use Rattle.ux_admission.proofs.GainsLemmas.{gains_one, gains_as}
-use Rattle.ux_boxes.proofs.StepsLemmas.{call_inside}
+use Rattle.ux_boxes.proofs.StepsLemmas.{call_inside, same_call}
 
 no_silent_call : (line : List Label) (h : ℕ) → line ≡ Call h ∷ [] → are_silent line ≡ true → ⊥
 no_silent_call line h e s =
@@ -36,9 +36,6 @@ silent_opens_not graphs line s o = ordinary_opens_not (mark_of line)
 pub call_opens_not : (line : List Label) (h : ℕ) → line ≡ Call h ∷ [] → IsOpening line → ⊥
 call_opens_not line h e o =
     ordinary_opens_not (mark_of line) (ap (λ (l : List Label). mark_of l) e) o.0 o.1
-
-same_call : (h k : ℕ) → Call h ∷ [] ≡ Call k ∷ [] → h ≡ k
-same_call h k e = cc
 
 -- a way is what its parts are
 pub way_same : (step way : Way) (passage : Passage) → step.graph ≡ way.graph →

@@ -1,39 +1,20 @@
 -- Which grammars have a finite meaning: no loop takes nothing, and no unit begins with itself. The
 -- manual, on graphs and on contexts. Public: the crate's public contracts speak of it.
-use Rattle.std.specs.Prelude.{◌≡◌, ℕ, ◌⊎◌, List, [], ◌∷◌, ◌++◌, true}
+use Rattle.std.specs.Prelude.{◌≡◌, ℕ, ◌⊎◌, List, ◌∷◌, ◌++◌}
 use Rattle.ux_net.specs.declared.label.Label.{Label}
 use Rattle.ux_net.specs.declared.label.Label.TheVariants.{Call}
-use Rattle.ux_net.specs.Silent.{is_silent}
-use Rattle.ux_net.specs.Words.{Sign, Step, Grammar, Letter, plain, piece, context, opens, mark_of, letters, Run, IsWord}
+use Rattle.ux_net.specs.Nullable.{IsFree}
+use Rattle.ux_net.specs.Words.{Sign, Step, Grammar, Letter, opens, mark_of, letters, Run}
 use Rattle.ux_net.specs.Closers.{ClosesInto, OpensInto}
 
--- a letter that takes no token, wherever it applies, and calls nothing: a silent label, a piece of
--- an output, or a whole context
-abbrev pub IsSilent : Letter → Type 0
-IsSilent (plain label) = is_silent label ≡ true
-IsSilent (piece part) = Unit {0}
-IsSilent (context sign g opening closing) = Unit {0}
-
 module _ (grammar : Grammar) where
-  -- a word that may take nothing: what it calls has such a word
-  pub data IsFree : List Letter → Type 0 where
-    none : IsFree []
-    silent : {letter : Letter} {word : List Letter} → IsSilent letter → IsFree word →
-        IsFree (letter ∷ word)
-    call : {h : ℕ} {called word : List Letter} → IsWord h (grammar.graph h) called → IsFree called →
-        IsFree word → IsFree (plain (Call h) ∷ word)
-
-  -- the graph has a word that may take nothing
-  abbrev pub IsNullable : ℕ → Type 0
-  IsNullable g = (word : List Letter) × IsWord g (grammar.graph g) word × IsFree word
-
   -- a run of a graph that may take nothing leads from a place to a place
   abbrev pub LeadsFreely : (g a b : ℕ) → Type 0
-  LeadsFreely g a b = (word : List Letter) × Run g (grammar.graph g) a b word × IsFree word
+  LeadsFreely g a b = (word : List Letter) × Run g (grammar.graph g) a b word × IsFree grammar word
 
   -- one step that may take nothing, or one whole context, leads from a place to a place
   pub data MovesFreely (g : ℕ) : ℕ → ℕ → Type 0 where
-    along_step : (s : Step) → (grammar.graph g).IsStep s → IsFree (letters s.labels) →
+    along_step : (s : Step) → (grammar.graph g).IsStep s → IsFree grammar (letters s.labels) →
         MovesFreely g s.from s.to
     over_context : {closing : ℕ} (sign : Sign) (s : Step) → (grammar.graph g).IsStep s →
         mark_of s.labels ≡ opens sign → ClosesInto grammar g s.to closing →
@@ -63,7 +44,7 @@ module _ (grammar : Grammar) where
   -- a step of graph g enters a unit: it calls a graph before it takes a token, or opens a context
   pub data EntersAt (g : ℕ) (step : Step) : (h first : ℕ) → Type 0 where
     by_call : {h : ℕ} (front back : List Label) → step.labels ≡ front ++ Call h ∷ back →
-        IsFree (letters front) → EntersAt g step h (grammar.graph h).start
+        IsFree grammar (letters front) → EntersAt g step h (grammar.graph h).start
     by_opening : (sign : Sign) → mark_of step.labels ≡ opens sign → EntersAt g step g step.to
 
   -- The unit (g, u) enters (h, v) at a step to this node: before it takes a token.

@@ -1,5 +1,5 @@
--- Ranks of places, by which no walk that takes nothing goes on for ever. Inner: compiling alone
--- speaks of it.
+-- Ranks of places, by which no walk that takes nothing goes on for ever. Inner: the crates that
+-- make nets alone speak of it.
 use Rattle.std.specs.Prelude.{◌≡◌, ℕ, zero, suc, ◌<◌, ◌≤◌, List, [], ◌∷◌, length, get_or, Bool, true, false}
 use Rattle.ux_net.specs.declared.label.Label.TheVariants.{Call}
 use Rattle.ux_boxes.specs.declared.place.Place.{Place}

@@ -1,5 +1,5 @@
--- Into which places the contexts of graphs of places are closed. Inner: compiling alone speaks of
--- it.
+-- Into which places the contexts of graphs of places are closed. Inner: the crates that make nets
+-- alone speak of it.
 use Rattle.std.specs.Prelude.{◌≡◌, ℕ, ◌<◌, ◌↔◌, List, [], length, get_or, Contains}
 use Rattle.ux_boxes.specs.declared.place.Place.{Place}
 use Rattle.ux_boxes.specs.Places.{places_of, place_grammar}

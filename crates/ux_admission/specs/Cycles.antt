@@ -1,4 +1,4 @@
--- Steps whose two ends lead to each other. Inner: compiling alone speaks of it.
+-- Steps whose two ends lead to each other. Inner: the crates that make nets alone speak of it.
 use Rattle.std.specs.Prelude.{◌≡◌, ℕ, ◌⊎◌, ◌↔◌, List, length, get_or, Contains}
 use Rattle.ux_digraph.specs.Paths.{row_of}
 use Rattle.ux_digraph.specs.Components.{AreComponents}

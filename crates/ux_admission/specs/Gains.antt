@@ -1,4 +1,4 @@
--- Lists that grow by what is so. Inner: the crate's own functions alone speak of it.
+-- Lists that grow by what is so. Inner: the crates that make nets alone speak of it.
 use Rattle.std.specs.Prelude.{◌≡◌, Some, slice_get, ℕ, ◌<◌, ◌⊎◌, ◌↔◌, List, Contains}
 
 -- the list has what it had, and what is so

@@ -4,19 +4,10 @@ use Rattle.std.specs.Prelude.{◌≡◌, ◌≢◌, ℕ, ◌<◌, ◌↔◌, Lis
 use Rattle.ux_digraph.specs.Paths.{row_of}
 use Rattle.ux_net.specs.declared.label.Label.{Label}
 use Rattle.ux_admission.specs.declared.leading.Leading.{Leading}
-use Rattle.ux_admission.specs.declared.leading.LineMark.{LineMark}
-use Rattle.ux_admission.specs.declared.leading.LineMark.TheVariants as line
 use Rattle.ux_admission.specs.declared.leading.Marks.{Marks}
 use Rattle.ux_boxes.specs.declared.place.Place.{Place}
 use Rattle.ux_boxes.specs.Places.{label_lines, place_targets}
 use Rattle.ux_net.specs.Words.{Sign, positive, negative, Mark, ordinary, opens, closes, mark_of}
-
--- what a line does to contexts
-abbrev pub said : LineMark → Mark
-said line.Ordinary = ordinary
-said line.Positive = opens positive
-said line.Negative = opens negative
-said line.Closes = closes
 
 -- one of the lines does this to contexts
 abbrev pub HasLine : Mark → List (List Label) → Type 0

@@ -1,5 +1,5 @@
--- What the refusal of a grammar without levels tells. Inner: the crate's own functions alone speak
--- of it.
+-- What the refusal of a grammar without levels tells. Public: the contract of `levels_of` speaks of
+-- it.
 use Rattle.std.specs.Prelude.{List}
 use Rattle.ux_admission.specs.declared.negative_recursion.LevelsError.{LevelsError}
 use Rattle.ux_admission.specs.declared.negative_recursion.LevelsError.TheVariants.{NegativeRecursion, NoMemory}

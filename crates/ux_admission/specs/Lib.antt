@@ -1,6 +1,8 @@
 pub mod Closers
+pub mod ToldClosings
 pub mod Admissible
 pub mod ContextClose
+pub mod Lines
 pub mod Uses
 pub mod Ways
 pub mod Admission

@@ -1,4 +1,4 @@
--- What the refusal of a grammar tells. Inner: compiling alone speaks of it.
+-- What the refusal of a grammar tells. Inner: the crates that make nets alone speak of it.
 use Rattle.std.specs.Prelude.{ℕ, List}
 use Rattle.ux_admission.specs.declared.admissible.AdmissionError.{AdmissionError}
 use Rattle.ux_admission.specs.declared.admissible.AdmissionError.TheVariants.{EmptyLoop, LeftRecursion, NoMemory}

@@ -1,5 +1,5 @@
--- The first place of the first graph of which something is so. Inner: the crate's own functions
--- alone speak of it.
+-- The first place of the first graph of which something is so. Public: the contract of
+-- `first_bad_context` speaks of it.
 use Rattle.std.specs.Prelude.{◌≡◌, ℕ, ◌<◌, ◌≤◌, ◌⊎◌, List, Option, Some, None, Contains, get_or, Bool}
 use Rattle.ux_admission.specs.declared.spot.Spot.{Spot}
 use Rattle.ux_admission.specs.declared.way.Way.{Way}

@@ -1,5 +1,6 @@
 -- Links between the places of all graphs, along steps, over contexts, and into what is called or
--- opened; and levels, which never rise along them. Inner: compiling alone speaks of it.
+-- opened; and levels, which never rise along them. Inner: the crates that make nets alone speak of
+-- it.
 use Rattle.std.specs.Prelude.{◌≡◌, ◌≢◌, ℕ, ◌+◌, ◌-◌, ◌<◌, ◌≤◌, ◌⊎◌, ◌↔◌, List, [], ◌∷◌, Bool, true, false, Option, Some, None, Contains, length, get_or}
 use Rattle.ux_digraph.specs.Paths.{row_of}
 use Rattle.ux_digraph.specs.Components.{AreComponents}
@@ -7,20 +8,11 @@ use Rattle.ux_net.specs.declared.label.Label.{Label}
 use Rattle.ux_net.specs.declared.label.Label.TheVariants.{Call}
 use Rattle.ux_boxes.specs.declared.place.Place.{Place}
 use Rattle.ux_admission.specs.declared.uses.Link.{Link}
-use Rattle.ux_admission.specs.declared.uses.LineMark.{LineMark}
-use Rattle.ux_admission.specs.declared.uses.LineMark.TheVariants.{Ordinary, Holds, Refuses, Closes}
 use Rattle.ux_net.specs.Words.{Sign, positive, negative, Mark, ordinary, opens, closes, mark_of, Step}
 use Rattle.ux_boxes.specs.Places.{places_of, place_targets, place_output, label_lines, place_grammar, IsPlaceStep}
 use Rattle.ux_net.specs.Closers.{ClosesInto}
 use Rattle.ux_admission.specs.Gains.{SoBelow, SoOfOne}
 use Rattle.ux_boxes.specs.Numbers.{number_of, all_places}
-
--- the mark that is told of a line
-abbrev pub mark_told : LineMark → Mark
-mark_told Ordinary = ordinary
-mark_told Holds = opens positive
-mark_told Refuses = opens negative
-mark_told Closes = closes
 
 -- whether a context of this sign may not follow
 abbrev pub refuses : Sign → Bool

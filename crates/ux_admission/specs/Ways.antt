@@ -1,5 +1,5 @@
--- The steps that may take nothing or enter a unit, and the contexts, as edges between numbered places.
--- Inner: the crate's own functions alone speak of it.
+-- The steps that may take nothing or enter a unit, and the contexts, as edges between numbered
+-- places. Inner: the crates that make nets alone speak of it.
 use Rattle.std.specs.Prelude.{◌≡◌, ℕ, ◌+◌, ◌-◌, ◌<◌, ◌↔◌, List, [], ◌∷◌, Option, Some, None, Bool, true, false, Contains, length, get_or}
 use Rattle.ux_digraph.specs.declared.closing.Rule.{Rule}
 use Rattle.ux_net.specs.declared.label.Label.{Label}
@@ -12,7 +12,8 @@ use Rattle.ux_net.specs.Words.{Sign, Step, Letter, Run, opens, mark_of}
 use Rattle.ux_boxes.specs.Places.{places_of, place_graph, place_grammar, IsPlaceStep, IsEndPlace}
 use Rattle.ux_net.specs.Silent.{are_silent}
 use Rattle.ux_net.specs.Closers.{ClosesInto}
-use Rattle.ux_admission.specs.Admissible.{IsFree, MovesFreely, EntersAt}
+use Rattle.ux_net.specs.Nullable.{IsFree}
+use Rattle.ux_admission.specs.Admissible.{MovesFreely, EntersAt}
 use Rattle.ux_boxes.specs.Numbers.{number_of, all_places}
 
 -- a line that opens a context

@@ -31,8 +31,7 @@ use crate::way::Way;
 use crate::ways::ways_of;
 use std::alloc::{AllocError, Global};
 use ux_base::{Lst, Mem, NoMemory};
-use ux_boxes::offsets::offsets_of;
-use ux_boxes::{Place, rows_by_graph};
+use ux_boxes::{Place, offsets_of, rows_by_graph};
 
 /// What an admissible grammar has: in a row for each graph, with an entry for each place.
 #[derive(Drop)]

@@ -13,8 +13,7 @@ use crate::way::{Passage, Way};
 use std::alloc::{AllocError, Global};
 use std::mem;
 use ux_base::{Lst, Mem};
-use ux_boxes::Place;
-use ux_boxes::offsets::count_of;
+use ux_boxes::{Place, count_of};
 
 /// The edges of the steps that may take nothing, and of contexts.
 pub fn free_rows(

@@ -11,8 +11,7 @@ use crate::way::{Passage, Way};
 use crate::ways::targets_of;
 use std::alloc::{AllocError, Global};
 use ux_base::{Lst, Mem};
-use ux_boxes::Place;
-use ux_boxes::offsets::count_of;
+use ux_boxes::{Place, count_of};
 use ux_digraph::{Rule, closure};
 
 /// Whether each place leads to an end of its graph by a run that may take nothing.

@@ -3,29 +3,18 @@
 ghost use Rattle.std.specs.Prelude.{◌≡◌, ◌≢◌, ℕ, ◌<◌, ◌↔◌, [], length, get_or, Contains, IfOk, OnOk, IsTrue, true};
 ghost use Rattle.ux_boxes.specs.Fit.{HasTargetsInside};
 ghost use Rattle.ux_admission.specs.Gains.{Gains};
-ghost use Rattle.ux_admission.specs.Leading.{said, is_noted, no_marks, HasLine, AreMarks, IsSource, IsLeading};
+ghost use Rattle.ux_admission.specs.Lines.{mark_told};
+ghost use Rattle.ux_admission.specs.Leading.{is_noted, no_marks, HasLine, AreMarks, IsSource, IsLeading};
 ghost use Rattle.ux_boxes.specs.Places.{label_lines};
-ghost use Rattle.ux_net.specs.Words.{Sign, opens as opens_of, mark_of as mark_of_line};
+ghost use Rattle.ux_net.specs.Words.{Sign, opens as opens_of};
 
 use crate::edges::rows_of;
+use crate::line::{ContextMark, context_mark};
 use crate::ways::targets_of;
 use std::alloc::{AllocError, Global};
 use ux_base::{Lst, Mem};
 use ux_boxes::Place;
 use ux_net::Label;
-
-/// What a line does to contexts.
-#[derive(Clone, Copy, PartialEq, Eq)]
-pub enum LineMark {
-    /// Nothing.
-    Ordinary,
-    /// It opens one that has to follow.
-    Positive,
-    /// It opens one that may not follow.
-    Negative,
-    /// It closes one.
-    Closes,
-}
 
 /// Which lines a place has.
 #[derive(Clone, Copy)]
@@ -118,35 +107,23 @@ fn marks_of_lines(lines: &[Lst<Label>]) -> Marks
     ensures { AreMarks lines.now result }
 {
     Marks {
-        ordinary: has_line(lines, LineMark::Ordinary),
-        positive: has_line(lines, LineMark::Positive),
-        negative: has_line(lines, LineMark::Negative),
-        closes: has_line(lines, LineMark::Closes),
+        ordinary: has_line(lines, ContextMark::Ordinary),
+        positive: has_line(lines, ContextMark::Positive),
+        negative: has_line(lines, ContextMark::Negative),
+        closes: has_line(lines, ContextMark::Closes),
     }
 }
 
 /// Whether one of the lines does this to contexts.
-fn has_line(lines: &[Lst<Label>], mark: LineMark) -> bool
-    ensures { IsTrue result ↔ HasLine (said mark) lines.now }
+fn has_line(lines: &[Lst<Label>], mark: ContextMark) -> bool
+    ensures { IsTrue result ↔ HasLine (mark_told mark) lines.now }
 {
     for line in lines {
-        if mark_of(line.as_slice()) == mark {
+        if context_mark(line.as_slice()) == mark {
             return true;
         }
     }
     false
-}
-
-/// What the line does to contexts.
-fn mark_of(line: &[Label]) -> LineMark
-    ensures { said result ≡ mark_of_line line.now }
-{
-    match line {
-        [Label::Positive] => LineMark::Positive,
-        [Label::Negative] => LineMark::Negative,
-        [Label::ContextEnd] => LineMark::Closes,
-        _ => LineMark::Ordinary,
-    }
 }
 
 /// Whether the place has a line that opens a context.

@@ -1,11 +1,26 @@
-//! What a line of labels takes, and whether it opens a context.
+//! What a line of labels takes, and what it does to contexts.
 
 ghost use Rattle.std.specs.Prelude.{◌≡◌, ℕ, ◌↔◌, [], ◌∷◌, IfSome, IfNone, IsTrue};
 ghost use Rattle.ux_net.specs.declared.label.Label.TheVariants.{Call};
 ghost use Rattle.ux_net.specs.Silent.{is_silent as is_silent_of, are_silent as are_silent_of};
+ghost use Rattle.ux_net.specs.Words.{mark_of};
+ghost use Rattle.ux_admission.specs.Lines.{mark_told};
 ghost use Rattle.ux_admission.specs.Ways.{IsOpening};
 
 use ux_net::Label;
+
+/// What a line does to contexts.
+#[derive(Clone, Copy, PartialEq, Eq)]
+pub enum ContextMark {
+    /// It neither opens nor closes one.
+    Ordinary,
+    /// It opens one that has to follow.
+    Positive,
+    /// It opens one that may not follow.
+    Negative,
+    /// It closes one.
+    Closes,
+}
 
 /// Whether the line takes nothing: each of its labels is silent.
 pub fn are_silent(line: &[Label]) -> bool
@@ -50,5 +65,17 @@ pub fn is_opening(line: &[Label]) -> bool
     match line {
         [Label::Positive] | [Label::Negative] => true,
         _ => false,
+    }
+}
+
+/// What the line does to contexts.
+pub fn context_mark(line: &[Label]) -> ContextMark
+    ensures { mark_of line.now ≡ mark_told result }
+{
+    match line {
+        [Label::Positive] => ContextMark::Positive,
+        [Label::Negative] => ContextMark::Negative,
+        [Label::ContextEnd] => ContextMark::Closes,
+        _ => ContextMark::Ordinary,
     }
 }

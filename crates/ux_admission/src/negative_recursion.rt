@@ -20,8 +20,7 @@ use crate::edges::rows_of;
 use crate::uses::{Link, links_of};
 use std::alloc::Global;
 use ux_base::{Lst, Mem, NoMemory};
-use ux_boxes::Place;
-use ux_boxes::offsets::count_of;
+use ux_boxes::{Place, count_of};
 use ux_digraph::components;
 
 /// Why a grammar has no levels. Graphs are counted from 1.

@@ -4,20 +4,20 @@
 //! beginning with the start of that graph, and where it opens a context, with each place into which
 //! the context is closed. So the links are at most two a step, and one for each of those places.
 
-ghost use Rattle.std.specs.Prelude.{◌≡◌, ℕ, ◌+◌, ◌-◌, ◌<◌, ◌≤◌, ◌⊎◌, [], length, get_or, All, IfOk, OnOk};
+ghost use Rattle.std.specs.Prelude.{◌≡◌, ◌+◌, ◌-◌, ◌<◌, ◌≤◌, ◌⊎◌, length, All, IfOk, OnOk};
 ghost use Rattle.ux_net.specs.Words.{mark_of};
 ghost use Rattle.ux_boxes.specs.Places.{label_lines, places_of as places_of_graph};
 ghost use Rattle.ux_boxes.specs.Fit.{IsFit, IsFitLine};
 ghost use Rattle.ux_admission.specs.Closers.{AreClosers};
 ghost use Rattle.ux_boxes.specs.Numbers.{AreOffsets};
 ghost use Rattle.ux_admission.specs.Gains.{Gains, SoBelow, SoOfOne};
-ghost use Rattle.ux_admission.specs.Uses.{mark_told, IsCallLink, IsJump, IsLineLink, IsLinkAlong, IsLinkFrom, IsLinkIn, AreLinks};
+ghost use Rattle.ux_admission.specs.Uses.{IsCallLink, IsJump, IsLineLink, IsLinkAlong, IsLinkFrom, IsLinkIn, AreLinks};
 
-use crate::line::one_call;
+use crate::line::{ContextMark, context_mark, one_call};
 use crate::ways::{lines_of, places_of, targets_of};
 use std::alloc::{AllocError, Global};
 use ux_base::{Lst, Mem};
-use ux_boxes::Place;
+use ux_boxes::{Place, row_at};
 use ux_net::Label;
 
 /// A link between two places, told by their numbers.
@@ -31,19 +31,6 @@ pub struct Link {
     pub to: usize,
     /// Whether it leads into a negative context.
     pub is_negative: bool,
-}
-
-/// What a line does to contexts.
-#[derive(Clone, Copy)]
-pub enum LineMark {
-    /// It neither opens nor closes one.
-    Ordinary,
-    /// It opens one that has to follow.
-    Holds,
-    /// It opens one that may not follow.
-    Refuses,
-    /// It closes one.
-    Closes,
 }
 
 /// The links of all graphs.
@@ -173,16 +160,6 @@ fn push_target(
     Ok(())
 }
 
-/// The row of this number; past the last, an empty one.
-fn row_at(rows: &[Lst<usize>], n: usize) -> &[usize]
-    ensures { result.now ≡ get_or rows.now n [] }
-{
-    match rows.get(n) {
-        Some(row) => row.as_slice(),
-        None => &[],
-    }
-}
-
 /// Adds the links of a step along the line. The bodies behind its target are closed into these
 /// places, which are numbered from the base.
 fn push_line(
@@ -198,23 +175,11 @@ fn push_line(
     ensures { OnOk result (Gains links.old.items links.new.items
         (IsLineLink offsets.now base step line.now closed.now (mark_of line.now))) }
 {
-    match line_mark(line) {
-        LineMark::Ordinary => push_step(links, offsets, step, line),
-        LineMark::Holds => push_context(links, base, step, false, closed),
-        LineMark::Refuses => push_context(links, base, step, true, closed),
-        LineMark::Closes => Ok(()),
-    }
-}
-
-/// What the line does to contexts.
-fn line_mark(line: &[Label]) -> LineMark
-    ensures { mark_of line.now ≡ mark_told result }
-{
-    match line {
-        [Label::Positive] => LineMark::Holds,
-        [Label::Negative] => LineMark::Refuses,
-        [Label::ContextEnd] => LineMark::Closes,
-        _ => LineMark::Ordinary,
+    match context_mark(line) {
+        ContextMark::Ordinary => push_step(links, offsets, step, line),
+        ContextMark::Positive => push_context(links, base, step, false, closed),
+        ContextMark::Negative => push_context(links, base, step, true, closed),
+        ContextMark::Closes => Ok(()),
     }
 }
 

@@ -1,6 +1,6 @@
 //! The ways of all graphs, in one list.
 
-ghost use Rattle.std.specs.Prelude.{◌≡◌, ℕ, ◌+◌, ◌-◌, ◌<◌, ◌≤◌, ◌⊎◌, ◌↔◌, List, [], length, get_or, All, Contains, IfOk, OnOk};
+ghost use Rattle.std.specs.Prelude.{◌≡◌, ℕ, ◌+◌, ◌-◌, ◌<◌, ◌≤◌, ◌⊎◌, ◌↔◌, List, length, All, Contains, IfOk, OnOk};
 ghost use Rattle.ux_boxes.specs.declared.place.Place.{Place};
 ghost use Rattle.ux_boxes.specs.Places.{label_lines, place_targets, place_grammar, places_of as places_of_graph};
 ghost use Rattle.ux_admission.specs.Closers.{AreClosers};
@@ -14,7 +14,7 @@ use crate::line::{are_silent, is_opening, one_call};
 use crate::way::{Passage, Way};
 use std::alloc::{AllocError, Global};
 use ux_base::{Lst, Mem};
-use ux_boxes::Place;
+use ux_boxes::{Place, row_at};
 use ux_net::Label;
 
 /// The ways of all graphs.
@@ -167,21 +167,11 @@ fn push_target(
         to: base + target,
         passage: Passage::Silent,
     };
-    let row = row_of(closers, step.to);
+    let row = row_at(closers, step.to);
     for line in lines_of(places_of(graphs, graph), target) {
         push_line(ways, offsets, step, row, line.as_slice())?;
     }
     Ok(())
-}
-
-/// The row of the place of this number.
-fn row_of(rows: &[Lst<usize>], place: usize) -> &[usize]
-    ensures { result.now ≡ get_or rows.now place [] }
-{
-    match rows.get(place) {
-        Some(row) => row.as_slice(),
-        None => &[],
-    }
 }
 
 /// Adds the ways of a step along the line, if the line is silent, one call or opens a context. The

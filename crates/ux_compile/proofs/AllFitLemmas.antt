@@ -64,6 +64,7 @@ module _ (alphabet : Letters) (graphs : List Given) (places : List (List Place))
     small_here : size_of graph.1 < 4294967296
     are_here : ArePlaces alphabet names graph.1.boxes (places_of places (suc n))
 
+  -- a place of a graph that is there
   at : (n : ℕ) → n < length places → IsAt n
   at n lt =
       let count = are.count in
@@ -87,10 +88,12 @@ module _ (alphabet : Letters) (graphs : List Given) (places : List (List Place))
                 (are.each n (let c = are.count in omega (arith, lt, c)));
           }
 
+  -- there are as many graphs as names
   counted : length names ≡ length places
   counted =
       length-map (drawn graphs) (λ (d : Drawn). d.name) ∙ sym are.count
 
+  -- the places of each graph are fit
   fit_at : (n : ℕ) → n < length places → IsFit (length places) (places_of places (suc n))
   fit_at n lt =
       let a = at n lt in
@@ -102,6 +105,7 @@ module _ (alphabet : Letters) (graphs : List Given) (places : List (List Place))
   pub all_fit : All (IsFit (length places)) places
   all_fit = all_graphs (IsFit (length places)) places fit_at
 
+  -- they have lines where they are reached
   reached_at : (n : ℕ) → n < length places → HasLinesWhereReached (places_of places (suc n))
   reached_at n lt =
       let a = at n lt in
@@ -119,6 +123,7 @@ module _ (alphabet : Letters) (graphs : List Given) (places : List (List Place))
       let len = a.are_here.len in
       omega (arith, most, len))
 
+  -- and states can be made of them
   are_fit_at : (n : ℕ) → n < length places → AreFit (places_of places (suc n))
   are_fit_at n lt =
       let a = at n lt in
@@ -131,6 +136,7 @@ module _ (alphabet : Letters) (graphs : List Given) (places : List (List Place))
   pub all_are_fit : All AreFit places
   all_are_fit = all_graphs AreFit places are_fit_at
 
+  -- so states can be made of all graphs
   pub each_is_fit : AreAllFit places
   each_is_fit zero from to = absurd (omega (arith, from))
   each_is_fit (suc n) from to = are_fit_at n (omega (arith, to))
@@ -153,6 +159,7 @@ all_places_few (p ∷ places) few =
     let r = all_places_few places (All-tail (λ (q : List Place). length q ≤ 65535) p places few) in
     omega (arith, one, r)
 
+-- ranks of few places are small
 pub ranks_small : (places : List (List Place)) (ranks : List (List ℕ)) (free : List (List Bool)) →
     All (λ (p : List Place). length p ≤ 65535) places → length places ≤ 65535 →
     ArePlaceRanks places ranks free → All (All (λ rank. rank < 4294967296)) ranks

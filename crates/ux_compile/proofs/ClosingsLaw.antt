@@ -17,8 +17,9 @@ use Rattle.ux_admission.specs.Admission.{ArePlaceRanks}
 use Rattle.ux_net.specs.Closers.{ClosesInto, OpensInto}
 use Rattle.ux_admission.specs.Closers.{AreClosers}
 use Rattle.ux_net.specs.Closings.{closing_in, closings_at as told_by, IsClosedInto, TellsClosings}
-use Rattle.ux_compile.specs.Construct.{is_refusing, is_refused, has_state, number, line_at, closing_from, closings_at, closings_of, states_of, AreFit}
+use Rattle.ux_compile.specs.Construct.{has_state, number, line_at, states_of, AreFit}
 use Rattle.ux_admission.specs.ContextClose.{AreClosed}
+use Rattle.ux_admission.specs.ToldClosings.{is_refusing, is_refused, closing_from, closings_at, closings_of}
 use Rattle.ux_net.specs.Nets.{net_graph, net_grammar, states_of as net_states}
 use Rattle.ux_boxes.specs.Places.{label_lines, places_of, place_grammar}
 use Rattle.ux_compile.specs.Ranks.{AreCallsInside, AreAllFit, row_of, AreBuilt}
@@ -53,26 +54,26 @@ module _ (graphs : List (List Place)) (rows ranks : List (List ℕ)) (free : Lis
 
   -- what is told for the state of a place into which such a context opens
   told : (g b c : ℕ) (later : List ℕ) (graph : NetGraph) → AreFit (places g) →
-      graph.closings ≡ closings_of (places g) (row g) → has_state (places g) b ≡ true →
+      graph.closings ≡ closings_of (number (places g)) (places g) (row g) → has_state (places g) b ≡ true →
       is_refused (places g) b ≡ true → row g b ≡ c ∷ later →
       closing_in graph.closings (number (places g) b) ≡ Some (number (places g) c)
   told g b c later graph ok same has refused is =
       let entry : Closing =
       record { opening = number (places g) b; closing = number (places g) c } in
-      let here : closings_at (places g) (row g) b ≡ entry ∷ [] =
-      ap (λ (t : Bool). cond t (closing_from (places g) b (row g b)) []) refused
-      ∙ ap (closing_from (places g) b) is in
-      let within : Contains (closings_of (places g) (row g)) entry =
-      contains_joined (closings_at (places g) (row g)) (range_with_len 0 (length (places g))) b entry
+      let here : closings_at (number (places g)) (places g) (row g) b ≡ entry ∷ [] =
+      ap (λ (t : Bool). cond t (closing_from (number (places g)) b (row g b)) []) refused
+      ∙ ap (closing_from (number (places g)) b) is in
+      let within : Contains (closings_of (number (places g)) (places g) (row g)) entry =
+      contains_joined (closings_at (number (places g)) (places g) (row g)) (range_with_len 0 (length (places g))) b entry
       (contains_range (length (places g)) b (place_inside (places g) b has))
       (subst (λ (l : List Closing). Contains l entry) (sym here) (contains_first entry [])) in
-      let found = told_at (closings_of (places g) (row g)) (closings_ascend (places g) ok (row g))
+      let found = told_at (closings_of (number (places g)) (places g) (row g)) (closings_ascend (places g) ok (row g))
       within.0 within.1 in
       subst (λ (l : List Closing).
       closing_in l (number (places g) b) ≡ Some (number (places g) c)) (sym same)
       (subst (λ (e : Closing).
-      closing_in (closings_of (places g) (row g)) e.opening ≡ Some e.closing)
-      (get_at (closings_of (places g) (row g)) within.0 entry within.1 within.2) found)
+      closing_in (closings_of (number (places g)) (places g) (row g)) e.opening ≡ Some e.closing)
+      (get_at (closings_of (number (places g)) (places g) (row g)) within.0 entry within.1 within.2) found)
     where
       get_at : (l : List Closing) (i : ℕ) (e : Closing) → i < length l → get_or l i e ≡ e →
           get_or l i (record { opening = 0; closing = 0 }) ≡ e
@@ -80,7 +81,7 @@ module _ (graphs : List (List Place)) (rows ranks : List (List ℕ)) (free : Lis
 
   -- such a context is closed, and into one place
   module _ (g n : ℕ) (edge : Edge) (i : (graph : NetGraph)
-      × (graph.closings ≡ closings_of (places g) (row g))
+      × (graph.closings ≡ closings_of (number (places g)) (places g) (row g))
       × (net_states built g ≡ states_of (places g)) × AreFit (places g)) where
     abbrev ok : AreFit (places g)
     ok = i.3

@@ -1,15 +1,16 @@
 -- What is told of the contexts of a graph's places ascends, and is the first closer of each.
-use Rattle.std.proofs.Common.{arith, ◌≡◌, ℕ, zero, suc, ◌+◌, ◌<◌, ◌≤◌, List, [], ◌∷◌, ◌++◌, refl, sym, ◌∙◌, ap, subst, length, get_or, append-nil, Bool, true, false, cond, Some}
-use Rattle.std.specs.Prelude.{slice_get, Contains}
+use Rattle.std.proofs.Common.{arith, ◌≡◌, ℕ, zero, suc, ◌+◌, ◌<◌, ◌≤◌, List, [], ◌∷◌, ◌++◌, refl, sym, ◌∙◌, ap, subst, length, get_or, append-nil, Bool, true, false, cond}
+use Rattle.std.specs.Prelude.{Contains}
 use Rattle.std.specs.List.{range_with_len, flat_map, list_any}
 use Rattle.ux_net.specs.declared.net_graph.Closing.{Closing}
 use Rattle.ux_boxes.specs.declared.place.Place.{Place}
 use Rattle.ux_net.specs.Closings.{Ascend}
-use Rattle.ux_compile.specs.Construct.{is_refusing, is_refused, has_state, number, closing_from, closings_at, closings_of, AreFit}
+use Rattle.ux_compile.specs.Construct.{has_state, number, AreFit}
+use Rattle.ux_admission.specs.ToldClosings.{is_refusing, is_refused, closing_from, closings_at, closings_of}
 use Rattle.ux_admission.specs.Closers.{AreClosers}
 use Rattle.ux_boxes.specs.Numbers.{AreOffsets}
 use Rattle.ux_boxes.specs.Places.{label_lines, places_of}
-use Rattle.std.proofs.lemmas.Option.{same_Some}
+use Rattle.ux_base.proofs.Lists.{contains_first}
 use Rattle.ux_base.proofs.JoinedLists.{joined_more}
 use Rattle.ux_compile.proofs.StatesLemmas.{number_next}
 use Rattle.ux_net.proofs.ClosingsLemmas.{none_ascend, Below, wider, one_more}
@@ -27,7 +28,7 @@ module _ (places : List Place) (fit : AreFit places) (row : ℕ → List ℕ) wh
           absurd cc
 
   next : (n : ℕ) (entries : List Closing) → Below entries (number places n) →
-      Below (entries ++ closings_at places row n) (number places (n + 1))
+      Below (entries ++ closings_at (number places) places row n) (number places (n + 1))
   next n entries b = go (is_refused places n) refl
     where
       rises : number places n ≤ number places (n + 1)
@@ -38,7 +39,7 @@ module _ (places : List Place) (fit : AreFit places) (row : ℕ → List ℕ) wh
           (sym (append-nil entries)) (wider entries (number places n) (number places (n + 1)) rises b)
 
       told : is_refused places n ≡ true → (list : List ℕ) →
-          Below (entries ++ closing_from places n list) (number places (n + 1))
+          Below (entries ++ closing_from (number places) n list) (number places (n + 1))
       told is [] = same
       told is (c ∷ later) =
           let entry : Closing = record { opening = number places n; closing = number places c } in
@@ -48,28 +49,28 @@ module _ (places : List Place) (fit : AreFit places) (row : ℕ → List ℕ) wh
           (omega (arith, e, one)) (one_more entries entry b)
 
       go : (t : Bool) → is_refused places n ≡ t →
-          Below (entries ++ closings_at places row n) (number places (n + 1))
+          Below (entries ++ closings_at (number places) places row n) (number places (n + 1))
       go true is =
           subst (λ (t : Bool).
-          Below (entries ++ cond t (closing_from places n (row n)) []) (number places (n + 1)))
+          Below (entries ++ cond t (closing_from (number places) n (row n)) []) (number places (n + 1)))
           (sym is) (told is (row n))
       go false is =
           subst (λ (t : Bool).
-          Below (entries ++ cond t (closing_from places n (row n)) []) (number places (n + 1)))
+          Below (entries ++ cond t (closing_from (number places) n (row n)) []) (number places (n + 1)))
           (sym is) same
 
   so_far : (n : ℕ) →
-      Below (flat_map (closings_at places row) (range_with_len 0 n)) (number places n)
+      Below (flat_map (closings_at (number places) places row) (range_with_len 0 n)) (number places n)
   so_far zero = record { up = none_ascend; below = λ i lt. absurd (omega (arith, lt)) }
   so_far (suc n) =
       let e : n + 1 ≡ suc n = omega arith in
-      subst (λ m. Below (flat_map (closings_at places row) (range_with_len 0 m)) (number places m)) e
+      subst (λ m. Below (flat_map (closings_at (number places) places row) (range_with_len 0 m)) (number places m)) e
       (subst (λ (l : List Closing). Below l (number places (n + 1)))
-      (sym (joined_more (closings_at places row) n))
-      (next n (flat_map (closings_at places row) (range_with_len 0 n)) (so_far n)))
+      (sym (joined_more (closings_at (number places) places row) n))
+      (next n (flat_map (closings_at (number places) places row) (range_with_len 0 n)) (so_far n)))
 
   -- what is told of a graph ascends
-  pub closings_ascend : Ascend (closings_of places row)
+  pub closings_ascend : Ascend (closings_of (number places) places row)
   closings_ascend = (so_far (length places)).up
 
 -- the rows of the places of a graph have places of it
@@ -87,17 +88,32 @@ rows_inside graphs offsets rows are closing k here within same fit b c lt there 
     (fit'.targets into.1.step.from into.1.step.to into.1.inside.leads) in
     omega (arith, inside, len)
 
--- the entry of a place is the one that is added
-pub told_more : (places : List Place) (row : List ℕ) (b c opening closing : ℕ)
-    (old new : List Closing) → is_refused places b ≡ true → Some c ≡ slice_get row 0 →
-    opening ≡ number places b → closing ≡ number places c →
-    new ≡ old ++ (record { opening = opening; closing = closing }) ∷ [] →
-    new ≡ old ++ closings_at places (λ (n : ℕ). row) b
-told_more places [] b c opening closing old new is first from to pushed = cc
-told_more places (x ∷ row) b c opening closing old new is first from to pushed =
-    let target : closing ≡ number places x = to ∙ ap (number places) (same_Some c x first) in
-    let entry : (n m : ℕ) → Closing = λ n m. record { opening = n; closing = m } in
-    pushed ∙ ap (λ (l : List Closing). old ++ l)
-    (ap (λ n. entry n closing ∷ []) from
-    ∙ (ap (λ n. entry (number places b) n ∷ []) target
-    ∙ ap (λ (t : Bool). cond t (closing_from places b (x ∷ row)) []) (sym is)))
+-- lists that are the same for each number below a bound are the same joined
+joined_same : {A : Type 0} (f g : ℕ → List A) (n : ℕ) → ((k : ℕ) → k < n → f k ≡ g k) →
+    flat_map f (range_with_len 0 n) ≡ flat_map g (range_with_len 0 n)
+joined_same f g zero same = refl
+joined_same f g (suc n) same =
+    let e : n + 1 ≡ suc n = omega arith in
+    subst (λ m. flat_map f (range_with_len 0 m) ≡ flat_map g (range_with_len 0 m)) e
+    (joined_more f n
+    ∙ (ap (λ l. l ++ f n) (joined_same f g n (λ k lt. same k (omega (arith, lt))))
+    ∙ (ap (λ l. flat_map g (range_with_len 0 n) ++ l) (same n (omega arith))
+    ∙ sym (joined_more g n))))
+
+-- places that have the same numbers tell the same
+pub same_closings : (f g : ℕ → ℕ) (places : List Place) (row : ℕ → List ℕ) →
+    ((a : ℕ) → a < length places → f a ≡ g a) →
+    ((b c : ℕ) → b < length places → Contains (row b) c → c < length places) →
+    closings_of f places row ≡ closings_of g places row
+same_closings f g places row same inside =
+    joined_same (closings_at f places row) (closings_at g places row) (length places) (λ b lt.
+    ap (λ (l : List Closing). cond (is_refused places b) l []) (from b lt (row b) (inside b)))
+  where
+    from : (b : ℕ) → b < length places → (list : List ℕ) →
+        ((c : ℕ) → b < length places → Contains list c → c < length places) →
+        closing_from f b list ≡ closing_from g b list
+    from b lt [] into = refl
+    from b lt (c ∷ later) into =
+        let entry : (n m : ℕ) → Closing = λ n m. record { opening = n; closing = m } in
+        ap (λ n. entry n (f c) ∷ []) (same b lt)
+        ∙ ap (λ n. entry (g b) n ∷ []) (same c (into c lt (contains_first c later)))

@@ -27,9 +27,11 @@ use Rattle.ux_compile.proofs.StatesLemmas.{total, total_few, line_there, line_so
 pub lt_then : {A : Type 0} (i n : ℕ) (x y : A) → i < n → cond (ltb i n) x y ≡ x
 lt_then i n x y h = let e : ltb i n ≡ true = search (rules, arith) in rw e refl
 
+-- past the end a choice takes the other
 pub lt_else : {A : Type 0} (i n : ℕ) (x y : A) → n ≤ i → cond (ltb i n) x y ≡ y
 lt_else i n x y h = let e : ltb i n ≡ false = search (rules, arith) in rw e refl
 
+-- a list with 1 passes the test for it
 has_one : (xs : List ℕ) → Contains xs 1 → list_any (λ x. nat_eq x 1) xs ≡ true
 has_one [] h = absurd (nothing_in h)
 has_one (x ∷ xs) h = elim (first_or_later x xs 1 h) [
@@ -41,6 +43,7 @@ has_one (x ∷ xs) h = elim (first_or_later x xs 1 h) [
     go true = refl
     go false = refl
 
+-- and one that passes has it
 pub one_in : (xs : List ℕ) → list_any (λ x. nat_eq x 1) xs ≡ true → Contains xs 1
 one_in [] h = cc
 one_in (x ∷ xs) h = go (nat_eq x 1) refl h (λ later. one_in xs later)
@@ -74,6 +77,7 @@ module _ (places : List Place) (fit : AreFit places) where
   abbrev label : ℕ → ℕ → ℕ → Label
   label b l k = get_or (labels_at places b l) k Empty
 
+  -- a line that is there is one
   pub line_is : (b l : ℕ) → l < length (lines_of b) → IsLine (line_at places b l)
   line_is b l at = fit.lines b (line_at places b l) (line_there places b l at)
 
@@ -113,6 +117,7 @@ module _ (places : List Place) (fit : AreFit places) where
       go false is =
           absurd (let e = ap (length {A = List Label}) (fit.stateless b is) in omega arith)
 
+  -- a place with a state is not the end
   pub not_end : (a : ℕ) → has_state places a ≡ true → a ≢ 1
   not_end a has e = go a e has
     where
@@ -125,7 +130,7 @@ module _ (places : List Place) (fit : AreFit places) where
   starts = fit.start
 
   -- where a chain state stands, and the letters from there to its place
-  record InChain (n b : ℕ) (u : List Letter) : Type 0 where
+  pub record InChain (n b : ℕ) (u : List Letter) : Type 0 where
     pub line : ℕ
     pub inside : line < length (lines_of b)
     pub k : ℕ
@@ -133,7 +138,7 @@ module _ (places : List Place) (fit : AreFit places) where
     pub at : n ≡ first_chain places b line + k
     pub rest : u ≡ letters (drop (k + 1) (labels_at places b line))
 
-  abbrev Ahead : ℕ → ℕ → List Letter → Type 0
+  abbrev pub Ahead : ℕ → ℕ → List Letter → Type 0
   Ahead n b u = (has_state places b ≡ true) × (((n ≡ number places b) × (u ≡ [])) ⊎ InChain n b u)
 
   -- behind a label of a line the letters of its later labels lie ahead
@@ -180,6 +185,7 @@ module _ (places : List Place) (fit : AreFit places) where
       ap (λ n. map piece (output_before places b n)
       ++ letters (drop (k + 1) (labels_at places b l))) (add-one k)
 
+  -- the letters from a label on are those of its step and those behind
   step_letters : (t : Step) (b l k : ℕ) → AlongLabel t b l k → k < length (labels_at places b l) →
       letters_from b l k ≡ letters_along t ++ letters (drop (k + 1) (labels_at places b l))
   step_letters t b l k step lt =
@@ -192,6 +198,7 @@ module _ (places : List Place) (fit : AreFit places) where
       ∙ (ap (λ (o : List Piece). map piece o ++ (letters t.labels ++ later)) (sym step.output)
       ∙ sym (append_assoc (put_by t) (letters t.labels) later))
 
+  -- behind a step come the letters of the labels that follow
   step_behind : (t : Step) (b l k : ℕ) → AlongLabel t b l k → l < length (lines_of b) →
       k < length (labels_at places b l) →
       Ahead t.to b (letters (drop (k + 1) (labels_at places b l)))
@@ -199,6 +206,7 @@ module _ (places : List Place) (fit : AreFit places) where
       subst (λ n. Ahead n b (letters (drop (k + 1) (labels_at places b l)))) (sym step.to)
       (behind b l k at lt)
 
+  -- a step along the edge of a label
   along_edge : (t : Step) (b l k : ℕ) (edge : Edge) → edge_of places b l k ≡ edge →
       t.to ≡ edge.target → t.output ≡ edge.output → t.labels ≡ edge.label ∷ [] →
       AlongLabel t b l k
@@ -218,6 +226,7 @@ module _ (places : List Place) (fit : AreFit places) where
       (range_with_len 0 (length (lines_of c.0))) edge c.2 in
       (c.0, c.1, m.0, contained_range (length (lines_of c.0)) m.0 m.1, m.2)
 
+  -- a place has the edge of the first label of each line of a target
   pub to_target : (a b l : ℕ) → Contains (place_targets places a) b → l < length (lines_of b) →
       Contains (place_state places a).edges (edge_of places b l 0)
   to_target a b l leads at =
@@ -225,16 +234,19 @@ module _ (places : List Place) (fit : AreFit places) where
       (contains_mapped (λ l. edge_of places b l 0) (range_with_len 0 (length (lines_of b))) l
       (contains_range (length (lines_of b)) l at))
 
+  -- the edge of a chain state is its only one
   pub only_edge : (edge other : Edge) → Contains (edge ∷ []) other → edge ≡ other
   only_edge edge other h =
       elim (first_or_later edge [] other h) [ inl e ↦ e | inr n ↦ absurd (nothing_in n) ]
 
+  -- the state of this number is that of the place
   pub place_is : (a n : ℕ) (state : State) → has_state places a ≡ true → n ≡ number places a →
       slice_get (states_of places) n ≡ Some state → state ≡ place_state places a
   place_is a n state has at found =
       same_Some state (place_state places a) (sym found ∙ (ap (slice_get (states_of places)) at
       ∙ get_place places (place_state places) (chain_state places) a has))
 
+  -- and this one the chain state
   pub chain_is : (b l k n : ℕ) (state : State) → l < length (lines_of b) →
       k < chain_len places b l → n ≡ first_chain places b l + k →
       slice_get (states_of places) n ≡ Some state → state ≡ chain_state places b l k
@@ -312,6 +324,7 @@ module _ (places : List Place) (fit : AreFit places) where
       (along t step mark (subst (λ i. Run g new i (number places b)
       (letters (drop (k + 1) (labels_at places b l)))) (sym to) later))
 
+  -- an ordinary step of the places is a run of the states
   forth : (g : ℕ) (s : Step) → has_state places s.from ≡ true → IsPlaceStep places s →
       mark_of s.labels ≡ ordinary →
       Run g new (number places s.from) (number places s.to) (letters_along s)
@@ -342,6 +355,7 @@ module _ (places : List Place) (fit : AreFit places) where
     inside : line < length (lines_of target)
     label : AlongLabel t target line 0
 
+  -- a step from the state of a place is along the first label of a line
   from_place : (t : Step) (a : ℕ) → has_state places a ≡ true → IsNetStep (states_of places) t →
       t.from ≡ number places a → AlongLine t a
   from_place t a has step from =
@@ -365,6 +379,7 @@ module _ (places : List Place) (fit : AreFit places) where
     labels = line_at places b l;
   }
 
+  -- a line of a target is a step of the places
   pub old_is_step : (a b l : ℕ) → has_state places a ≡ true → Contains (place_targets places a) b →
       l < length (lines_of b) → IsPlaceStep places (old_step a b l)
   old_is_step a b l has leads at = record {
@@ -374,10 +389,12 @@ module _ (places : List Place) (fit : AreFit places) where
     puts = refl;
   }
 
+  -- it does to contexts what its line does
   old_mark : (t : Step) (a : ℕ) (e : AlongLine t a) →
       mark_of t.labels ≡ mark_of (line_at places e.target e.line)
   old_mark t a e = ap mark_of e.label.labels ∙ first_mark e.target e.line e.inside
 
+  -- a step from the state of a place is the beginning of one of the places
   back_place : (t : Step) (a : ℕ) (u : List Letter) → has_state places a ≡ true →
       IsNetStep (states_of places) t → mark_of t.labels ≡ ordinary → t.from ≡ number places a →
       u ≡ [] → Back t a u
@@ -415,6 +432,7 @@ module _ (places : List Place) (fit : AreFit places) where
       ap mark_of (from_chain t b u step c).labels
       ∙ later_mark b c.line c.k c.inside (let m = c.more in omega arith)
 
+  -- and one from a chain state goes on in it
   back_chain : (t : Step) (b : ℕ) (u : List Letter) → IsNetStep (states_of places) t →
       InChain t.from b u → Back t b u
   back_chain t b u step c =
@@ -426,6 +444,7 @@ module _ (places : List Place) (fit : AreFit places) where
         c.rest ∙ (sym (later_letters b c.line c.k) ∙ step_letters t b c.line (c.k + 1) label lt),
       )
 
+  -- a run ends where one of the places does
   ending : (n b : ℕ) (u : List Letter) → Ahead n b u → IsNetEnd (states_of places) n →
       (u ≡ []) × IsEndPlace places b
   ending n b u ahead e = elim ahead.1 [
@@ -448,13 +467,16 @@ module _ (places : List Place) (fit : AreFit places) where
       is ∙ ap (λ (xs : List State). xs ++ flat_map (along_lines places (chain_state places))
       (range_with_len 0 (length places))) first
 
+  -- there are as many states as are counted
   pub states_length : length (states_of places) ≡ total places
   states_length = length_by_state places (place_state places) (chain_state places)
 
+  -- there is a state
   pub states_some : 0 < length (states_of places)
   states_some = slice_get_within (states_of places) 0 (place_state places 0)
       (get_place places (place_state places) (chain_state places) 0 starts)
 
+  -- and 32 bits number them
   pub states_few : length (states_of places) < 4294967296
   states_few = let t = total_few places fit in let e = states_length in omega arith
 
@@ -472,6 +494,7 @@ module _ (places : List Place) (fit : AreFit places) where
         (place_inside places b (has_line b l at)) c.inside c.more)
   ]
 
+  -- the edge of a label leads to a state that is there
   edge_inside : (b l k : ℕ) (edge : Edge) → l < length (lines_of b) →
       k < length (labels_at places b l) → edge_of places b l k ≡ edge →
       edge.target < length (states_of places)
@@ -491,6 +514,7 @@ module _ (places : List Place) (fit : AreFit places) where
         ⊎ ((i : ℕ) × (i < chain_len places place line) × (k ≡ i + 1)
         × (n ≡ first_chain places place line + i))
 
+  -- each edge is that of a label
   pub of_label : (n : ℕ) (state : State) (edge : Edge) →
       slice_get (states_of places) n ≡ Some state → Contains state.edges edge → OfLabel n edge
   of_label n state edge found inside =
@@ -568,6 +592,7 @@ module _ (places : List Place) (fit : AreFit places) where
       | inr later ↦ absurd (marked (later_plain later.0 later.2))
     ]
 
+  -- so each edge leads to a state that is there
   pub targets_inside : AreTargetsInside (states_of places)
   targets_inside n state edge found inside =
       let o = of_label n state edge found inside in
@@ -657,7 +682,8 @@ module _ (graphs : List (List Place)) (g : ℕ) (fit : AreFit (places_of graphs 
     | inr c ↦ absurd (marked (chain_ordinary here fit t b u step c))
   ]
 
-  refines : Refines (place_grammar graphs) (number_in graphs) g (Ahead here fit)
+  -- the states refine the places
+  pub refines : Refines (place_grammar graphs) (number_in graphs) g (Ahead here fit)
       (net_graph (states_of here))
   refines = record {
     start = placed here fit 0 (starts here fit);

@@ -54,6 +54,7 @@ module _ {graphs : List (List Place)} {rows ranks : List (List ℕ)} {free : Lis
       let m = rest_marked (drop (0 + 1) (labels g b l)) (is_place_free free g b) h in
       (falls m.0).marked m.1)
 
+  -- along a first label that takes nothing the rank falls
   first_silent : (g a b l : ℕ) (graph : NetGraph) → graph_at built g ≡ Some graph →
       (ok : AreFit (places g)) → has_state (places g) a ≡ true →
       Contains (place_targets (places g) a) b → l < length (label_lines (places g) b) →
@@ -87,6 +88,7 @@ module _ {graphs : List (List Place)} {rows ranks : List (List ℕ)} {free : Lis
       (λ h. ap (rest_free (is_place_free free g b)) is
       ∙ free_more label rest (is_place_free free g b) silent h)
 
+  -- and along each label that takes nothing
   silent_falls : (g n : ℕ) (edge : Edge) (graph : NetGraph) → graph_at built g ≡ Some graph →
       (ok : AreFit (places g)) (o : OfLabel (places g) ok n edge) →
       called g o.place o.line ≡ None → is_silent edge.label ≡ true →
@@ -182,6 +184,7 @@ module _ {graphs : List (List Place)} {rows ranks : List (List ℕ)} {free : Lis
             (λ s. falls.1 (start_free h start free_start)),
       )
 
+  -- along a call it falls to the start that is called
   call_falls : (g n h : ℕ) (edge : Edge) (graph : NetGraph) → graph_at built g ≡ Some graph →
       (ok : AreFit (places g)) (o : OfLabel (places g) ok n edge) →
       called g o.place o.line ≡ None → edge.label ≡ Call h →
@@ -252,6 +255,7 @@ module _ {graphs : List (List Place)} {rows ranks : List (List ℕ)} {free : Lis
       (step_opens g d.from o.place o.line graph there ok sign d.has d.step o.inside
       (d.mark ∙ mark)))
 
+  -- so it is along each label of a line without an output before a call
   label_falls : (g n : ℕ) (edge : Edge) (graph : NetGraph) → graph_at built g ≡ Some graph →
       (ok : AreFit (places g)) (o : OfLabel (places g) ok n edge) →
       called g o.place o.line ≡ None → (label : Label) → edge.label ≡ label →
@@ -372,6 +376,7 @@ module _ {graphs : List (List Place)} {rows ranks : List (List ℕ)} {free : Lis
             (behind_output g h b l graph there ok o.inside is)))
       ]
 
+  -- and along each edge
   pub edge_falls : (g n : ℕ) (edge : Edge) (graph : NetGraph) → graph_at built g ≡ Some graph →
       (ok : AreFit (places g)) → OfLabel (places g) ok n edge →
       Falls built g n edge.target edge.label

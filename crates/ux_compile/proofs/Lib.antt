@@ -12,6 +12,9 @@ pub mod ClosingsLaw
 pub mod MarkedLaw
 pub mod WholeLaw
 pub mod SoundLaw
+pub mod FreeFalls
+pub mod LevelFalls
+pub mod ClosedLaw
 pub mod SplitLemmas
 pub mod SizesLemmas
 pub mod CompileLemmas

@@ -43,6 +43,7 @@ free_above net g from to le marked = go (is_free net g from) (is_free net g to) 
     go false true le e = absurd (omega (arith, le))
     go false false le e = e
 
+-- where no token has to come the state is free
 free_end : (net : List NetGraph) (g n : ℕ) → must net g n ≡ 0 → is_free net g n ≡ true
 free_end net g n none = go (is_free net g n) none
   where
@@ -58,6 +59,7 @@ module _ (graphs : List (List Place)) (g : ℕ) where
   abbrev IsStepHere : Step → Type 0
   IsStepHere s = IsPlaceStep (places_of graphs g) s
 
+  -- what is closed behind an ordinary step is closed before it
   into_along : (s : Step) → IsStepHere s → mark_of s.labels ≡ ordinary → (c : ℕ) →
       Into s.to c → Into s.from c
   into_along s is mark c into = (
@@ -71,6 +73,7 @@ module _ (graphs : List (List Place)) (g : ℕ) where
     },
   )
 
+  -- and what is closed behind a context
   into_across : (s : Step) (sign : Sign) → IsStepHere s → mark_of s.labels ≡ opens sign →
       (c : ℕ) → Into s.to c → (d : ℕ) → Into c d → Into s.from d
   into_across s sign is mark c into d behind =
@@ -89,6 +92,7 @@ module _ (graphs : List (List Place)) (g : ℕ) where
         },
       )
 
+  -- a closing step closes into its end
   into_closing : (s : Step) → IsStepHere s → mark_of s.labels ≡ closes → Into s.from s.to
   into_closing s is mark =
       ([], record { step = s; inside = is; closed = mark; after = refl; run = stop })
@@ -137,18 +141,21 @@ module _ (graphs : List (List Place)) (rows ranks : List (List ℕ)) (free : Lis
     closers = λ g n. get_or (state_closers g) n [];
   }
 
+  -- the state of a place has its level
   level_of_place : (g a : ℕ) → has_state (places g) a ≡ true →
       marks.level g (number (places g) a) ≡ place_level g a
   level_of_place g a has =
       get_or_from_slice_get (state_levels g) (number (places g) a) (place_level g a) 0
       (get_place (places g) (place_level g) (level_along g) a has)
 
+  -- and its closers
   closers_of_place : (g a : ℕ) → has_state (places g) a ≡ true →
       marks.closers g (number (places g) a) ≡ place_closers g a
   closers_of_place g a has =
       get_or_from_slice_get (state_closers g) (number (places g) a) (place_closers g a) []
       (get_place (places g) (place_closers g) (closers_along g) a has)
 
+  -- a chain state has the level of what its line still enters
   level_of_chain : (g b l k : ℕ) → b < length (places g) →
       l < length (label_lines (places g) b) → k < chain_len (places g) b l →
       marks.level g (first_chain (places g) b l + k) ≡ level_along g b l k
@@ -157,6 +164,7 @@ module _ (graphs : List (List Place)) (rows ranks : List (List ℕ)) (free : Lis
       (level_along g b l k) 0
       (get_chain (places g) (place_level g) (level_along g) b l k in_graph at lt)
 
+  -- and the closers of its place
   closers_of_chain : (g b l k : ℕ) → b < length (places g) →
       l < length (label_lines (places g) b) → k < chain_len (places g) b l →
       marks.closers g (first_chain (places g) b l + k) ≡ place_closers g b
@@ -170,6 +178,7 @@ module _ (graphs : List (List Place)) (rows ranks : List (List ℕ)) (free : Lis
   chain_above None level = omega arith
   chain_above (Some h) level = le-max_right (place_level h 0) level
 
+  -- the level along a line is within that of its place
   chain_within : (called : Option ℕ) (level most : ℕ) → level ≤ most →
       ((h : ℕ) → called ≡ Some h → place_level h 0 ≤ most) → chain_level called level ≤ most
   chain_within None level most le calls = le

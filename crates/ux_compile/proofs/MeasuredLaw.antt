@@ -48,6 +48,7 @@ module _ (graphs : List (List Place)) (rows ranks : List (List ℕ)) (free : Lis
     pub found : slice_get (states_of (places g)) n ≡ Some state
     pub same : net_states built g ≡ states_of (places g)
 
+  -- a state that is there is one of a compiled graph
   pub in_graph : (g n : ℕ) (state : State) → slice_get (net_states built g) n ≡ Some state →
       InGraph g n state
   in_graph g n state found = go (graph_at built g) refl found
@@ -65,6 +66,7 @@ module _ (graphs : List (List Place)) (rows ranks : List (List ℕ)) (free : Lis
             same = ap states_in is ∙ same;
           }
 
+  -- at a final state no token has to come
   ending : (g n : ℕ) (state : State) → InGraph g n state → IsTrue state.is_final →
       must built g n ≡ 0
   ending g n state i final =

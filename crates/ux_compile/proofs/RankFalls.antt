@@ -65,6 +65,7 @@ silent_more label rest rank is =
     let s : are_silent (label ∷ rest) ≡ are_silent rest = ap (λ b. b && are_silent rest) is in
     inr (ap (λ b. cond b (rank + 1) 0) (sym s), omega arith)
 
+-- one silent label more before a free rest
 pub free_more : (label : Label) (rest : List Label) (free : Bool) → is_silent label ≡ true →
     rest_free free rest ≡ true → rest_free free (label ∷ rest) ≡ true
 free_more label rest free is h =
@@ -85,6 +86,7 @@ rest_lower rest to from lower = go (are_silent rest) refl
         let e : cond (are_silent rest) (to + 1) 0 ≡ 0 = ap (λ b. cond b (to + 1) 0) is in
         inl (omega arith)
 
+-- a free rest is silent, and stands before a free place
 pub rest_marked : (rest : List Label) (free : Bool) → rest_free free rest ≡ true →
     (are_silent rest ≡ true) × (free ≡ true)
 rest_marked rest free h = go (are_silent rest) refl h
@@ -114,6 +116,7 @@ call_below start rank from free less behind =
     place_below true behind = let lt = behind refl in omega arith
     place_below false behind = omega arith
 
+-- a choice that is true of both
 pub both_marked : (a b : Bool) → cond a b false ≡ true → (a ≡ true) × (b ≡ true)
 both_marked true b h = (refl, h)
 both_marked false b h = cc

@@ -28,6 +28,7 @@ one_less labels k lt some = go (is_silent (get_or labels k Empty)) refl
     go false is =
         let none = prefix_len-drop_no is_silent labels k Empty lt is in absurd (omega arith)
 
+-- the silent front of a silent line is the line
 silent_whole : (labels : List Label) → are_silent labels ≡ true →
     silent_len labels ≡ length labels
 silent_whole [] h = refl
@@ -39,6 +40,7 @@ silent_whole (x ∷ xs) h = go (is_silent x) h (λ later. silent_whole xs later)
     go true h later = let r = later h in omega arith
     go false h later = cc
 
+-- and a line that is its silent front is silent
 whole_silent : (labels : List Label) → silent_len labels ≡ length labels →
     are_silent labels ≡ true
 whole_silent [] h = refl

@@ -31,6 +31,7 @@ kept b true true rest = omega arith
 kept b true false rest = omega arith
 kept b false t rest = omega arith
 
+-- spaces made single leave no more
 spaced : (text : List ℕ) → length (with_single_spaces text) ≤ length text
 spaced [] = omega arith
 spaced (b ∷ rest) =
@@ -43,6 +44,7 @@ some_text : (text : List ℕ) → text ≢ [] → 0 < length text
 some_text [] h = absurd (h refl)
 some_text (b ∷ text) h = omega arith
 
+-- a token has a text
 token_some : (alphabet : Letters) (k : Kind) (text : List ℕ) → IsTokenText alphabet k text →
     0 < length text
 token_some alphabet kind.Word text t = some_text text t.some
@@ -67,6 +69,7 @@ tokens_few alphabet (token ∷ tokens) each =
     let len = length-append token.text (joined tokens) in
     omega (arith, some, r, len)
 
+-- a text is cut into no more labels than it has signs
 cut_few : (alphabet : Letters) (label_of : Kind → List ℕ → Label) (text : List ℕ)
     (labels : List Label) → IsCut alphabet label_of text labels → length labels ≤ length text
 cut_few alphabet label_of text labels (tokens, are, is) =
@@ -78,6 +81,7 @@ cut_few alphabet label_of text labels (tokens, are, is) =
     omega (arith, few, whole, short, same)
 
 module _ (alphabet : Letters) (names : List (List ℕ)) where
+  -- an item has no more labels than its size
   item_few : (x : Item) (labels : List Label) → IsSplit alphabet names x labels →
       length labels ≤ size_of_item x
   item_few (item.Literal text) labels s =
@@ -166,5 +170,6 @@ module _ (alphabet : Letters) (names : List (List ℕ)) (graph : Graph) (places 
       let size = ap (λ (o : Option GrfBox). sum_by size_of_line (box_lines_in o)) at_b in
       omega (arith, few, same, size)
 
+  -- the places of a graph weigh no more than its size
   pub places_few : sum_by place_size places ≤ size_of graph
   places_few = sums_few places graph.boxes are.len place_few

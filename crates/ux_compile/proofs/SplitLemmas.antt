@@ -37,11 +37,13 @@ pub none_there : (places : List Place) (a : ℕ) → places ≡ [] → a < lengt
 none_there places a none h =
     let e = ap (λ (l : List Place). length l) none in absurd (omega (arith, e, h))
 
+-- of no boxes none is reached
 no_box : (boxes : List GrfBox) (n : ℕ) → boxes ≡ [] →
     box_reached_in (slice_get boxes n) ≡ true → ⊥
 no_box boxes n none on =
     let off = ap box_reached_in (slice_get_past boxes n (rw none (omega arith))) in cc
 
+-- and of no places none
 no_place : (places : List Place) (n : ℕ) → places ≡ [] → is_reached places n ≡ true → ⊥
 no_place places n none on =
     let off = ap reached_in (slice_get_past places n (rw none (omega arith))) in cc
@@ -84,6 +86,7 @@ module _ (alphabet : Letters) (names : List (List ℕ)) (boxes : List GrfBox)
 
 module _ (alphabet : Letters) (graphs : List Drawn) (places : List (List Place))
     (once : StandOnce (names_of graphs)) (are : AreSplit alphabet graphs places) where
+  -- the boxes are within the places
   pub to_places : (g : ℕ) → IsWithin
       (box_graph alphabet (names_of graphs) (boxes_of graphs g)) (place_graph (places_of places g))
   to_places zero = none_to_places alphabet (names_of graphs) [] [] refl
@@ -96,6 +99,7 @@ module _ (alphabet : Letters) (graphs : List Drawn) (places : List (List Place))
         (places_of places (suc n)) (ap boxes_in (slice_get_past graphs n past))
   ]
 
+  -- and the places within the boxes
   pub to_boxes : (g : ℕ) → IsWithin (place_graph (places_of places g))
       (box_graph alphabet (names_of graphs) (boxes_of graphs g))
   to_boxes zero = none_to_boxes alphabet (names_of graphs) [] [] refl
@@ -114,10 +118,12 @@ module _ (alphabet : Letters) (graphs : List Drawn) (places : List (List Place))
       IsAdmissible (box_grammar alphabet graphs)
   boxes_admissible = admissible_within (place_grammar places) (box_grammar alphabet graphs) to_places
 
+  -- an empty loop of the places is one of the boxes
   loop_boxes : (g n : ℕ) → IsOnEmptyLoop (place_grammar places) g n →
       IsOnEmptyLoop (box_grammar alphabet graphs) g n
   loop_boxes = loop_within (place_grammar places) (box_grammar alphabet graphs) to_boxes
 
+  -- and back
   loop_places : (g n : ℕ) → IsOnEmptyLoop (box_grammar alphabet graphs) g n →
       IsOnEmptyLoop (place_grammar places) g n
   loop_places = loop_within (box_grammar alphabet graphs) (place_grammar places) to_places
@@ -127,6 +133,7 @@ module _ (alphabet : Letters) (graphs : List Drawn) (places : List (List Place))
   boxes_closed =
       closed_within (place_grammar places) (box_grammar alphabet graphs) to_boxes to_places
 
+  -- contexts that are sound in the places are so in the boxes
   pub boxes_sound : AreClosed (place_grammar places) →
       HasNoNegativeRecursion (place_grammar places) → HaveSoundContexts alphabet graphs
   boxes_sound closed none = record {
@@ -157,6 +164,7 @@ module _ (alphabet : Letters) (graphs : List Drawn) (places : List (List Place))
   refused_context whole masked (LeftRecursion name node) r = absurd r
   refused_context whole masked NoMemory r = tt
 
+  -- the first graph with a negative recursion is the same
   first_negative : (g : ℕ) → IsFirstNegative (place_grammar places) g →
       IsFirstNegative (box_grammar alphabet graphs) g
   first_negative g first = record {

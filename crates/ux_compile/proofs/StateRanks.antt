@@ -35,6 +35,7 @@ module _ {graphs : List (List Place)} {rows ranks : List (List ℕ)} {free : Lis
   abbrev called : ℕ → ℕ → ℕ → Option ℕ
   called g b l = called_at (places g) b l
 
+  -- states can be made of the places of a compiled graph
   pub graph_fit : (g : ℕ) (graph : NetGraph) → graph_at built g ≡ Some graph → AreFit (places g)
   graph_fit zero graph is = cc
   graph_fit (suc n) graph is =
@@ -42,6 +43,7 @@ module _ {graphs : List (List Place)} {rows ranks : List (List ℕ)} {free : Lis
       let e = net.made.count in
       net.fit (suc n) (omega arith) (omega arith)
 
+  -- each graph is compiled
   pub graph_there : (g : ℕ) → 1 ≤ g → g ≤ length graphs →
       (graph : NetGraph) × (graph_at built g ≡ Some graph)
   graph_there zero from to = absurd (omega arith)
@@ -73,6 +75,7 @@ module _ {graphs : List (List Place)} {rows ranks : List (List ℕ)} {free : Lis
           sum_has (λ (graph : NetGraph). sum_by (λ (rank : Rank). rank.minor) graph.ranks)
           built m graph there
 
+  -- the mark of a state, as the net has it
   pub free_is : (g n : ℕ) (graph : NetGraph) (mark : Bool) → graph_at built g ≡ Some graph →
       slice_get (state_frees ranks free g (places g)) n ≡ Some mark →
       must built g n ≡ cond mark 0 1
@@ -90,6 +93,7 @@ module _ {graphs : List (List Place)} {rows ranks : List (List ℕ)} {free : Lis
     pub mark : Bool
     pub marked_so : slice_get (state_frees ranks free g (places g)) n ≡ Some mark
 
+  -- a lower rank of two states is lower in the net
   pub rank_lower : (g from to : ℕ) (graph : NetGraph) → graph_at built g ≡ Some graph →
       (high : Marked g from) (low : Marked g to) → IsLowerRank low.rank high.rank →
       rank_of built g to < rank_of built g from
@@ -101,6 +105,7 @@ module _ {graphs : List (List Place)} {rows ranks : List (List ℕ)} {free : Lis
       let b = l.0 in
       omega arith
 
+  -- and so it is with their marks
   pub lower : (g from to : ℕ) (graph : NetGraph) → graph_at built g ≡ Some graph →
       (high : Marked g from) (low : Marked g to) → IsLowerRank low.rank high.rank →
       (low.mark ≡ true → high.mark ≡ true) → IsLower built g from to

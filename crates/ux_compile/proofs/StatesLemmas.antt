@@ -49,6 +49,7 @@ later_in output line = later_edges output (labels_in line)
 abbrev chains_in : Option Place → ℕ
 chains_in place = sum_by (later_edges (output_in_place place)) (lines_in place)
 
+-- places and their chains weigh what their sizes say
 places_weigh : (places : List Place) →
     length places + sum_by (λ (p : Place). chains_in (Some p)) places ≤ sum_by place_size places
 places_weigh [] = omega arith
@@ -62,6 +63,7 @@ count_one : (b : Bool) → cond b 1 0 ≤ 1
 count_one true = omega arith
 count_one false = omega arith
 
+-- what is so counts one
 counted : (b : Bool) → b ≡ true → ◌≡◌ {A = ℕ} (cond b 1 0) 1
 counted true h = refl
 counted false h = cc
@@ -72,6 +74,7 @@ reached_within places a None is h = cc
 reached_within places a (Some place) is h = slice_get_within places a place is
 
 module _ (places : List Place) where
+  -- the chains of a place, as its lines have them
   chains_sum : (b : ℕ) → chains_len places b ≡ chains_in (slice_get places b)
   chains_sum b = sum_ranged (later_in (place_output places b)) (label_lines places b)
 
@@ -100,10 +103,12 @@ module _ (places : List Place) where
       (range_with_len 0 (length places)) ∙ sum_ranged chains_in places in
       omega arith
 
+  -- 32 bits number the states
   pub total_few : AreFit places → total < 4294967296
   total_few fit =
       let w = total_weighs in let n = number_below (length places) in let f = fit.few in omega arith
 
+  -- and the places
   pub places_few : AreFit places → length places < 4294967296
   places_few fit = let w = total_weighs in let f = fit.few in omega arith
 
@@ -112,6 +117,7 @@ module _ (places : List Place) where
       number places (a + 1) ≡ number places a + cond (has_state places a) 1 0
   number_next a = sum_more (λ n. cond (has_state places n) 1 0) a
 
+  -- and so the state of each place
   pub number_fits : AreFit places → (a : ℕ) → a < length places →
       number places a + cond (has_state places a) 1 0 < 4294967296
   number_fits fit a h =
@@ -120,17 +126,21 @@ module _ (places : List Place) where
       let few = places_few fit in
       omega arith
 
+  -- the chains of the next place begin behind those of this one
   pub start_next : (b : ℕ) → chain_start places (b + 1) ≡ chain_start places b + chains_len places b
   start_next b = let m = sum_more (chains_len places) b in omega arith
 
+  -- and those of the next line
   pub chain_next : (b l : ℕ) →
       first_chain places b (l + 1) ≡ first_chain places b l + chain_len places b l
   chain_next b l = let m = sum_more (chain_len places b) l in omega arith
 
+  -- the last line of a place ends where the next place begins
   pub chain_last : (b : ℕ) →
       first_chain places b (length (label_lines places b)) ≡ chain_start places (b + 1)
   chain_last b = sym (start_next b)
 
+  -- chains begin among the states
   pub start_inside : (b : ℕ) → b ≤ length places → chain_start places b ≤ total
   start_inside b h = let s = sum_shorter (chains_len places) b (length places) h in omega arith
 
@@ -145,6 +155,7 @@ module _ (places : List Place) where
       let t = start_inside (b + 1) (omega arith) in
       omega arith
 
+  -- the chain states of a line have numbers
   pub chain_fits : AreFit places → (b l : ℕ) → b < length places →
       l < length (label_lines places b) →
       first_chain places b l + chain_len places b l < 4294967296
@@ -159,6 +170,7 @@ module _ (places : List Place) where
       subst (λ line. Contains (label_lines places b) line) (ap labels_in (sym found))
       (Contains-get_or (label_lines places b) l [] at)
 
+  -- a line has a label
   pub line_some : AreFit places → (b l : ℕ) → l < length (label_lines places b) →
       0 < length (labels_at places b l)
   line_some fit b l at =
@@ -173,6 +185,7 @@ module _ (places : List Place) where
       call_whole (place_output places b) (line_at places b l) h
       (fit.lines b (line_at places b l) (line_there b l at)) is
 
+  -- a line that calls a graph behind an output has two edges
   pub labels_called : AreFit places → (b l h : ℕ) → l < length (label_lines places b) →
       called_at places b l ≡ Some h → labels_at places b l ≡ Empty ∷ Call h ∷ []
   labels_called fit b l h at is =
@@ -187,12 +200,14 @@ module _ (places : List Place) where
       let l = length-map-range_with_len f 0 (length places) in
       omega arith
 
+  -- a table has at a place what the function gives
   pub table_at : (f : ℕ → ℕ) (table : List ℕ) (a : ℕ) → table ≡ table_of places f →
       a < length places → get_or table a 0 ≡ f a
   table_at f table a is h =
       ap (λ (t : List ℕ). get_or t a 0) is
       ∙ get_or-map-range_with_len f 0 (length places) a a 0 h (omega arith)
 
+  -- a place with a state is there
   pub place_inside : (a : ℕ) → has_state places a ≡ true → a < length places
   place_inside a has = go (nat_eq a 1) has
     where
@@ -297,6 +312,7 @@ module _ (places : List Place) where
   nothing_along : ℕ → ℕ → ℕ → ℕ
   nothing_along b l k = 0
 
+  -- each number is that of a state
   pub stands : (n : ℕ) → n < total → Stands n
   stands n h = elim (less_or n (number places (length places))) [
     | inl first ↦

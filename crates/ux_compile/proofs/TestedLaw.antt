@@ -1,6 +1,6 @@
 -- What follows of graphs that pass the tests before that of loops: what is built of their places is
 -- the net of their boxes.
-use Rattle.std.proofs.Common.{arith, ◌≡◌, ◌+◌, ◌*◌, ◌<◌, ◌≤◌, ℕ, List, [], ◌∷◌, ◌++◌, get_or, length, take, sym, ◌∙◌, ap, subst}
+use Rattle.std.proofs.Common.{arith, ◌≡◌, ◌+◌, ◌*◌, ◌<◌, ◌≤◌, ℕ, List, [], ◌∷◌, ◌++◌, get_or, length, map, take, sym, ◌∙◌, ap, subst}
 use Rattle.std.specs.Prelude.{All, string_bytes}
 use Rattle.std.proofs.lemmas.List.{length-map, map-append}
 use Rattle.ux_alphabet.specs.Letters.{Letters}
@@ -14,6 +14,8 @@ use Rattle.ux_compile.specs.Compiling.{AreTested, IsBuiltOf, IsConstructed, Refu
 use Rattle.ux_compile.specs.Construct.{AreFit}
 use Rattle.ux_boxes.specs.Fit.{IsFit, HasLinesWhereReached}
 use Rattle.ux_net.specs.Nets.{net_grammar}
+use Rattle.ux_net.specs.StateGraphs.{state_grammar}
+use Rattle.ux_net.specs.Whole.{told_graph}
 use Rattle.ux_boxes.specs.Numbers.{all_places}
 use Rattle.ux_boxes.specs.Places.{place_grammar}
 use Rattle.ux_boxes.specs.Refusing.{drawn, drawn_of}
@@ -23,6 +25,7 @@ use Rattle.ux_admission.specs.SoundGrammar.{IsSoundGrammar}
 use Rattle.ux_net.specs.Words.{SayTheSame}
 use Rattle.ux_compile.proofs.AllFitLemmas.{all_fit, all_reached, all_few, all_places_few, all_are_fit, each_is_fit, calls_inside}
 use Rattle.ux_compile.proofs.BuiltLemmas.{constructed, boxes_same}
+use Rattle.ux_compile.proofs.ClosedLaw.{built_is_admitted}
 use Rattle.ux_compile.proofs.SoundLaw.{built_is_sound}
 use Rattle.ux_boxes.proofs.MissingLemmas.{Differ, stand_once}
 use Rattle.ux_boxes.proofs.RefusingLemmas.{Given}
@@ -52,21 +55,27 @@ module _ (alphabet : Letters) (graphs : List Given)
     (small : All (λ (graph : Given). size_of graph.1 < 4294967296) graphs)
     (differ : Differ graphs) (places : List (List Place))
     (tested : AreTested alphabet (drawn graphs) places) where
+  -- the places of graphs that were tested are fit
   pub tested_fit : All (IsFit (length places)) places
   tested_fit = all_fit alphabet graphs places formed small tested.split
 
+  -- they have lines where they are reached
   pub tested_reached : All HasLinesWhereReached places
   tested_reached = all_reached alphabet graphs places formed small tested.split
 
+  -- they are few
   pub tested_few : All (λ (p : List Place). length p ≤ 65535) places
   tested_few = all_few alphabet graphs places formed small tested.split
 
+  -- states can be made of them
   pub tested_are_fit : All AreFit places
   tested_are_fit = all_are_fit alphabet graphs places formed small tested.split
 
+  -- there are as many as graphs
   pub tested_count : length places ≡ length graphs
   tested_count = tested.split.count ∙ length-map graphs drawn_of
 
+  -- and where they are sound the graphs are compilable
   pub tested_compilable : IsSoundGrammar (place_grammar places) →
       IsCompilable alphabet (drawn graphs)
   tested_compilable sound = record {
@@ -101,6 +110,14 @@ module _ (alphabet : Letters) (graphs : List Given)
         (let most : all_places places ≤ 65535 * 65535 = omega (arith, all, count, few) in
         omega (arith, most))
 
+    pub tested_admitted : 0 < length graphs → length graphs ≤ 65535 →
+        IsSoundGrammar (state_grammar (map told_graph net))
+    tested_admitted some few =
+        built_is_admitted places built.rows built.ranks built.free net
+        (each_is_fit alphabet graphs places formed small tested.split) built.built built.closed
+        (tested_sound some few)
+
+  -- what refuses them refuses the graphs
   pub tested_refused : (error : NetError) →
       RefusesNet (names_of (drawn graphs)) places error →
       Refuses alphabet (drawn graphs) error

@@ -1,15 +1,14 @@
 -- The states that are made of the places of a graph: one for each place that is reached, and then
 -- those of chains, which stand between the labels of a line. The manual, on compiled graphs.
--- Public: the crate's public contracts speak of it.
+-- Public, through `Compiling`.
 use Rattle.std.specs.Prelude.{◌≡◌, ℕ, zero, suc, ◌+◌, ◌-◌, ◌<◌, List, [], ◌∷◌, ◌++◌, map, Option, Some, None, slice_get, get_or, length, sum_by, Contains, Bool, true, false, cond, nat_eq, ltb}
 use Rattle.std.specs.List.{range_with_len, flat_map, list_any, count_by}
 use Rattle.ux_grf.specs.declared.item.Piece.{Piece}
 use Rattle.ux_net.specs.declared.label.Label.{Label}
-use Rattle.ux_net.specs.declared.label.Label.TheVariants.{Empty, Negative, Call}
+use Rattle.ux_net.specs.declared.label.Label.TheVariants.{Empty, Call}
 use Rattle.ux_boxes.specs.declared.place.Place.{Place}
 use Rattle.ux_net.specs.declared.state.Edge.{Edge}
 use Rattle.ux_net.specs.declared.state.State.{State}
-use Rattle.ux_net.specs.declared.net_graph.Closing.{Closing}
 use Rattle.ux_boxes.specs.Places.{label_lines, place_output, place_targets, is_reached}
 use Rattle.ux_boxes.specs.Fit.{IsLine}
 
@@ -35,11 +34,6 @@ later_edges output line = length (edge_labels (called_behind output line) line) 
 -- one for the place, and one for each edge of its lines but the first of a line
 abbrev pub place_size : Place → ℕ
 place_size place = 1 + sum_by (later_edges place.output) place.lines
-
--- a line that opens a context that may not follow
-abbrev pub is_refusing : List Label → Bool
-is_refusing (Negative ∷ []) = true
-is_refusing line = false
 
 -- each edge leads to a state that is there
 abbrev pub AreTargetsInside : List State → Type 0
@@ -143,23 +137,6 @@ module _ (places : List Place) where
   -- the states of a graph
   abbrev pub states_of : List State
   states_of = by_state place_state chain_state
-
-  -- a context that may not follow opens into the place
-  abbrev pub is_refused : ℕ → Bool
-  is_refused b = list_any is_refusing (label_lines places b)
-
-  -- where the body from a place is closed, of which these are the closers: into the first of them
-  abbrev pub closing_from : ℕ → List ℕ → List Closing
-  closing_from b [] = []
-  closing_from b (c ∷ later) = record { opening = number b; closing = number c } ∷ []
-
-  -- the same, where the context may not follow
-  abbrev pub closings_at : (row : ℕ → List ℕ) → ℕ → List Closing
-  closings_at row b = cond (is_refused b) (closing_from b (row b)) []
-
-  -- that of each place, where each has a row of closers
-  abbrev pub closings_of : (row : ℕ → List ℕ) → List Closing
-  closings_of row = flat_map (closings_at row) (range_with_len 0 (length places))
 
   -- Places of which states can be made. Place 0 is reached, targets are there, places without a
   -- state have no lines, each line is one, and few enough states come of them to number

@@ -8,7 +8,8 @@ use Rattle.ux_net.specs.declared.net_graph.NetGraph.{NetGraph}
 use Rattle.ux_net.specs.declared.net_graph.Rank.{Rank}
 use Rattle.ux_boxes.specs.Places.{label_lines, places_of}
 use Rattle.ux_net.specs.Nets.{graph_at, IsCalled}
-use Rattle.ux_compile.specs.Construct.{called_at, labels_at, by_state, states_of, closings_of, AreFit}
+use Rattle.ux_admission.specs.ToldClosings.{closings_of}
+use Rattle.ux_compile.specs.Construct.{called_at, labels_at, number, by_state, states_of, AreFit}
 use Rattle.ux_boxes.specs.Numbers.{number_of}
 use Rattle.ux_net.specs.Silent.{is_silent, are_silent}
 use Rattle.ux_admission.specs.Admission.{place_rank, is_place_free}
@@ -96,7 +97,7 @@ pub record IsBuilt (ranks : List (List ℕ)) (free : List (List Bool)) (g : ℕ)
   pub states : graph.states ≡ states_of places
   pub ranked : graph.ranks ≡ state_ranks ranks free g places
   pub marked : graph.free ≡ state_frees ranks free g places
-  pub closings : graph.closings ≡ closings_of places row
+  pub closings : graph.closings ≡ closings_of (number places) places row
   pub aside : graph.unmet ≡ []
 
 -- the row of each place of a graph

@@ -1,11 +1,14 @@
 //! Compiles a list of graphs.
 
-ghost use Rattle.std.specs.Prelude.{◌≡◌, ◌≢◌, ◌≤◌, ◌<◌, ℕ, All, AllPairs, IfErr, IfOk, OnOk, length, string_bytes};
+ghost use Rattle.std.specs.Prelude.{◌≡◌, ◌≢◌, ◌≤◌, ◌<◌, ℕ, All, AllPairs, IfErr, IfOk, OnOk, length, map, string_bytes};
 ghost use Rattle.ux_grf.specs.Size.{size_of};
 ghost use Rattle.ux_grf.specs.WellFormed.{IsWellFormed};
 ghost use Rattle.ux_boxes.specs.Boxes.{box_grammar};
 ghost use Rattle.ux_compile.specs.Compiling.{IsConstructed};
+ghost use Rattle.ux_admission.specs.SoundGrammar.{IsSoundGrammar};
 ghost use Rattle.ux_net.specs.Nets.{net_grammar};
+ghost use Rattle.ux_net.specs.StateGraphs.{AreInsideStates, state_grammar};
+ghost use Rattle.ux_net.specs.Whole.{told_graph};
 ghost use Rattle.ux_boxes.specs.Refusing.{drawn};
 ghost use Rattle.ux_compile.specs.Refusing.{IsCompilable, Refuses};
 ghost use Rattle.ux_net.specs.Words.{SayTheSame};
@@ -33,6 +36,9 @@ pub fn compile(
         SayTheSame (box_grammar alphabet.now (drawn graphs.items)) (net_grammar net)) }
     ensures built { IfOk result (λ net.
         IsConstructed alphabet.now (drawn graphs.items) net) }
+    ensures inside { IfOk result (λ net. AreInsideStates (map told_graph net)) }
+    ensures admitted { IfOk result (λ net.
+        IsSoundGrammar (state_grammar (map told_graph net))) }
     ensures err { IfErr result (Refuses alphabet.now (drawn graphs.items)) }
 {
     let net = compiled(alloc, graphs, alphabet)?;

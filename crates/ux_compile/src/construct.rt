@@ -22,18 +22,27 @@
 ghost use Rattle.std.specs.Prelude.{◌≡◌, ◌+◌, ◌-◌, ◌<◌, ◌++◌, length, get_or, IfOk, OnOk, cond, ltb};
 ghost use Rattle.std.specs.List.{range_with_len, flat_map};
 ghost use Rattle.ux_net.specs.declared.label.Label.TheVariants.{Empty};
-ghost use Rattle.ux_boxes.specs.Places.{place_targets};
-ghost use Rattle.ux_compile.specs.Construct.{AreFit, number as number_of, labels_at, output_before as output_before_of, chain_len as chain_len_of, chain_start, first_chain, edge_of, edges_to, place_state as place_state_of, chain_state as chain_state_of, along_line, along_lines, at_place, states_of, table_of, AreTargetsInside};
+ghost use Rattle.ux_boxes.specs.Places.{place_targets, label_lines};
+ghost use Rattle.ux_compile.specs.Chains.{IsChain};
+ghost use Rattle.ux_compile.specs.Construct.{AreFit, number as number_of, labels_at, output_before as output_before_of, chain_len as chain_len_of, chain_start, edge_of, edges_to, place_state as place_state_of, chain_state as chain_state_of, along_line, along_lines, at_place, states_of, table_of, AreTargetsInside};
 
 use crate::numbering::{
     called_behind, chain_len, has_state, labels, line_count, numbers, place_output, starts,
 };
 use std::alloc::{AllocError, Global};
 use ux_base::{Lst, Mem};
-use ux_boxes::Place;
-use ux_boxes::output::copied;
+use ux_boxes::{Place, copied_output};
 use ux_grf::Piece;
 use ux_net::{Edge, Label, State};
+
+/// The numbers by which the edges of a line lead.
+#[derive(Clone, Copy)]
+pub struct Chain {
+    /// The number of the state of the line's place.
+    pub number: u32,
+    /// The number of the line's first chain state.
+    pub first: u32,
+}
 
 /// The states that are made of the places of a graph.
 pub fn states(alloc: Global, places: &[Place]) -> Mem<Vec<State>>
@@ -137,14 +146,38 @@ fn push_edges(
     requires place { place < length places.now }
     ensures { OnOk result (edges.new.items ≡ edges.old.items ++ edges_to places.now place) }
 {
-    let number = numbers[place];
-    let mut first = starts[place];
+    let mut chain = first_chain(places, numbers, starts, place);
     edges.reserve(line_count(places, place))?;
     for line in 0..line_count(places, place) {
-        edges.push(edge(alloc, places, number, place, line, first, 0)?)?;
-        first += chain_len(places, place, line) as u32;
+        edges.push(edge(alloc, places, place, line, chain, 0)?)?;
+        chain = next_chain(places, place, line, chain);
     }
     Ok(())
+}
+
+/// The numbers of the first line of a place.
+fn first_chain(places: &[Place], numbers: &[u32], starts: &[u32], place: usize) -> Chain
+    requires numbers { numbers.now ≡ table_of places.now (number_of places.now) }
+    requires starts { starts.now ≡ table_of places.now (chain_start places.now) }
+    requires place { place < length places.now }
+    ensures { IsChain places.now place 0 result }
+{
+    Chain {
+        number: numbers[place],
+        first: starts[place],
+    }
+}
+
+/// The numbers of the line behind this one. Its chain states stand behind those of this one.
+fn next_chain(places: &[Place], place: usize, line: usize, chain: Chain) -> Chain
+    requires fit { AreFit places.now }
+    requires place { place < length places.now }
+    requires line { line < length (label_lines places.now place) }
+    requires chain { IsChain places.now place line chain }
+    ensures { IsChain places.now place (line + 1) result }
+{
+    let first = chain.first + chain_len(places, place, line) as u32;
+    Chain { first, ..chain }
 }
 
 /// Adds the chain states of all places.
@@ -184,11 +217,10 @@ fn push_chains(
     ensures { OnOk result (states.new.items
         ≡ states.old.items ++ along_lines places.now (chain_state_of places.now) place) }
 {
-    let number = numbers[place];
-    let mut first = starts[place];
+    let mut chain = first_chain(places, numbers, starts, place);
     for line in 0..line_count(places, place) {
-        push_chain(alloc, places, number, place, line, first, states)?;
-        first += chain_len(places, place, line) as u32;
+        push_chain(alloc, places, place, line, chain, states)?;
+        chain = next_chain(places, place, line, chain);
     }
     Ok(())
 }
@@ -197,20 +229,18 @@ fn push_chains(
 fn push_chain(
     alloc: Global,
     places: &[Place],
-    number: u32,
     place: usize,
     line: usize,
-    first: u32,
+    chain: Chain,
     states: &mut Vec<State>,
 ) -> Mem<()>
-    requires number { number ≡ number_of places.now place }
-    requires first { first ≡ first_chain places.now place line }
-    requires fits { first + chain_len_of places.now place line < 4294967296 }
+    requires chain { IsChain places.now place line chain }
+    requires fits { chain.first + chain_len_of places.now place line < 4294967296 }
     ensures { OnOk result (states.new.items
         ≡ states.old.items ++ along_line places.now (chain_state_of places.now) place line) }
 {
     for k in 0..chain_len(places, place, line) {
-        states.push(chain_state(alloc, places, number, place, line, first, k)?)?;
+        states.push(chain_state(alloc, places, place, line, chain, k)?)?;
     }
     Ok(())
 }
@@ -219,20 +249,18 @@ fn push_chain(
 fn chain_state(
     alloc: Global,
     places: &[Place],
-    number: u32,
     place: usize,
     line: usize,
-    first: u32,
+    chain: Chain,
     k: usize,
 ) -> Mem<State>
-    requires number { number ≡ number_of places.now place }
-    requires first { first ≡ first_chain places.now place line }
-    requires fits { first + chain_len_of places.now place line < 4294967296 }
+    requires chain { IsChain places.now place line chain }
+    requires fits { chain.first + chain_len_of places.now place line < 4294967296 }
     requires label { k < chain_len_of places.now place line }
     ensures { IfOk result (λ state. state ≡ chain_state_of places.now place line k) }
 {
     let mut edges = Vec::with_capacity(alloc, 1)?;
-    edges.push(edge(alloc, places, number, place, line, first, k + 1)?)?;
+    edges.push(edge(alloc, places, place, line, chain, k + 1)?)?;
     Ok(State {
         is_final: false,
         edges: Lst::new(edges),
@@ -243,20 +271,18 @@ fn chain_state(
 fn edge(
     alloc: Global,
     places: &[Place],
-    number: u32,
     place: usize,
     line: usize,
-    first: u32,
+    chain: Chain,
     k: usize,
 ) -> Mem<Edge>
-    requires number { number ≡ number_of places.now place }
-    requires first { first ≡ first_chain places.now place line }
-    requires fits { first + chain_len_of places.now place line < 4294967296 }
+    requires chain { IsChain places.now place line chain }
+    requires fits { chain.first + chain_len_of places.now place line < 4294967296 }
     requires label { k < length (labels_at places.now place line) }
     ensures { IfOk result (λ edge. edge ≡ edge_of places.now place line k) }
 {
     let labels = chain_len(places, place, line) + 1;
-    let target = target(first, k, labels, number);
+    let target = target(chain.first, k, labels, chain.number);
     Ok(Edge {
         label: label(places, place, line, k)?,
         output: output_before(alloc, places, place, k)?,
@@ -285,7 +311,7 @@ fn output_before(alloc: Global, places: &[Place], place: usize, k: usize) -> Mem
     ensures { IfOk result (λ output. output ≡ output_before_of places.now place k) }
 {
     match k {
-        0 => copied(alloc, place_output(places, place)),
+        0 => copied_output(alloc, place_output(places, place)),
         _ => Ok(Lst::new(Vec::new(alloc))),
     }
 }

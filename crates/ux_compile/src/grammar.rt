@@ -25,6 +25,8 @@ ghost use Rattle.ux_compile.specs.Ranks.{AreBuilt, IsBuilt};
 ghost use Rattle.ux_boxes.specs.Refusing.{drawn, is_name_at};
 ghost use Rattle.ux_compile.specs.Refusing.{IsCompilable, Refuses};
 ghost use Rattle.ux_net.specs.Sound.{IsSound};
+ghost use Rattle.ux_net.specs.StateGraphs.{state_grammar};
+ghost use Rattle.ux_net.specs.Whole.{told_graph};
 ghost use Rattle.ux_admission.specs.SoundGrammar.{IsSoundGrammar};
 ghost use Rattle.ux_admission.specs.Uses.{AreLevels};
 ghost use Rattle.ux_net.specs.Words.{SayTheSame};
@@ -39,8 +41,9 @@ use ux_admission::{
 };
 use ux_alphabet::Alphabet;
 use ux_base::{Lst, Mem, Txt};
-use ux_boxes::offsets::offsets_of;
-use ux_boxes::{NetError, Place, name_of, names_of, refuse_bad_masks, refuse_missing, split_graph};
+use ux_boxes::{
+    NetError, Place, name_of, names_of, offsets_of, refuse_bad_masks, refuse_missing, split_graph,
+};
 use ux_grf::Graph;
 use ux_net::NetGraph;
 
@@ -61,6 +64,8 @@ pub fn compiled(
     ensures words { IfOk result (λ net.
         SayTheSame (box_grammar alphabet.now (drawn graphs.items)) (net_grammar net.items)) }
     ensures sound { IfOk result (λ net. IsSound net.items) }
+    ensures admitted { IfOk result (λ net.
+        IsSoundGrammar (state_grammar (map told_graph net.items))) }
     ensures err { IfErr result (Refuses alphabet.now (drawn graphs.items)) }
 {
     let places = places_of(alloc, &graphs, alphabet)?;

@@ -1,11 +1,11 @@
 -- Places of ways into states: each place but the end is one way's, with the line of its kind.
 use Rattle.std.proofs.Common.{arith, ◌≡◌, ◌≢◌, ◌⊎◌, inl, inr, ℕ, zero, suc, ◌+◌, ◌<◌, List, [], ◌∷◌, length, refl, sym, ap, subst, ◌∙◌}
 use Rattle.std.specs.Prelude.{Contains, Some, slice_get, IsTrue}
-use Rattle.std.proofs.lemmas.Option.{slice_get_cases, slice_get_within}
+use Rattle.std.proofs.lemmas.Option.{same_Some, slice_get_cases, slice_get_within}
 use Rattle.ux_base.proofs.Lists.{nothing_in, same_or, first_or_later, contains_first}
 use Rattle.ux_base.proofs.OrderedLists.{place_of}
 use Rattle.ux_net.specs.declared.label.Label.{Label}
-use Rattle.ux_net.specs.declared.label.Label.TheVariants.{Empty, CaseFolded, CaseExact, Mask, Brace, Space, NoSpace, Begin, End, Positive, Negative, ContextEnd, Cut, Call}
+use Rattle.ux_net.specs.declared.label.Label.TheVariants.{Empty}
 use Rattle.ux_net.specs.declared.state.Edge.{Edge}
 use Rattle.ux_net.specs.declared.state.State.{State}
 use Rattle.ux_net.specs.Nets.{IsNetEnd}
@@ -22,19 +22,7 @@ use Rattle.ux_state_places.specs.Kinds.{kind_of}
 -- the label of the kind is the kind of the label
 pub label_arriving : (x : Label) → label_of (arriving x) ≡ kind_of x
 label_arriving Empty = refl
-label_arriving (CaseFolded text) = refl
-label_arriving (CaseExact text) = refl
-label_arriving (Mask mask) = refl
-label_arriving (Brace text) = refl
-label_arriving Space = refl
-label_arriving NoSpace = refl
-label_arriving (Begin name) = refl
-label_arriving (End name) = refl
-label_arriving Positive = refl
-label_arriving Negative = refl
-label_arriving ContextEnd = refl
-label_arriving Cut = refl
-label_arriving (Call h) = refl
+label_arriving x = refl
 
 -- the kind of the label of a kind, by which two kinds of one label are one
 abbrev kind_in : Label → Kind
@@ -61,6 +49,13 @@ arrival_place arrivals (suc zero) x e = absurd cc
 arrival_place arrivals (suc (suc n)) x e =
     let within = slice_get_within arrivals (suc n) x e in
     (omega (arith, within), λ one. absurd (omega (arith, one)))
+
+-- which is one of all
+pub arrival_among : (arrivals : List Arrival) (p : ℕ) (x : Arrival) →
+    arrival_at arrivals p ≡ Some x → (i : ℕ) × (slice_get arrivals i ≡ Some x)
+arrival_among arrivals zero x e = (0, e)
+arrival_among arrivals (suc zero) x e = absurd cc
+arrival_among arrivals (suc (suc n)) x e = (suc n, e)
 
 -- each place but the end has its way
 pub place_arrival : (arrivals : List Arrival) (p : ℕ) → 0 < length arrivals →
@@ -112,9 +107,6 @@ pub arrival_state : (states : List State) (arrivals : List Arrival) → AreArriv
 arrival_state states arrivals are zero x e = are.inside 0 x e
 arrival_state states arrivals are (suc zero) x e = absurd cc
 arrival_state states arrivals are (suc (suc n)) x e = are.inside (suc n) x e
-
-some_same : {A : Type 0} (x y : A) → Some x ≡ Some y → x ≡ y
-some_same x y e = cc
 
 module _ (states : List State) (arrivals : List Arrival) (are : AreArrivals states arrivals)
     (raw : List Place) (is : AreRawPlaces states arrivals raw) where
@@ -181,7 +173,7 @@ module _ (states : List State) (arrivals : List Arrival) (are : AreArrivals stat
       arrival_at arrivals s.to ≡ Some (hub_arrival o.source.state) → IsEdgeOrHub s o
   to_a_hub s o k e apart leads = inr (
     λ same. apart (sym e ∙ ap (λ (x : Arrival). x.kind) same),
-    some_same o.target (hub_arrival o.source.state) (sym o.to ∙ leads),
+    same_Some o.target (hub_arrival o.source.state) (sym o.to ∙ leads),
   )
 
   leads_so : (s : Step) (o : IsStepOf s) (k : Kind) → o.source.kind ≡ k →
@@ -208,7 +200,7 @@ module _ (states : List State) (arrivals : List Arrival) (are : AreArrivals stat
                     edge.0,
                     leads.1,
                     edge.1,
-                    some_same o.target (edge_arrival edge.0) (sym o.to ∙ edge.2),
+                    same_Some o.target (edge_arrival edge.0) (sym o.to ∙ edge.2),
                   ),
                 )
           ]

@@ -1,7 +1,7 @@
 -- The places of a graph that are kept: their steps, and to which of them runs lead.
 use Rattle.std.proofs.Common.{arith, ◌≡◌, ◌≢◌, ◌↔◌, ◌⊎◌, inl, inr, ℕ, zero, suc, ◌+◌, ◌<◌, List, [], ◌∷◌, ◌++◌, length, map, refl, sym, ap, subst, ◌∙◌, get_or, true, false}
 use Rattle.std.specs.Prelude.{Contains, Some}
-use Rattle.std.proofs.lemmas.Option.{slice_get_within, slice_get_past}
+use Rattle.std.proofs.lemmas.Option.{same_Some, slice_get_within, slice_get_past}
 use Rattle.ux_base.proofs.Lists.{less_or, same_or}
 use Rattle.ux_net.specs.declared.label.Label.{Label}
 use Rattle.ux_net.specs.declared.label.Label.TheVariants.{Empty}
@@ -43,9 +43,6 @@ hub_or kind.Positive = inr (λ e. absurd cc)
 hub_or kind.Negative = inr (λ e. absurd cc)
 hub_or kind.ContextEnd = inr (λ e. absurd cc)
 hub_or (kind.Call graph) = inr (λ e. absurd cc)
-
-some_one : {A : Type 0} (x y : A) → Some x ≡ Some y → x ≡ y
-some_one x y e = cc
 
 module _ (graphs : List StateGraph) (places raws : List (List Place)) (stands hubs : List (List ℕ))
     (g : ℕ) (of : ArePlacesOf raws g (told_states graphs g) (places_of places g) (row_at stands g)
@@ -199,7 +196,7 @@ module _ (graphs : List StateGraph) (places raws : List (List Place)) (stands hu
                 let to_hub = is_hub s.to n inside (o.to ∙ ap (λ x. Some x) e.1) in
                 inl (record {
                   of_places = i;
-                  apart = λ same. e.0 (some_one o.source (hub_arrival n) (sym o.from
+                  apart = λ same. e.0 (same_Some o.source (hub_arrival n) (sym o.from
                       ∙ (ap (λ p. arrival_at of.arrivals p) (same ∙ ap (λ m. hub m) from_is)
                       ∙ hub_there n inside)));
                   to = to_hub ∙ ap (λ m. hub m) (sym from_is);
@@ -277,7 +274,7 @@ module _ (graphs : List StateGraph) (places raws : List (List Place)) (stands hu
               s,
               record {
                 of_places = kept_step s raw_is (inl (reached_mark p e));
-                apart = λ same. apart (some_one x.0 (hub_arrival n) (sym x.1
+                apart = λ same. apart (same_Some x.0 (hub_arrival n) (sym x.1
                     ∙ (ap (λ q. arrival_at of.arrivals q) (same ∙ ap (λ m. hub m) state_is) ∙ at)));
                 to = ap (λ m. hub m) (sym state_is);
                 silent = refl;

@@ -13,7 +13,8 @@ use Rattle.ux_net.specs.StateGraphs.{told_states, state_grammar, AreInsideStates
 use Rattle.ux_net.specs.Words.{Sign, Step, Letter, opens, mark_of, letters, Run, stop, IsBody}
 use Rattle.ux_boxes.specs.declared.place.Place.{Place}
 use Rattle.ux_boxes.specs.Places.{places_of, place_graph, place_grammar, IsPlaceStep}
-use Rattle.ux_admission.specs.Admissible.{IsFree, none, LeadsFreely, MovesFreely, along_step, over_context, IsOnMove, in_front, at_opening, IsUnit, EntersAt, by_call, by_opening, Enters, EntersInTurns, once, more, IsOnEmptyLoop, IsLeftRecursive, IsAdmissible}
+use Rattle.ux_net.specs.Nullable.{IsFree, none}
+use Rattle.ux_admission.specs.Admissible.{LeadsFreely, MovesFreely, along_step, over_context, IsOnMove, in_front, at_opening, IsUnit, EntersAt, by_call, by_opening, Enters, EntersInTurns, once, more, IsOnEmptyLoop, IsLeftRecursive, IsAdmissible}
 use Rattle.ux_net.proofs.RunLemmas.{run_joined}
 use Rattle.ux_boxes.proofs.StepsLemmas.{step_inside}
 use Rattle.ux_admission.proofs.UnitsLemmas.{on_inside}

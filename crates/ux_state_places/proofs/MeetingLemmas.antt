@@ -1,25 +1,24 @@
 -- What is noted of links and of the first places of units.
-use Rattle.std.proofs.Common.{arith, ◌≡◌, ◌↔◌, ◌⊎◌, inl, inr, ℕ, zero, suc, ◌+◌, ◌<◌, ◌≤◌, List, [], ◌∷◌, length, refl, sym, ap, subst, ◌∙◌, get_or}
+use Rattle.std.proofs.Common.{arith, ◌≡◌, ◌↔◌, ◌⊎◌, inl, inr, ℕ, zero, suc, ◌+◌, ◌<◌, ◌≤◌, List, [], ◌∷◌, length, sym, ap, subst, ◌∙◌, get_or}
 use Rattle.std.specs.Prelude.{All, Contains}
 use Rattle.std.proofs.lemmas.List.{get_or_default}
 use Rattle.ux_base.proofs.Lists.{less_or}
 use Rattle.ux_digraph.specs.declared.closing.Rule.{Rule}
 use Rattle.ux_digraph.specs.Rules.{AreRulesInside}
 use Rattle.ux_net.specs.declared.label.Label.{Label}
-use Rattle.ux_net.specs.Words.{Sign, Step}
-use Rattle.ux_net.specs.Closers.{OpensInto}
+use Rattle.ux_net.specs.Words.{Step}
 use Rattle.ux_boxes.specs.declared.place.Place.{Place}
 use Rattle.ux_boxes.specs.Fit.{IsFit}
 use Rattle.ux_boxes.specs.Numbers.{number_of, places_before, all_places}
 use Rattle.ux_boxes.specs.Places.{places_of, place_grammar, label_lines, IsPlaceStep}
-use Rattle.ux_boxes.proofs.NumbersLemmas.{places_at, number_below, graph_inside, graph_so_at}
+use Rattle.ux_boxes.proofs.NumbersLemmas.{places_at, number_below, graph_inside}
 use Rattle.ux_boxes.proofs.StepsLemmas.{step_inside, step_line, start_inside}
 use Rattle.ux_admission.specs.declared.uses.Link.{Link}
 use Rattle.ux_admission.specs.Admissible.{IsUnit}
 use Rattle.ux_admission.specs.Gains.{Gains, SoBelow}
 use Rattle.ux_admission.specs.Uses.{AreLinks, IsLink, IsLinkOf, onward, calling, opening, over}
 use Rattle.ux_admission.specs.Ways.{IsOpening}
-use Rattle.ux_admission.proofs.LinkPaths.{closer_inside}
+use Rattle.ux_admission.proofs.WaysExact.{closer_inside}
 use Rattle.ux_admission.proofs.UsesLemmas.{lone_call}
 use Rattle.ux_state_places.specs.Meeting.{AreLinkRules, AreOpenedInto, AreUnitNumbers, HasOpening, IsUnitIn, IsUnitNumber, IsUnitPlace}
 

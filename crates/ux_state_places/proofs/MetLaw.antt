@@ -15,7 +15,7 @@ use Rattle.ux_boxes.proofs.StepsLemmas.{step_inside, step_line, start_inside}
 use Rattle.ux_admission.specs.declared.uses.Link.{Link}
 use Rattle.ux_admission.specs.Admissible.{IsUnit, IsMet}
 use Rattle.ux_admission.specs.Uses.{AreLinks, IsLink, IsLinkOf, onward, calling, opening, over, link_from}
-use Rattle.ux_admission.proofs.LinkPaths.{closer_inside}
+use Rattle.ux_admission.proofs.WaysExact.{closer_inside}
 use Rattle.ux_admission.proofs.UsesLemmas.{lone_call}
 use Rattle.ux_state_places.specs.Meeting.{rule_of_link, AreLinkRules, AreUnitNumbers, AreMetMarks}
 

@@ -2,10 +2,10 @@
 use Rattle.std.proofs.Common.{arith, ◌≡◌, ◌⊎◌, inl, inr, ℕ, zero, suc, ◌<◌, ◌≤◌, List, [], ◌∷◌, length, refl, sym, ap, subst, ◌∙◌, get_or}
 use Rattle.std.specs.Prelude.{All, Contains, Some, slice_get}
 use Rattle.std.proofs.lemmas.List.Elements.{All-nil, All-cons, All-weaker, All-contains_itself}
-use Rattle.std.proofs.lemmas.Option.{slice_get_past, slice_get_within}
+use Rattle.std.proofs.lemmas.Option.{same_Some, slice_get_past, slice_get_within}
 use Rattle.ux_base.proofs.Lists.{less_or}
 use Rattle.ux_net.specs.declared.label.Label.{Label}
-use Rattle.ux_net.specs.declared.label.Label.TheVariants.{Empty, CaseFolded, CaseExact, Mask, Brace, Space, NoSpace, Begin, End, Positive, Negative, ContextEnd, Cut, Call}
+use Rattle.ux_net.specs.declared.label.Label.TheVariants.{Empty, Call}
 use Rattle.ux_net.specs.declared.state.State.{State}
 use Rattle.ux_net.specs.declared.state_graph.StateGraph.{StateGraph}
 use Rattle.ux_net.specs.Closers.{ClosesInto}
@@ -22,9 +22,9 @@ use Rattle.ux_admission.specs.Admission.{row_at}
 use Rattle.ux_admission.specs.Cycles.{AreLoopsMet}
 use Rattle.ux_admission.proofs.FreeLemmas.{free_ordinary}
 use Rattle.ux_state_places.specs.declared.arrival.Arrival.{Arrival}
-use Rattle.ux_state_places.specs.Arrivals.{label_of, arriving, hub_arrival, arrival_at, ArePlacesOf, ArePlaced}
+use Rattle.ux_state_places.specs.Arrivals.{label_of, arriving, hub_arrival, AreArrivals, AreRawPlaces, ArePlacesOf, ArePlaced}
 use Rattle.ux_state_places.specs.Standing.{Stand}
-use Rattle.ux_state_places.proofs.ArrivalLemmas.{arrivals_some, line_arrival, IsStepOf, edge_or_hub, target_inside}
+use Rattle.ux_state_places.proofs.ArrivalLemmas.{arrival_among, arrivals_some, line_arrival, IsStepOf, edge_or_hub, target_inside}
 use Rattle.ux_state_places.proofs.KeptLemmas.{hub_start, state_start, hub_facts, hub_lined, state_inside, steps_are, steps_lift, place_enters, ends_are, finals_are, lines_apart, places_ascend, reached_met, raw_step, step_here, step_why, met_kept, led, reached_inside, kept_len}
 
 -- a run to a place begins there, or a step leads to it
@@ -43,20 +43,8 @@ run_into g graph (across sign s t i m body j n r) = elim (run_into g graph r) [
 -- a call along an edge is one along a step of its kind
 pub called_arriving : (count : ℕ) (x : Label) → IsCalled count x →
     IsCalled count (label_of (arriving x))
-called_arriving count Empty c = tt
-called_arriving count (CaseFolded text) c = tt
-called_arriving count (CaseExact text) c = tt
-called_arriving count (Mask mask) c = tt
-called_arriving count (Brace text) c = tt
-called_arriving count Space c = tt
-called_arriving count NoSpace c = tt
-called_arriving count (Begin name) c = tt
-called_arriving count (End name) c = tt
-called_arriving count Positive c = tt
-called_arriving count Negative c = tt
-called_arriving count ContextEnd c = tt
-called_arriving count Cut c = tt
 called_arriving count (Call h) c = c
+called_arriving count x c = tt
 
 -- a line of one label, whose call is of a graph that is there, is fit
 pub one_fit : (count : ℕ) (x : Label) → IsCalled count x → IsFitLine count (x ∷ [])
@@ -69,8 +57,28 @@ one_fit count x c = record {
   called = All-cons (IsCalled count) x [] c (All-nil (IsCalled count));
 }
 
-same_some : {A : Type 0} (x y : A) → Some x ≡ Some y → x ≡ y
-same_some x y e = cc
+module _ (graphs : List StateGraph) (inside : AreInsideStates graphs) (g : ℕ)
+    (arrivals : List Arrival) (are : AreArrivals (told_states graphs g) arrivals)
+    (raw : List Place) (is : AreRawPlaces (told_states graphs g) arrivals raw) where
+  -- what the kind of a way calls is there
+  arrival_called : (i : ℕ) (x : Arrival) → slice_get arrivals i ≡ Some x →
+      IsCalled (length graphs) (label_of x.kind)
+  arrival_called i x e = elim (are.made i x e) [
+    | inl is_hub ↦
+        subst (λ (y : Arrival). IsCalled (length graphs) (label_of y.kind)) (sym is_hub) tt
+    | inr (n, state, edge, found, has, is_edge) ↦
+        subst (λ (y : Arrival). IsCalled (length graphs) (label_of y.kind)) (sym is_edge)
+        (called_arriving (length graphs) edge.label (inside.edges g n state edge found has).called)
+  ]
+
+  -- so each line of the raw places is fit
+  pub raw_line_fit : (n : ℕ) (line : List Label) → Contains (label_lines raw n) line →
+      IsFitLine (length graphs) line
+  raw_line_fit n line h =
+      let x = line_arrival (told_states graphs g) arrivals are raw is n line h in
+      let among = arrival_among arrivals n x.0 x.1 in
+      subst (IsFitLine (length graphs)) (sym x.2)
+      (one_fit (length graphs) (label_of x.0.kind) (arrival_called among.0 x.0 among.1))
 
 module _ (graphs : List StateGraph) (places raws : List (List Place)) (stands hubs : List (List ℕ))
     (g : ℕ) (of : ArePlacesOf raws g (told_states graphs g) (places_of places g) (row_at stands g)
@@ -90,7 +98,7 @@ module _ (graphs : List StateGraph) (places raws : List (List Place)) (stands hu
   one_line p a b h k =
       let x = line_arrival states of.arrivals of.are raw of.raw p a h in
       let y = line_arrival states of.arrivals of.are raw of.raw p b k in
-      x.2 ∙ (ap (λ (z : Arrival). label_of z.kind ∷ []) (same_some x.0 y.0 (sym x.1 ∙ y.1)) ∙ sym y.2)
+      x.2 ∙ (ap (λ (z : Arrival). label_of z.kind ∷ []) (same_Some x.0 y.0 (sym x.1 ∙ y.1)) ∙ sym y.2)
 
   -- the line of a step, among the raw places
   raw_line : (s : Step) → IsPlaceStep kept s → Contains (label_lines raw s.to) s.labels
@@ -119,7 +127,7 @@ module _ (graphs : List StateGraph) (places raws : List (List Place)) (stands hu
       hub_line line is h =
           let x = line_arrival states of.arrivals of.are raw of.raw s.from line h in
           x.2 ∙ ap (λ (z : Arrival). label_of z.kind ∷ [])
-          (same_some x.0 o.source (sym x.1 ∙ o.from) ∙ is)
+          (same_Some x.0 o.source (sym x.1 ∙ o.from) ∙ is)
 
       by : o.source ≡ hub_arrival o.source.state →
           (b ≡ s.from) ⊎ ((u : Step) × IsPlaceStep kept u × (u.to ≡ s.from)) →
@@ -169,7 +177,7 @@ module _ (graphs : List StateGraph) (places raws : List (List Place)) (stands hu
         let some = some_arrivals in omega (arith, len, some);
     start = of.kept.lines 0 ∙ of.raw.lines 0 (hub_arrival 0) of.are.start;
     lines = λ n. All-weaker (Contains (label_lines kept n)) (IsFitLine (length graphs))
-        (λ line h. fit_line n line
+        (λ line h. raw_line_fit graphs inside g of.arrivals of.are raw of.raw n line
         (subst (λ (l : List (List Label)). Contains l line) (of.kept.lines n) h))
         (label_lines kept n) (All-contains_itself (label_lines kept n));
     inside = λ a b h.
@@ -180,33 +188,6 @@ module _ (graphs : List StateGraph) (places raws : List (List Place)) (stands hu
     where
       some_arrivals : 0 < length of.arrivals
       some_arrivals = arrivals_some states of.arrivals of.are raw of.raw
-
-      called : (x : Arrival) → (p : ℕ) → arrival_at of.arrivals p ≡ Some x →
-          IsCalled (length graphs) (label_of x.kind)
-      called x p at = by (made_at of.arrivals p x at)
-        where
-          made_at : (arrivals : List Arrival) (p : ℕ) (x : Arrival) →
-              arrival_at arrivals p ≡ Some x → (i : ℕ) × (slice_get arrivals i ≡ Some x)
-          made_at arrivals zero x e = (0, e)
-          made_at arrivals (suc zero) x e = absurd cc
-          made_at arrivals (suc (suc n)) x e = (suc n, e)
-
-          by : (i : ℕ) × (slice_get of.arrivals i ≡ Some x) →
-              IsCalled (length graphs) (label_of x.kind)
-          by (i, e) = elim (of.are.made i x e) [
-            | inl is ↦ subst (λ (y : Arrival). IsCalled (length graphs) (label_of y.kind)) (sym is) tt
-            | inr (n, state, edge, found, has, is) ↦
-                subst (λ (y : Arrival). IsCalled (length graphs) (label_of y.kind)) (sym is)
-                (called_arriving (length graphs) edge.label
-                (inside.edges g n state edge found has).called)
-          ]
-
-      fit_line : (n : ℕ) (line : List Label) → Contains (label_lines raw n) line →
-          IsFitLine (length graphs) line
-      fit_line n line h =
-          let x = line_arrival states of.arrivals of.are raw of.raw n line h in
-          subst (IsFitLine (length graphs)) (sym x.2)
-          (one_fit (length graphs) (label_of x.0.kind) (called x.0 n x.1))
 
 -- a graph of this number is there, or it has no states, places and rows
 record IsAbsent (graphs : List StateGraph) (places : List (List Place))

@@ -5,13 +5,11 @@ use Rattle.std.proofs.lemmas.List.Elements.{All-weaker, All-contains_itself}
 use Rattle.std.proofs.lemmas.List.{length_push, get_or_append_left, get_or_default, get_or_push, get_or-take, get_or-drop}
 use Rattle.std.proofs.lemmas.Option.{slice_get_read, slice_get_within}
 use Rattle.ux_base.proofs.Lists.{less_or}
-use Rattle.ux_net.specs.declared.label.Label.{Label}
 use Rattle.ux_net.specs.declared.label.Label.TheVariants.{Empty}
 use Rattle.ux_net.specs.declared.state.Edge.{Edge}
 use Rattle.ux_net.specs.declared.state.State.{State}
 use Rattle.ux_net.specs.declared.state_graph.StateGraph.{StateGraph}
 use Rattle.ux_net.specs.Closers.{OpensInto}
-use Rattle.ux_net.specs.Nets.{IsCalled}
 use Rattle.ux_net.specs.StateGraphs.{told_at, told_states, AreInsideStates}
 use Rattle.ux_net.specs.Words.{ordinary, opens, mark_of}
 use Rattle.ux_boxes.specs.declared.place.Place.{Place}
@@ -26,8 +24,8 @@ use Rattle.ux_state_places.specs.declared.arrival.Arrival.{Arrival}
 use Rattle.ux_state_places.specs.Arrivals.{label_of, hub_arrival, edge_arrival, arrival_at, HaveInsideTargets, AreKept, ArePlaced}
 use Rattle.ux_state_places.specs.Meeting.{AreMetMarks, AreOpenedInto}
 use Rattle.ux_state_places.specs.Placing.{AreRawRows, AreRawTo, marks_of, AreKeptRows}
-use Rattle.ux_state_places.proofs.ArrivalLemmas.{arrival_place, place_once, arrivals_some, line_arrival, way_place, edge_leads, target_inside}
-use Rattle.ux_state_places.proofs.PlacedLaw.{called_arriving, one_fit}
+use Rattle.ux_state_places.proofs.ArrivalLemmas.{arrival_place, arrival_among, place_once, arrivals_some, line_arrival, way_place, edge_leads, target_inside}
+use Rattle.ux_state_places.proofs.PlacedLaw.{raw_line_fit}
 
 -- the places of a graph stay where those of one more graph are pushed
 pub places_stay : (rows : List (List Place)) (row : List Place) (k : ℕ) → k < length rows →
@@ -198,7 +196,8 @@ module _ (graphs : List StateGraph) (raws : List (List Place)) (stands hubs : Li
     two = let len = rows.raw.len in let some = some_arrivals in omega (arith, len, some);
     start = rows.raw.lines 0 (hub_arrival 0) rows.are.start;
     lines = λ n. All-weaker (Contains (label_lines raw n)) (IsFitLine (length graphs))
-        (λ line h. fit_line n line h) (label_lines raw n)
+        (λ line h. raw_line_fit graphs inside g rows.arrivals rows.are raw rows.raw n line h)
+        (label_lines raw n)
         (All-contains_itself (label_lines raw n));
     inside = λ a b h. target_inside states rows.arrivals rows.are raw rows.raw a b h;
   }
@@ -214,30 +213,6 @@ module _ (graphs : List StateGraph) (raws : List (List Place)) (stands hubs : Li
 
       some_arrivals : 0 < length rows.arrivals
       some_arrivals = arrivals_some states rows.arrivals rows.are raw rows.raw
-
-      made_at : (arrivals : List Arrival) (p : ℕ) (x : Arrival) →
-          arrival_at arrivals p ≡ Some x → (i : ℕ) × (slice_get arrivals i ≡ Some x)
-      made_at arrivals zero x e = (0, e)
-      made_at arrivals (suc zero) x e = absurd cc
-      made_at arrivals (suc (suc n)) x e = (suc n, e)
-
-      called : (x : Arrival) → (i : ℕ) × (slice_get rows.arrivals i ≡ Some x) →
-          IsCalled (length graphs) (label_of x.kind)
-      called x (i, e) = elim (rows.are.made i x e) [
-        | inl is ↦ subst (λ (y : Arrival). IsCalled (length graphs) (label_of y.kind)) (sym is) tt
-        | inr (n, state, edge, found, has, is) ↦
-            subst (λ (y : Arrival). IsCalled (length graphs) (label_of y.kind)) (sym is)
-            (called_arriving (length graphs) edge.label
-            (inside.edges g n state edge found has).called)
-      ]
-
-      fit_line : (n : ℕ) (line : List Label) → Contains (label_lines raw n) line →
-          IsFitLine (length graphs) line
-      fit_line n line h =
-          let x = line_arrival states rows.arrivals rows.are raw rows.raw n line h in
-          subst (IsFitLine (length graphs)) (sym x.2)
-          (one_fit (length graphs) (label_of x.0.kind)
-          (called x.0 (made_at rows.arrivals n x.0 x.1)))
 
   -- the raw places are fit
   pub raw_fit : AreInsideStates graphs → All (IsFit (length raws)) raws
@@ -267,19 +242,13 @@ module _ (graphs : List StateGraph) (raws : List (List Place)) (stands hubs : Li
       raw = places_of raws g
 
       into : 1 ≤ g → g ≤ length graphs → OpensInto (place_grammar raws) g sign p
-      into from to = by (made_at rows.arrivals p x.0 x.1)
+      into from to = by (arrival_among rows.arrivals p x.0 x.1)
         where
           rows : AreRawRows states raw (row_at stands g) (row_at hubs g)
           rows = are.each g from to
 
           x : (x : Arrival) × (arrival_at rows.arrivals p ≡ Some x) × (line ≡ label_of x.kind ∷ [])
           x = line_arrival states rows.arrivals rows.are raw rows.raw p line has
-
-          made_at : (arrivals : List Arrival) (p : ℕ) (x : Arrival) →
-              arrival_at arrivals p ≡ Some x → (i : ℕ) × (slice_get arrivals i ≡ Some x)
-          made_at arrivals zero x e = (0, e)
-          made_at arrivals (suc zero) x e = absurd cc
-          made_at arrivals (suc (suc n)) x e = (suc n, e)
 
           from_hub : (n : ℕ) (state : State) (edge : Edge) → slice_get states n ≡ Some state →
               Contains state.edges edge → x.0 ≡ edge_arrival edge →

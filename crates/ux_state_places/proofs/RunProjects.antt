@@ -13,9 +13,10 @@ use Rattle.ux_boxes.specs.declared.place.Place.{Place}
 use Rattle.ux_boxes.specs.Places.{places_of, place_graph, place_grammar, label_lines, is_reached, IsPlaceStep}
 use Rattle.ux_net.proofs.RunLemmas.{run_joined}
 use Rattle.ux_boxes.proofs.StepsLemmas.{step_inside}
+use Rattle.ux_net.proofs.LabelLaws.{closing_label}
 use Rattle.ux_state_places.specs.Kinds.{kind_of}
 use Rattle.ux_state_places.specs.Standing.{Stand}
-use Rattle.ux_state_places.proofs.KindLemmas.{over, closing_kind}
+use Rattle.ux_state_places.proofs.KindLemmas.{over}
 use Rattle.ux_state_places.proofs.RunLifts.{hub, state, Same, ToHub, IsMetState, put_nothing, from_inside, same_mark, lifted, run_lifts, line_kinds}
 use Rattle.ux_state_places.proofs.WordKinds.{AreKinds, no_letters, kept, kinds_append, kinds_pieces}
 
@@ -173,7 +174,7 @@ module _ (graphs : List StateGraph) (places : List (List Place)) (stands hubs : 
       let mark : mark_of x.0.labels ≡ closes =
       sym (same_mark graphs places stands hubs stand g body.step x.0 x.1) ∙ body.closed in
       let label = x.1.of_states.label in
-      let is = closing_kind x.1.of_states.edge.label (ap mark_of (sym label) ∙ mark) in
+      let is = closing_label x.1.of_states.edge.label (ap mark_of (sym label) ∙ mark) in
       let line : body.step.labels ≡ ContextEnd ∷ [] =
       x.1.kind ∙ (ap (λ (l : List Label). map kind_of l) label
       ∙ ap (λ (l : Label). kind_of l ∷ []) is) in

@@ -6,7 +6,7 @@ use Rattle.ux_net.specs.declared.label.Label.{Label}
 use Rattle.ux_net.specs.declared.label.Label.TheVariants.{Empty, CaseFolded, CaseExact, Mask, Brace, Space, NoSpace, Begin, End, Positive, Negative, ContextEnd, Cut, Call}
 use Rattle.ux_net.specs.Silent.{is_silent}
 use Rattle.ux_net.specs.Words.{Grammar, Letter, plain, piece, context, ordinary, mark_of, letters, IsWord}
-use Rattle.ux_admission.specs.Admissible.{IsSilent, IsFree, none, silent, call}
+use Rattle.ux_net.specs.Nullable.{IsSilent, IsFree, none, silent, call}
 use Rattle.ux_admission.proofs.FreeLemmas.{free_append}
 use Rattle.ux_state_places.specs.Kinds.{kind_of}
 use Rattle.ux_state_places.proofs.KindLemmas.{IsKept, token, calling, over, silent_kind}

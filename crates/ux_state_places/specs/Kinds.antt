@@ -1,5 +1,5 @@
 -- What a place tells of a label: what it does to contexts, what it calls, and whether it takes a
--- token. Public: the crate's public contracts speak of it.
+-- token. Public, through `Standing`.
 use Rattle.ux_net.specs.declared.label.Label.{Label}
 use Rattle.ux_net.specs.declared.label.Label.TheVariants.{Empty, CaseFolded, CaseExact, Mask, Brace, Space, NoSpace, Begin, End, Positive, Negative, ContextEnd, Cut, Call}
 

@@ -22,8 +22,7 @@ use ux_admission::{
     Admission, AdmissionError, LevelsError, admit, closers_of, first_bad_context, levels_of,
 };
 use ux_base::{Lst, Mem, Txt};
-use ux_boxes::NetError;
-use ux_boxes::offsets::offsets_of;
+use ux_boxes::{NetError, offsets_of};
 use ux_net::StateGraph;
 
 /// What was found of the places of graphs that are admitted.

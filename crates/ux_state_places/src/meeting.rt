@@ -14,8 +14,7 @@ ghost use Rattle.ux_state_places.specs.Meeting.{AreLinkRules, AreMetMarks, AreOp
 use std::alloc::{AllocError, Global};
 use ux_admission::{Link, closers_of, is_opening, links_of};
 use ux_base::{Lst, Mem};
-use ux_boxes::Place;
-use ux_boxes::offsets::{count_of, offsets_of};
+use ux_boxes::{Place, count_of, offsets_of};
 use ux_digraph::{Rule, closure};
 use ux_net::Label;
 

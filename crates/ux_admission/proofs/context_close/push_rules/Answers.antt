@@ -3,8 +3,8 @@ use Rattle.std.proofs.lemmas.List.{get_or_default}
 use Rattle.ux_digraph.specs.Paths.{row_of}
 use Rattle.ux_admission.specs.BadContexts.{IsStepRule, IsJumpRule}
 use Rattle.ux_admission.specs.Gains.{Gains}
-use Rattle.ux_admission.proofs.EndMarksLemmas.{gains_both, next_rules}
-use Rattle.ux_admission.proofs.GainsLemmas.{gains_next, gains_done}
+use Rattle.ux_admission.proofs.EndMarksLemmas.{next_rules}
+use Rattle.ux_admission.proofs.GainsLemmas.{gains_then, gains_next, gains_done}
 use Rattle.ux_admission.proofs.context_close.push_rules.Goals as goal
 
 pub loop-n-preserved : goal.loop-n-preserved
@@ -19,7 +19,7 @@ loop-n-preserved c =
     (omega (arith, len, test))) in
     gains_next c.args.rules.now.items c.loop-n.rules.items c.push_jumps.new.rules.items n
     (λ m r. IsStepRule leading m r ⊎ IsJumpRule leading (row_of rows m) m r) c.loop-n.invariant
-    (gains_both c.loop-n.rules.items c.push_steps.new.rules.items c.push_jumps.new.rules.items
+    (gains_then c.loop-n.rules.items c.push_steps.new.rules.items c.push_jumps.new.rules.items
     (IsStepRule leading n) (IsJumpRule leading (row_of rows n) n) c.in_ok-push_steps.ensures
     (subst (λ (r : List ℕ). Gains c.push_steps.new.rules.items c.push_jumps.new.rules.items
     (IsJumpRule leading r n)) row c.in_ok-push_jumps.ensures))

@@ -3,8 +3,8 @@ use Rattle.std.proofs.lemmas.List.{get_or_default}
 use Rattle.ux_admission.specs.declared.uses.Link.{Link}
 use Rattle.ux_admission.specs.Gains.{SoOfOne}
 use Rattle.ux_admission.specs.Uses.{IsJump}
-use Rattle.ux_admission.proofs.UsesLemmas.{gains_own, gains_both}
-use Rattle.ux_admission.proofs.GainsLemmas.{gains_item, gains_items}
+use Rattle.ux_admission.proofs.UsesLemmas.{gains_own}
+use Rattle.ux_admission.proofs.GainsLemmas.{gains_then, gains_item, gains_items}
 use Rattle.ux_admission.proofs.uses.push_context.Goals as goal
 
 pub loop-place-preserved : goal.loop-place-preserved
@@ -22,7 +22,7 @@ loop-place-preserved c =
 pub returns : goal.returns
 returns c =
     let opening : Link = record c.args.step { is_negative = c.args.is_negative } in
-    gains_both c.args.links.now.items (c.args.links.now.items ++ opening ∷ [])
+    gains_then c.args.links.now.items (c.args.links.now.items ++ opening ∷ [])
     c.loop-place.links.items (λ link. opening ≡ link)
     (SoOfOne c.args.closed.now (IsJump c.args.base c.args.step))
     (gains_own c.args.links.now.items (c.args.links.now.items ++ opening ∷ []) opening refl)

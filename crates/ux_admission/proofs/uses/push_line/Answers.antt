@@ -9,15 +9,15 @@ returns-in-Ordinary c =
     c.push_step.new.links.items (IsLineLink c.args.offsets.now c.args.base c.args.step
     c.args.line.now c.args.closed.now mark))) (sym c.in-Ordinary.ensures) c.push_step.ensures
 
-pub returns-in-Holds : goal.returns-in-Holds
-returns-in-Holds c =
+pub returns-in-Positive : goal.returns-in-Positive
+returns-in-Positive c =
     subst (λ mark. OnOk c.push_context.result (Gains c.args.links.now.items
     c.push_context.new.links.items (IsLineLink c.args.offsets.now c.args.base c.args.step
-    c.args.line.now c.args.closed.now mark))) (sym c.in-Holds.ensures) c.push_context.ensures
+    c.args.line.now c.args.closed.now mark))) (sym c.in-Positive.ensures) c.push_context.ensures
 
-pub returns-in-Refuses : goal.returns-in-Refuses
-returns-in-Refuses c =
-    subst (λ mark. OnOk c.push_context-in-Refuses.result (Gains c.args.links.now.items
-    c.push_context-in-Refuses.new.links.items (IsLineLink c.args.offsets.now c.args.base
-    c.args.step c.args.line.now c.args.closed.now mark))) (sym c.in-Refuses.ensures)
-    c.push_context-in-Refuses.ensures
+pub returns-in-Negative : goal.returns-in-Negative
+returns-in-Negative c =
+    subst (λ mark. OnOk c.push_context-in-Negative.result (Gains c.args.links.now.items
+    c.push_context-in-Negative.new.links.items (IsLineLink c.args.offsets.now c.args.base
+    c.args.step c.args.line.now c.args.closed.now mark))) (sym c.in-Negative.ensures)
+    c.push_context-in-Negative.ensures

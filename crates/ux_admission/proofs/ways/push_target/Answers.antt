@@ -40,14 +40,14 @@ push_line-requires c =
           (omega (arith, len, below)));
       target = omega arith;
       room = row_room c.args.graphs.now c.args.offsets.now c.requires.offsets c.args.graph
-          c.args.target c.row_of-row.result.now c.requires.from c.requires.to
+          c.args.target c.row_at-row.result.now c.requires.from c.requires.to
           (get_or c.args.offsets.now (c.args.graph - 1) 0 + c.args.target - c.args.target)
           (omega arith)
           (row_at c.args.graphs.now c.args.closers.now c.requires.closers c.args.graph c.args.target
-          (get_or c.args.offsets.now (c.args.graph - 1) 0 + c.args.target) c.row_of-row.result.now
+          (get_or c.args.offsets.now (c.args.graph - 1) 0 + c.args.target) c.row_at-row.result.now
           c.requires.target
           (number_at c.args.graphs.now c.args.offsets.now c.requires.offsets c.args.graph
-          c.args.target c.requires.from c.requires.to) c.row_of-row.ensures);
+          c.args.target c.requires.from c.requires.to) c.row_at-row.ensures);
     }
 
 pub loop-line-preserved : goal.loop-line-preserved
@@ -71,10 +71,10 @@ loop-line-preserved c =
     (number_at c.args.graphs.now c.args.offsets.now c.requires.offsets c.args.graph
     c.args.target c.requires.from c.requires.to)
     (row_at c.args.graphs.now c.args.closers.now c.requires.closers c.args.graph c.args.target
-    (get_or c.args.offsets.now (c.args.graph - 1) 0 + c.args.target) c.row_of-row.result.now
+    (get_or c.args.offsets.now (c.args.graph - 1) 0 + c.args.target) c.row_at-row.result.now
     c.requires.target
     (number_at c.args.graphs.now c.args.offsets.now c.requires.offsets c.args.graph
-    c.args.target c.requires.from c.requires.to) c.row_of-row.ensures)))
+    c.args.target c.requires.from c.requires.to) c.row_at-row.ensures)))
 
 pub returns : goal.returns
 returns c =

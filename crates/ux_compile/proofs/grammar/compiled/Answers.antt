@@ -4,7 +4,7 @@ use Rattle.std.proofs.lemmas.Result.{IfErr-weaker, IfOk-weaker, on_ok_weaker}
 use Rattle.ux_boxes.specs.Boxes.{Drawn, names_of}
 use Rattle.ux_compile.specs.Compiling.{AreTested, IsBuiltOf, RefusesNet}
 use Rattle.ux_boxes.specs.Refusing.{drawn, drawn_of}
-use Rattle.ux_compile.proofs.TestedLaw.{handed, tested_fit, tested_reached, tested_few, tested_are_fit, tested_count, tested_compilable, tested_constructed, tested_same, tested_sound, tested_refused}
+use Rattle.ux_compile.proofs.TestedLaw.{handed, tested_fit, tested_reached, tested_few, tested_are_fit, tested_count, tested_compilable, tested_constructed, tested_same, tested_sound, tested_admitted, tested_refused}
 use Rattle.ux_boxes.proofs.RefusingLemmas.{Given}
 use Rattle.ux_compile.proofs.grammar.compiled.Goals as goal
 
@@ -128,6 +128,22 @@ returns-clause-sound c =
     ∙ ap (λ (l : List Given). names_of (drawn l)) c.deref-2.ensures.value) in
     IfOk-weaker c.net_of.result _ _ (λ net of.
     tested_sound c.args.alphabet.now c.args.graphs.items c.requires.well_formed
+    c.requires.small c.requires.distinct c.deref-4.result.now tested net.items
+    (subst (λ (l : List (List ℕ)). IsBuiltOf l c.deref-4.result.now net.items) names of)
+    c.requires.some c.requires.few) c.net_of.ensures.built
+
+pub returns-clause-admitted : goal.returns-clause-admitted
+returns-clause-admitted c =
+    let tested : AreTested c.args.alphabet.now (drawn c.args.graphs.items) c.deref-4.result.now =
+    handed c.args.alphabet.now c.deref.result.now c.args.graphs.items
+    c.in_ok-places.places.items c.deref-4.result.now c.deref.ensures.value
+    c.deref-4.ensures.value c.in_ok-places.ensures.ok in
+    let names : map string_bytes c.deref-3.result.now ≡ names_of (drawn c.args.graphs.items) =
+    ap (λ (l : List (String Global)). map string_bytes l) c.deref-3.ensures.value
+    ∙ (c.in_ok-names.ensures
+    ∙ ap (λ (l : List Given). names_of (drawn l)) c.deref-2.ensures.value) in
+    IfOk-weaker c.net_of.result _ _ (λ net of.
+    tested_admitted c.args.alphabet.now c.args.graphs.items c.requires.well_formed
     c.requires.small c.requires.distinct c.deref-4.result.now tested net.items
     (subst (λ (l : List (List ℕ)). IsBuiltOf l c.deref-4.result.now net.items) names of)
     c.requires.some c.requires.few) c.net_of.ensures.built
