@@ -28,6 +28,7 @@ use Rattle.ux_chart.specs.Rows.{IsAnswer, IsWholeRow}
 use Rattle.ux_chart.specs.Tables.{HasAnswer, NoneEndsFrom, Tells}
 use Rattle.ux_chart.proofs.Rising.{rises}
 
+-- positions are alike in both orders
 turned : (input : Input) (i k : ℕ) → AreAlike input i k → AreAlike input k i
 turned input i k alike = λ x unspaced j. ((alike x unspaced j).1, (alike x unspaced j).0)
 
@@ -38,16 +39,19 @@ Unspaced (plain x ∷ word) = IsUnspaced x × Unspaced word
 Unspaced (piece part ∷ word) = Unspaced word
 Unspaced (context sign g opening closing ∷ word) = Unspaced word
 
+-- outputs ask for no space
 unspaced_put : (ps : List Piece) (word : List Letter) → Unspaced word →
     Unspaced (map piece ps ++ word)
 unspaced_put [] word u = u
 unspaced_put (p ∷ ps) word u = unspaced_put ps word u
 
+-- nor does a label that asks for none
 unspaced_label : (x : Label) (word : List Letter) → IsUnspaced x → Unspaced word →
     Unspaced (letters (x ∷ []) ++ word)
 unspaced_label label.Empty word unspaced u = u
 unspaced_label x word unspaced u = (unspaced, u)
 
+-- nor does what follows
 unspaced_rest : (x : Letter) (word : List Letter) → Unspaced (x ∷ word) → Unspaced word
 unspaced_rest (plain x) word u = u.1
 unspaced_rest (piece part) word u = u

@@ -2,7 +2,7 @@
 use Rattle.std.proofs.Common.{◌≡◌, ℕ, List, ◌++◌, ◌⊎◌, ◌↔◌, inl, inr, sym, subst}
 use Rattle.std.specs.Prelude.{Contains, map}
 use Rattle.std.proofs.lemmas.List.Elements.{Contains-append_left, Contains-append_right, Contains-append_cases}
-use Rattle.ux_parts.proofs.Mapped.{contains_map, contained_map}
+use Rattle.ux_base.proofs.JoinedLists.{contains_mapped, contained_mapped}
 use Rattle.ux_chart.specs.declared.config.Config.{Config}
 
 -- a list with a mapped list behind has what the relation tells besides
@@ -15,13 +15,13 @@ added f P old new xs is each only w = (
   λ h. elim (Contains-append_cases old (map f xs) w
       (subst (λ (l : List Config). Contains l w) is h)) [
         | inl o ↦ inl o
-        | inr m ↦ let r = contained_map f xs w m in
+        | inr m ↦ let r = contained_mapped f xs w m in
             inr (subst (λ (v : Config). P v.state v.at) r.2 (each r.0 r.1))
       ],
   λ h. subst (λ (l : List Config). Contains l w) (sym is) (elim h [
     | inl o ↦ Contains-append_left old (map f xs) w o
     | inr p ↦ let r = only w p in
         Contains-append_right old (map f xs) w
-        (subst (λ (v : Config). Contains (map f xs) v) r.2 (contains_map f xs r.0 r.1))
+        (subst (λ (v : Config). Contains (map f xs) v) r.2 (contains_mapped f xs r.0 r.1))
   ]),
 )

@@ -4,13 +4,14 @@ use Rattle.std.specs.Prelude.{Contains, map}
 use Rattle.ux_net.specs.declared.label.Label.{Label}
 use Rattle.ux_net.specs.declared.label.Label.TheVariants as label
 use Rattle.ux_net.specs.declared.net_graph.NetGraph.{NetGraph}
-use Rattle.ux_net.specs.Words.{IsBody}
+use Rattle.ux_net.specs.Closers.{ClosesInto}
+use Rattle.ux_net.specs.Words.{Letter, IsBody}
 use Rattle.ux_net.specs.Nets.{net_grammar}
 use Rattle.ux_base.proofs.Lists.{nothing_in, first_or_later, contains_first}
 use Rattle.ux_meaning.specs.Inputs.{Input}
 use Rattle.ux_meaning.proofs.Levels.{refuses_iff}
 use Rattle.ux_parts.specs.declared.parts.Parts.{Parts}
-use Rattle.ux_parts.specs.Parts.{IsClosedInto, ArePartsOf}
+use Rattle.ux_parts.specs.Parts.{TellsClosing, ArePartsOf}
 use Rattle.ux_parts.specs.Runs.{Plain, NextBy, Ends, Closes, IsRefused}
 use Rattle.ux_parts.specs.Ordered.{GoesAhead}
 use Rattle.ux_parts.proofs.Running.{closes_of_body, body_of_closes}
@@ -34,11 +35,18 @@ from_none P old new ks none same told k = (
 module _ (input : Input) (last : ℕ) (ahead : GoesAhead input last) (net : List NetGraph)
     (parts : Parts) (are : ArePartsOf net parts) (g to i : ℕ) where
   -- a negative context goes on at its closing state, where nothing closes it
-  pub refused_here : (closing : List ℕ) → IsClosedInto net g to closing → (js cs : List ℕ) →
+  pub refused_here : (closing : List ℕ) → TellsClosing net g to closing → (js cs : List ℕ) →
       IsAnswer input net parts g to i js cs → (c : ℕ) →
       Contains (refused_in closing cs) c ↔ IsRefused input (net_grammar net) parts.levels g to i c
   refused_here closing closed js cs answer c = by cs answer.closers
     where
+      into : ClosesInto (net_grammar net) g to closed.target
+      into = closed.closed.into
+
+      only : (b : ℕ) (word : List Letter) → IsBody g ((net_grammar net).graph g) to b word →
+          b ≡ closed.target
+      only b word body = closed.closed.only b (word, body)
+
       by : (cs : List ℕ) → ((c : ℕ) →
           Contains cs c ↔ Closes input (net_grammar net) parts.levels g to i c) →
           Contains (refused_in closing cs) c
@@ -47,8 +55,8 @@ module _ (input : Input) (last : ℕ) (ahead : GoesAhead input last) (net : List
         λ h. elim (first_or_later closed.target [] c
             (subst (λ l. Contains l c) closed.told h)) [
               | inl e ↦ record {
-                word = closed.word;
-                body = subst (λ p. IsBody g ((net_grammar net).graph g) to p closed.word) e closed.body;
+                word = into.0;
+                body = subst (λ p. IsBody g ((net_grammar net).graph g) to p into.0) e into.1;
                 refused = (refuses_iff input (net_grammar net) are.level parts.levels are.levels g to c
                     i).1 (λ w k es body s. nothing_in ((told c).1
                     (closes_of_body input last ahead (net_grammar net) (single net) parts.levels g to c
@@ -57,7 +65,7 @@ module _ (input : Input) (last : ℕ) (ahead : GoesAhead input last) (net : List
               | inr n ↦ absurd (nothing_in n)
             ],
         λ r. subst (λ l. Contains l c) (sym closed.told)
-            (subst (λ p. Contains (closed.target ∷ []) p) (sym (closed.only c r.word r.body))
+            (subst (λ p. Contains (closed.target ∷ []) p) (sym (only c r.word r.body))
             (contains_first closed.target [])),
       )
       by (x ∷ xs) told = (
@@ -66,7 +74,7 @@ module _ (input : Input) (last : ℕ) (ahead : GoesAhead input last) (net : List
             let h = (told x).0 (contains_first x xs) in
             let body = body_of_closes input last ahead (net_grammar net) (single net) parts.levels
             g to x i h in
-            let same : x ≡ c = closed.only x h.from.word body ∙ sym (closed.only c r.word r.body) in
+            let same : x ≡ c = only x h.from.word body ∙ sym (only c r.word r.body) in
             absurd ((refuses_iff input (net_grammar net) are.level parts.levels are.levels g to c
             i).0 r.refused h.from.word h.at h.from.events
             (subst (λ p. IsBody g ((net_grammar net).graph g) to p h.from.word) same body)
@@ -116,7 +124,7 @@ module _ (input : Input) (last : ℕ) (ahead : GoesAhead input last) (net : List
         )))
 
     pub followed_negative : (x : Label) → x ≡ label.Negative → (closing : List ℕ) →
-        IsClosedInto net g to closing → (js cs : List ℕ) →
+        TellsClosing net g to closing → (js cs : List ℕ) →
         IsAnswer input net parts g to i js cs → (into : List ℕ) → into ≡ refused_in closing cs →
         new ≡ old ++ map (λ a. record { state = a; at = i }) into → IsFollowed x
     followed_negative x named closing closed js cs answer into told is =

@@ -15,7 +15,7 @@ use Rattle.ux_base.proofs.Lists.{nothing_in}
 use Rattle.ux_meaning.specs.Inputs.{Input}
 use Rattle.ux_parts.specs.declared.parts.Parts.{Parts}
 use Rattle.ux_parts.specs.Runs.{From, Ends, Closes}
-use Rattle.ux_parts.proofs.Marked.{is_closer}
+use Rattle.ux_net.proofs.LabelLaws.{closing_label}
 use Rattle.ux_chart.specs.declared.config.Config.{Config}
 use Rattle.ux_chart.specs.Rows.{IsAnswer}
 use Rattle.ux_chart.specs.Search.{IsReached, EndsAt, ClosesInto}
@@ -114,7 +114,7 @@ module _ (input : Input) (net : List NetGraph) (parts : Parts) (g first at : ℕ
             found = s.found;
             edge = s.edge;
             inside = s.inside;
-            label = is_closer s.edge.label (ap mark_of (sym s.label) ∙ h.closed);
+            label = closing_label s.edge.label (ap mark_of (sym s.label) ∙ h.closed);
             to = sym s.to ∙ h.after;
           },
         ),

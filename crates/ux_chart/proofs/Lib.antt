@@ -13,7 +13,6 @@ pub mod Rising
 pub mod Growing
 pub mod FillingLemmas
 pub mod Telling
-pub mod EmptyTextLemmas
 pub mod AlikeLemmas
 pub mod SharingLemmas
 pub mod FirstEnds

@@ -22,7 +22,8 @@ use Rattle.ux_parts.proofs.Running.{from_here, from_step, whole}
 use Rattle.ux_parts.proofs.Ahead.{step_lies}
 use Rattle.ux_chart.specs.declared.config.Config.{Config}
 use Rattle.ux_chart.specs.Search.{GoesTo, IsReached, IsReady, Adds, targets_of, states_near}
-use Rattle.ux_parts.proofs.Mapped.{contains_at, contains_map}
+use Rattle.ux_base.proofs.FirstsLemmas.{Contains-from_place}
+use Rattle.ux_base.proofs.JoinedLists.{contains_mapped}
 use Rattle.ux_chart.proofs.Entering.{single, step_of, is_step, IsEdge}
 use Rattle.ux_chart.proofs.Searching.{kept_contained}
 
@@ -113,8 +114,8 @@ module _ (input : Input) (last : ℕ) (ahead : GoesAhead input last) (net : List
   edge_near from edge inside =
       contains_later first (flat_map targets_of (states_of net g)) edge.target
       (contains_joined targets_of (states_of net g) inside.0 edge.target
-      (contains_at (states_of net g) from inside.0 inside.1)
-      (contains_map (λ (e : Edge). e.target) inside.0.edges edge inside.2))
+      (Contains-from_place (states_of net g) from inside.0 inside.1)
+      (contains_mapped (λ (e : Edge). e.target) inside.0.edges edge inside.2))
 
   step_near : (s : Step) → IsNetStep (states_of net g) s → (b : ℕ) → s.to ≡ b →
       Contains (states_near (states_of net g) first) b
@@ -176,7 +177,7 @@ module _ (input : Input) (last : ℕ) (ahead : GoesAhead input last) (net : List
       Adds seen found new → IsReaching input net parts g first last at number seen next →
       IsReaching input net parts g first last at number new (next + 1)
   goes_on seen found new next v here told a r =
-      let has : Contains seen v = contains_at seen next v here in
+      let has : Contains seen v = Contains-from_place seen next v here in
       record {
         start = kept_contained seen new found a _ r.start;
         sound = λ w h. elim (a.only w h) [

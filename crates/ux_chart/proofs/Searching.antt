@@ -1,5 +1,5 @@
 -- A list that grows at its end by what is new.
-use Rattle.std.proofs.Common.{◌≡◌, ℕ, zero, suc, ◌+◌, ◌<◌, ◌≤◌, List, [], ◌∷◌, ◌++◌, ◌↔◌, ◌⊎◌, inl, inr, refl, sym, ap, subst, ◌∙◌, length, take, get_or, Bool, true, false, cond}
+use Rattle.std.proofs.Common.{◌≡◌, ℕ, ◌+◌, ◌<◌, ◌≤◌, List, [], ◌∷◌, ◌++◌, ◌↔◌, ◌⊎◌, inl, inr, refl, sym, ap, subst, ◌∙◌, length, take, get_or, Bool, true, false, cond}
 use Rattle.std.specs.Prelude.{Contains, IfSome, None, Option, Some, slice_get}
 use Rattle.std.specs.Cmp.{IsEquivalence}
 use Rattle.std.specs.List.{list_any, IsDistinct}
@@ -21,7 +21,8 @@ use Rattle.ux_chart.specs.Search.{GoesTo, Adds}
 use Rattle.ux_chart.specs.Places.{AreEnough, Follows, Refuses, SomeFollows, SomeFollowsAt}
 use Rattle.ux_net.specs.declared.label.Label.{Label}
 use Rattle.ux_net.specs.declared.label.Label.TheVariants as label
-use Rattle.ux_parts.proofs.Mapped.{contains_at}
+use Rattle.ux_base.proofs.DistinctLemmas.{slice_get-append}
+use Rattle.ux_base.proofs.FirstsLemmas.{Contains-from_place}
 
 -- what is so of a value that is there
 pub at_some : {A : Type 0} (o : Option A) (x : A) (P : A → Type 0) → o ≡ Some x → IfSome o P → P x
@@ -79,7 +80,7 @@ module _ (input : Input) (net : List NetGraph) (levels g : ℕ) (v : Config) (st
     λ h. elim ((all w).0 h) [
       | inl n ↦ absurd (nothing_in (subst (λ (l : List Config). Contains l w) none n))
       | inr (place, listed, over) ↦
-          goes over.0 (contains_at edges place over.0 over.1) w over.2
+          goes over.0 (Contains-from_place edges place over.0 over.1) w over.2
     ],
     λ t.
         let inside = goes_over w t in
@@ -92,12 +93,6 @@ module _ (input : Input) (net : List NetGraph) (levels g : ℕ) (v : Config) (st
               t.leads)
         ],
   )
-
-slice_get-append : {A : Type 0} (xs ys : List A) (i : ℕ) (x : A) → slice_get xs i ≡ Some x →
-    slice_get (xs ++ ys) i ≡ Some x
-slice_get-append [] ys i x h = cc
-slice_get-append (z ∷ xs) ys zero x h = h
-slice_get-append (z ∷ xs) ys (suc i) x h = slice_get-append xs ys i x h
 
 module _ {T : Type 0} (eq : T → T → Bool) (exact : (a b : T) → (eq a b ≡ true) ↔ (a ≡ b)) where
   -- one is added, if it is new
@@ -139,7 +134,7 @@ module _ {T : Type 0} (eq : T → T → Bool) (exact : (a b : T) → (eq a b ≡
 module _ {T : Type 0} where
   pub kept_contained : (old new found : List T) → Adds old found new → (x : T) → Contains old x →
       Contains new x
-  kept_contained old new found a x h = contains_at new h.0 x
+  kept_contained old new found a x h = Contains-from_place new h.0 x
       (a.kept h.0 x (slice_get-get_or old h.0 x h.1 ∙ ap Some h.2))
 
   -- a list is added, and one more

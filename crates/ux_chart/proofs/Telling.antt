@@ -13,7 +13,7 @@ use Rattle.ux_meaning.specs.Contexts.{IsOpening, Holds, Applies}
 use Rattle.ux_meaning.specs.Meaning.{Der}
 use Rattle.ux_meaning.proofs.Levels.{refuses_iff, in_the_end}
 use Rattle.ux_parts.specs.declared.parts.Parts.{Parts}
-use Rattle.ux_parts.specs.Parts.{closing_of, Begins, IsClosedInto, ArePartsOf}
+use Rattle.ux_parts.specs.Parts.{closing_of, Begins, TellsClosing, ArePartsOf}
 use Rattle.ux_parts.specs.Runs.{Closes, IsRefused}
 use Rattle.ux_parts.specs.Ordered.{GoesAhead}
 use Rattle.ux_parts.proofs.Running.{is_opener, closes_of_body, body_of_closes}
@@ -105,7 +105,7 @@ module _ (input : Input) (net : List NetGraph) (parts : Parts) (are : ArePartsOf
         )
 
     pub tells_negative : (x : Label) → x ≡ label.Negative → (closing : List ℕ) →
-        IsClosedInto net g o closing → (js cs : List ℕ) →
+        TellsClosing net g o closing → (js cs : List ℕ) →
         IsAnswer input net parts g o i js cs → (into : List ℕ) → into ≡ refused_in closing cs →
         (c : ℕ) → Contains into c ↔ Applies input (net_grammar net) parts.levels g x o i c
     tells_negative x named closing closed js cs answer into same c =
@@ -121,7 +121,7 @@ module _ (input : Input) (net : List NetGraph) (parts : Parts) (are : ArePartsOf
   pub opened : (g : ℕ) (edge : Edge) → IsOpening net g edge →
       ((edge.label ≡ label.Positive) × Begins parts g edge.target)
       ⊎ ((edge.label ≡ label.Negative) × (Begins parts g edge.target
-      × IsClosedInto net g edge.target (closing_of parts g edge.target)))
+      × TellsClosing net g edge.target (closing_of parts g edge.target)))
   opened g edge op =
       let inside : IsEdge net g op.from edge = (op.state, op.found, op.inside) in
       elim (is_opener edge.label op.sign op.is) [
@@ -134,7 +134,7 @@ module _ (input : Input) (net : List NetGraph) (parts : Parts) (are : ArePartsOf
 
   pub opened_negative : (g : ℕ) (edge : Edge) → IsOpening net g edge →
       edge.label ≡ label.Negative →
-      IsClosedInto net g edge.target (closing_of parts g edge.target)
+      TellsClosing net g edge.target (closing_of parts g edge.target)
   opened_negative g edge op named = elim (opened g edge op) [
     | inl e ↦ absurd (let f = e.0 in let never : ⊥ = cc in never)
     | inr e ↦ e.1.1
@@ -156,7 +156,7 @@ refused_short closing [] h = h
 refused_short closing (c ∷ cs) h = omega arith
 
 pub refused_ascends : (net : List NetGraph) (g o : ℕ) (closing closers into : List ℕ) →
-    IsClosedInto net g o closing → into ≡ refused_in closing closers →
+    TellsClosing net g o closing → into ≡ refused_in closing closers →
     IsStrictlyIncreasing into
 refused_ascends net g o closing closers into closed same =
     let one = ap length closed.told in

@@ -5,4 +5,3 @@ pub mod Alike
 pub mod Places
 pub mod ClosingStates
 pub mod Search
-pub mod EmptyTexts

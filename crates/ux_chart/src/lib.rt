@@ -24,15 +24,14 @@
 //! searched for the earlier one.
 //!
 //! Nothing here knows of tokens: what is matched is a `Basis`. It also tells which parts are worth
-//! a search at a position; `EmptyText` is the least one. Begin with `filling`, and with
-//! `specs/Rows.antt`, which says what a chart tells.
+//! a search at a position. Begin with `filling`, and with `specs/Rows.antt`, which says what a chart
+//! tells.
 #![tactic(auto)]
 
 pub mod basis;
 pub mod chart;
 pub mod closing_states;
 pub mod config;
-pub mod empty_text;
 pub mod filling;
 pub mod following;
 pub mod gathering;
@@ -44,4 +43,3 @@ pub mod table;
 
 pub use basis::Basis;
 pub use chart::Chart;
-pub use empty_text::EmptyText;

@@ -4,7 +4,8 @@ use Rattle.std.proofs.Common.{◌≡◌, ◌≢◌, ◌∙◌, inl, inr, ℕ, Li
 use Rattle.ux_masks.specs.declared.mask.Mask as masks
 use Rattle.ux_net.specs.declared.label.Label.{Label}
 use Rattle.ux_net.specs.declared.label.Label.TheVariants.{Call, Mask}
-use Rattle.ux_admission.specs.Admissible.{EntersAt, Enters, IsAdmissible, IsFree, IsOnMove, IsSilent, IsUnit, MovesFreely, along_step, at_opening, by_call, by_opening, call, in_front, none, over_context, silent}
+use Rattle.ux_net.specs.Nullable.{IsFree, IsSilent, call, none, silent}
+use Rattle.ux_admission.specs.Admissible.{EntersAt, Enters, IsAdmissible, IsOnMove, IsUnit, MovesFreely, along_step, at_opening, by_call, by_opening, in_front, over_context}
 use Rattle.ux_admission.specs.ContextClose.{AreClosed}
 use Rattle.ux_admission.specs.NegativeRecursion.{HasNoNegativeRecursion}
 use Rattle.ux_net.specs.Words.{Grammar, IsWord, Letter, Run, Sign, Step, across, along, closes, letters, mark_of, negative, opens, ordinary, plain, put_by, stop}

@@ -2,11 +2,8 @@
 
 ghost use Rattle.std.specs.Prelude.{◌≡◌, ℕ, ◌≤◌, ◌↔◌, List, Contains, IfOk, length};
 ghost use Rattle.std.specs.List.Sorted.{IsStrictlyIncreasing};
-ghost use Rattle.ux_lexical_tables.specs.Accepting.{Accepts};
 ghost use Rattle.ux_mask_table.specs.MaskedTexts.{HasTable};
-ghost use Rattle.ux_net.specs.Masks.{masks_of};
 ghost use Rattle.ux_net.specs.Nets.{net_grammar};
-ghost use Rattle.ux_outputs.specs.Rendering.{skip as skip_of};
 ghost use Rattle.ux_outputs.specs.declared.event.Event.{Event};
 ghost use Rattle.ux_meaning.specs.Meaning.{Der};
 ghost use Rattle.ux_parts.specs.Parts.{ArePartsOf};
@@ -20,10 +17,8 @@ use std::alloc::Global;
 use ux_base::Mem;
 use ux_chart::Chart;
 use ux_mask_table::MaskedText;
-use ux_masks::Mask;
 use ux_net::Edge;
 use ux_parts::Parts;
-use ux_walk::matching::skip;
 
 /// What the parts of a net reach from each position of a text.
 #[derive(Drop)]
@@ -88,20 +83,5 @@ impl<'a> TextChart<'a> {
             edge,
             at,
         )
-    }
-
-    /// The positions after the spans that a mask of the net accepts from a position, after an
-    /// optional space, ascending.
-    pub fn mask_ends(&self, alloc: Global, mask: &Mask, at: usize) -> Mem<Vec<usize>>
-        requires chart { IsTextChart self.now }
-        requires mask { Contains (masks_of (chart_setting self.now).net) mask.now }
-        ensures exactly { IfOk result (λ ends. (k : ℕ) → Contains ends.items k ↔ Accepts
-            (chart_setting self.now).alphabet (chart_setting self.now).tokens
-            (chart_setting self.now).tables mask.now
-            (skip_of (chart_setting self.now).tokens at) k) }
-        ensures ascending { IfOk result (λ ends. IsStrictlyIncreasing ends.items) }
-    {
-        let masked = self.basis.text;
-        masked.mask_ends(alloc, mask, skip(masked.text, at))
     }
 }

@@ -3,8 +3,9 @@ use Rattle.std.proofs.Common.{arith, ◌≡◌, ℕ, zero, suc, ◌+◌, ◌<◌
 use Rattle.std.specs.Prelude.{Some, slice_get, Contains}
 use Rattle.std.specs.List.{AllZip}
 use Rattle.std.proofs.lemmas.List.{take_more, take_all, reverse-append, reverse-reverse}
-use Rattle.std.proofs.lemmas.Option.{same_Some, slice_get-get_or, slice_get_within, get_or_from_slice_get}
+use Rattle.std.proofs.lemmas.Option.{same_Some, slice_get-get_or, slice_get_within}
 use Rattle.ux_outputs.specs.declared.event.Event.{Event}
+use Rattle.ux_base.proofs.FirstsLemmas.{Contains-from_place}
 use Rattle.ux_walk.specs.declared.config.Found.{Found}
 use Rattle.ux_walk.specs.declared.noted.Noted.{Noted}
 use Rattle.ux_walk.specs.declared.reached.Reached.{Reached}
@@ -21,9 +22,6 @@ use Rattle.ux_walk.proofs.NotedLemmas.{one_teller}
 
 pub at_of : {A : Type 0} (xs : List A) (x : A) → Contains xs x → (k : ℕ) × (slice_get xs k ≡ Some x)
 at_of xs x c = (c.0, slice_get-get_or xs c.0 x c.1 ∙ ap Some c.2)
-
-contains_at : {A : Type 0} (xs : List A) (k : ℕ) (x : A) → slice_get xs k ≡ Some x → Contains xs x
-contains_at xs k x at = (k, slice_get_within xs k x at, get_or_from_slice_get xs k x x at)
 
 module _ {A B : Type 0} (R : A → B → Type 0) where
   zip_push : (xs : List A) (ys : List B) (x : A) (y : B) → AllZip R xs ys → R x y →
@@ -105,7 +103,7 @@ module _ (r : Reached) where
     named_in : (k : ℕ) (f : Found) → slice_get all k ≡ Some f →
         (before : List Event) × NamesEventsIn r f.events before
     named_in k f at =
-        let s = sound.found number f ((are f).0 (contains_at all k f at)) in
+        let s = sound.found number f ((are f).0 (Contains-from_place all k f at)) in
         (s.2.before, s.2.events)
 
     pub derived_exactly : (v : Visit) → IsVisit r number v → AreOnce r.visits.keys → (end : ℕ)
@@ -121,7 +119,7 @@ module _ (r : Reached) where
             has = (
               number,
               f.0,
-              (are f.0).0 (contains_at all at.0 f.0 f.1),
+              (are f.0).0 (Contains-from_place all at.0 f.0 f.1),
               record {
                 before = n.0;
                 visit = visit;
@@ -148,7 +146,7 @@ module _ (r : Reached) where
             ∙ (ap (λ (l : List Event). reverse l) before_is ∙ sym is) in
             let whole : d.0 ≡ (end, events) = ap (λ (k : ℕ). (k, d.0.1)) end_is
             ∙ ap (λ (l : List Event). (end, l)) events_is in
-            subst (λ (x : ℕ × List Event). Contains ds x) whole (contains_at ds at.0 d.0 d.1)
+            subst (λ (x : ℕ × List Event). Contains ds x) whole (Contains-from_place ds at.0 d.0 d.1)
 
     pub derived_once : AreOnce all → AreOnce (events_of r) → StandOnce (texts_of r) → AreOnce ds
     derived_once found links texts i j d at there =

@@ -15,10 +15,10 @@ use Rattle.ux_outputs.specs.declared.event.Event.{Event}
 use Rattle.ux_outputs.specs.declared.event.Event.TheVariants.{Take}
 use Rattle.ux_walk.specs.declared.config.Frame.{Frame}
 use Rattle.ux_walk.specs.declared.config.Config.{Config}
-use Rattle.ux_walk.specs.declared.matching.Passage.{Passage}
-use Rattle.ux_walk.specs.declared.matching.Passage.TheVariants as passage
+use Rattle.ux_walk.specs.declared.matching.LabelMatch.{LabelMatch}
+use Rattle.ux_walk.specs.declared.matching.LabelMatch.TheVariants as how
 use Rattle.ux_walk.specs.declared.reached.Reached.{Reached}
-use Rattle.ux_walk.specs.Passages.{IsPassage, TakesUpTo}
+use Rattle.ux_walk.specs.LabelMatches.{IsLabelMatch, TakesUpTo}
 use Rattle.ux_walk.specs.Contexts.{Applying}
 use Rattle.ux_walk.specs.Courses.{Course, IsBehind, IsClosed, IsOverSome, GoesOn, TakesPlainly, passing}
 use Rattle.ux_walk.specs.declared.config.Visit.{Visit}
@@ -31,24 +31,24 @@ use Rattle.ux_walk.proofs.Keeping.{keeps, spells_kept}
 abbrev pub course : List Frame → ℕ → List Event → Course
 course frames at before = record { frames = frames; at = at; before = before }
 
-calls_once : (k m : ℕ) → passage.Calls k ≡ passage.Calls m → k ≡ m
+calls_once : (k m : ℕ) → how.Calls k ≡ how.Calls m → k ≡ m
 calls_once k m h = cc
 
 module _ (alphabet : Letters) (tokens : List Token) (tables : Tables) (applies : Applying)
-    (label : Label) (f : Frame) (i : ℕ) (before : List Event) (r : Passage)
-    (is : IsPassage alphabet tokens tables label i r) (w : Course) where
+    (label : Label) (f : Frame) (i : ℕ) (before : List Event) (r : LabelMatch)
+    (is : IsLabelMatch alphabet tokens tables label i r) (w : Course) where
   abbrev Behind : Type 0
   Behind = IsBehind alphabet tokens tables applies label f [] i before w
 
-  -- what is behind the label, by the passage
-  by_passage : (Wanted : Type 0) →
+  -- what is behind the label, by the label match
+  by_match : (Wanted : Type 0) →
       ((k : ℕ) → TakesUpTo r k → IsPast i f before k w → Wanted) →
-      (r ≡ passage.Stays → w ≡ course (f ∷ []) i (passing label ++ before) → Wanted) →
-      ((h : ℕ) → r ≡ passage.Calls h → applies.enters h i →
+      (r ≡ how.Stays → w ≡ course (f ∷ []) i (passing label ++ before) → Wanted) →
+      ((h : ℕ) → r ≡ how.Calls h → applies.enters h i →
       w ≡ course (record { graph = h; state = 0 } ∷ f ∷ []) i before → Wanted) →
-      (r ≡ passage.Opens → (c : ℕ) → applies.contexts f.graph label f.state i c →
+      (r ≡ how.Opens → (c : ℕ) → applies.contexts f.graph label f.state i c →
       IsClosed f [] i before c w → Wanted) → Behind → Wanted
-  by_passage Wanted takes stays calls opens b = elim b [
+  by_match Wanted takes stays calls opens b = elim b [
     | inl t ↦ takes t.0 ((is.takes t.0).1 t.1) t.2
     | inr o ↦ elim o [
       | inl s ↦ stays (is.stays.1 s.0) s.1
@@ -59,45 +59,45 @@ module _ (alphabet : Letters) (tokens : List Token) (tables : Tables) (applies :
     ]
   ]
 
-  upto : (this : Passage) → r ≡ this → (k : ℕ) → TakesUpTo r k → TakesUpTo this k
-  upto this is_this k takes = subst (λ (x : Passage). TakesUpTo x k) is_this takes
+  upto : (this : LabelMatch) → r ≡ this → (k : ℕ) → TakesUpTo r k → TakesUpTo this k
+  upto this is_this k takes = subst (λ (x : LabelMatch). TakesUpTo x k) is_this takes
 
-  takes_it : (this : Passage) → r ≡ this → (k : ℕ) → TakesUpTo this k →
+  takes_it : (this : LabelMatch) → r ≡ this → (k : ℕ) → TakesUpTo this k →
       TakesPlainly alphabet tokens tables label i k
   takes_it this is_this k upto =
-      (is.takes k).0 (subst (λ (x : Passage). TakesUpTo x k) (sym is_this) upto)
+      (is.takes k).0 (subst (λ (x : LabelMatch). TakesUpTo x k) (sym is_this) upto)
 
-  pub behind_takes : (k : ℕ) → r ≡ passage.Takes k → IsPast i f before k w ↔ Behind
+  pub behind_takes : (k : ℕ) → r ≡ how.Takes k → IsPast i f before k w ↔ Behind
   behind_takes k this = (
-    λ e. inl (k, takes_it (passage.Takes k) this k refl, e),
-    by_passage (IsPast i f before k w)
+    λ e. inl (k, takes_it (how.Takes k) this k refl, e),
+    by_match (IsPast i f before k w)
         (λ m takes e. e ∙ ap (λ n. course (f ∷ []) n (Take i n ∷ before))
-        (upto (passage.Takes k) this m takes))
-        (λ that e. let no : passage.Takes k ≡ passage.Stays = sym this ∙ that in cc)
-        (λ h that enters e. let no : passage.Takes k ≡ passage.Calls h = sym this ∙ that in cc)
-        (λ that c applied e. let no : passage.Takes k ≡ passage.Opens = sym this ∙ that in cc),
+        (upto (how.Takes k) this m takes))
+        (λ that e. let no : how.Takes k ≡ how.Stays = sym this ∙ that in cc)
+        (λ h that enters e. let no : how.Takes k ≡ how.Calls h = sym this ∙ that in cc)
+        (λ that c applied e. let no : how.Takes k ≡ how.Opens = sym this ∙ that in cc),
   )
 
-  pub behind_spans : (ends : Vec ℕ Global) → r ≡ passage.Spans ends →
+  pub behind_spans : (ends : Vec ℕ Global) → r ≡ how.Spans ends →
       ((k : ℕ) × Contains ends.items k × IsPast i f before k w) ↔ Behind
   behind_spans ends this = (
-    λ (k, inside, e). inl (k, takes_it (passage.Spans ends) this k inside, e),
-    by_passage ((k : ℕ) × Contains ends.items k × IsPast i f before k w)
-        (λ m takes e. (m, upto (passage.Spans ends) this m takes, e))
-        (λ that e. let no : passage.Spans ends ≡ passage.Stays = sym this ∙ that in cc)
-        (λ h that enters e. let no : passage.Spans ends ≡ passage.Calls h = sym this ∙ that in cc)
-        (λ that c applied e. let no : passage.Spans ends ≡ passage.Opens = sym this ∙ that in cc),
+    λ (k, inside, e). inl (k, takes_it (how.Spans ends) this k inside, e),
+    by_match ((k : ℕ) × Contains ends.items k × IsPast i f before k w)
+        (λ m takes e. (m, upto (how.Spans ends) this m takes, e))
+        (λ that e. let no : how.Spans ends ≡ how.Stays = sym this ∙ that in cc)
+        (λ h that enters e. let no : how.Spans ends ≡ how.Calls h = sym this ∙ that in cc)
+        (λ that c applied e. let no : how.Spans ends ≡ how.Opens = sym this ∙ that in cc),
   )
 
-  pub behind_stays : r ≡ passage.Stays →
+  pub behind_stays : r ≡ how.Stays →
       (w ≡ course (f ∷ []) i (passing label ++ before)) ↔ Behind
   behind_stays this = (
     λ e. inr (inl (is.stays.0 this, e)),
-    by_passage (w ≡ course (f ∷ []) i (passing label ++ before))
-        (λ m takes e. absurd (upto passage.Stays this m takes))
+    by_match (w ≡ course (f ∷ []) i (passing label ++ before))
+        (λ m takes e. absurd (upto how.Stays this m takes))
         (λ that e. e)
-        (λ h that enters e. let no : passage.Stays ≡ passage.Calls h = sym this ∙ that in cc)
-        (λ that c applied e. let no : passage.Stays ≡ passage.Opens = sym this ∙ that in cc),
+        (λ h that enters e. let no : how.Stays ≡ how.Calls h = sym this ∙ that in cc)
+        (λ that c applied e. let no : how.Stays ≡ how.Opens = sym this ∙ that in cc),
   )
 
   -- the course over a call of the graph, which is entered
@@ -105,33 +105,33 @@ module _ (alphabet : Letters) (tokens : List Token) (tables : Tables) (applies :
   Enters h =
       applies.enters h i × (w ≡ course (record { graph = h; state = 0 } ∷ f ∷ []) i before)
 
-  pub behind_calls : (h : ℕ) → r ≡ passage.Calls h → Enters h ↔ Behind
+  pub behind_calls : (h : ℕ) → r ≡ how.Calls h → Enters h ↔ Behind
   behind_calls h this = (
     λ (enters, e). inr (inr (inl (h, (is.calls h).0 this, enters, e))),
-    by_passage (Enters h) (λ m takes e. absurd (upto (passage.Calls h) this m takes))
-        (λ that e. let no : passage.Calls h ≡ passage.Stays = sym this ∙ that in cc)
+    by_match (Enters h) (λ m takes e. absurd (upto (how.Calls h) this m takes))
+        (λ that e. let no : how.Calls h ≡ how.Stays = sym this ∙ that in cc)
         (λ g that enters e. subst Enters (sym (calls_once h g (sym this ∙ that))) (enters, e))
-        (λ that c applied e. let no : passage.Calls h ≡ passage.Opens = sym this ∙ that in cc),
+        (λ that c applied e. let no : how.Calls h ≡ how.Opens = sym this ∙ that in cc),
   )
 
-  pub behind_opens : r ≡ passage.Opens → (closers : List ℕ) →
+  pub behind_opens : r ≡ how.Opens → (closers : List ℕ) →
       ((c : ℕ) → Contains closers c ↔ applies.contexts f.graph label f.state i c) →
       ((c : ℕ) × Contains closers c × IsClosed f [] i before c w) ↔ Behind
   behind_opens this closers exact = (
     λ (c, inside, e). inr (inr (inr (c, is.opens.0 this, (exact c).0 inside, e))),
-    by_passage ((c : ℕ) × Contains closers c × IsClosed f [] i before c w)
-        (λ m takes e. absurd (upto passage.Opens this m takes))
-        (λ that e. let no : passage.Opens ≡ passage.Stays = sym this ∙ that in cc)
-        (λ h that enters e. let no : passage.Opens ≡ passage.Calls h = sym this ∙ that in cc)
+    by_match ((c : ℕ) × Contains closers c × IsClosed f [] i before c w)
+        (λ m takes e. absurd (upto how.Opens this m takes))
+        (λ that e. let no : how.Opens ≡ how.Stays = sym this ∙ that in cc)
+        (λ h that enters e. let no : how.Opens ≡ how.Calls h = sym this ∙ that in cc)
         (λ that c applied e. (c, (exact c).1 applied, e)),
   )
 
-  pub behind_closed : r ≡ passage.Closed → Behind → ⊥
-  behind_closed this = by_passage ⊥
-      (λ m takes e. upto passage.Closed this m takes)
-      (λ that e. let no : passage.Closed ≡ passage.Stays = sym this ∙ that in cc)
-      (λ h that enters e. let no : passage.Closed ≡ passage.Calls h = sym this ∙ that in cc)
-      (λ that c applied e. let no : passage.Closed ≡ passage.Opens = sym this ∙ that in cc)
+  pub behind_closed : r ≡ how.Closed → Behind → ⊥
+  behind_closed this = by_match ⊥
+      (λ m takes e. upto how.Closed this m takes)
+      (λ that e. let no : how.Closed ≡ how.Stays = sym this ∙ that in cc)
+      (λ h that enters e. let no : how.Closed ≡ how.Calls h = sym this ∙ that in cc)
+      (λ that c applied e. let no : how.Closed ≡ how.Opens = sym this ∙ that in cc)
 
 -- what some element of the list leads to
 abbrev pub Among : {S : Type 0} → (S → Course → Type 0) → List S → Course → Type 0

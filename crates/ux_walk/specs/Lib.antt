@@ -5,7 +5,7 @@ pub mod Joins
 pub mod Contexts
 pub mod Courses
 pub mod Leads
-pub mod Passages
+pub mod LabelMatches
 pub mod Noted
 pub mod Configurations
 pub mod Literals

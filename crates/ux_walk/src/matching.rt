@@ -8,7 +8,7 @@ ghost use Rattle.ux_outputs.specs.Rendering.{kind_of, skip as skip_of};
 ghost use Rattle.ux_meaning.specs.Texts.{Folds, FoldsTo, IsBraced, IsSpaceAt, MayStandFor, TakesOne, TakesToken};
 ghost use Rattle.ux_walk.specs.Contexts.{Opens};
 ghost use Rattle.ux_walk.specs.Courses.{Passes, TakesPlainly};
-ghost use Rattle.ux_walk.specs.Passages.{TakesUpTo};
+ghost use Rattle.ux_walk.specs.LabelMatches.{TakesUpTo};
 
 use std::alloc::Global;
 use ux_alphabet::Alphabet;
@@ -20,7 +20,7 @@ use ux_tokens::{Kind, Text};
 
 /// How a label applies at a position.
 #[derive(Drop)]
-pub enum Passage {
+pub enum LabelMatch {
     /// It takes the tokens up to this position.
     Takes(usize),
     /// It takes the tokens up to each of these positions, in different ways.
@@ -35,38 +35,38 @@ pub enum Passage {
     Closed,
 }
 
-impl Passage {
+impl LabelMatch {
     /// Whether the label doesn't apply.
     pub fn is_closed(&self) -> bool
-        ensures { IsTrue result ↔ (self.now ≡ Passage.Closed) }
+        ensures { IsTrue result ↔ (self.now ≡ LabelMatch.Closed) }
     {
-        matches!(self, Passage::Closed)
+        matches!(self, LabelMatch::Closed)
     }
 }
 
 /// How the label applies at the position. One that closes a context doesn't apply by itself. A mask
 /// has to stand in the net: it is looked up in the table, and takes memory for the positions up to
 /// which it takes tokens.
-pub fn passage_at(
+pub fn label_match_at(
     alloc: Global,
     masked: &MaskedText,
     label: &Label,
     position: usize,
-) -> Mem<Passage>
+) -> Mem<LabelMatch>
     requires known { IsKnown masked.now label.now }
-    ensures takes { IfOk result (λ passage. (k : ℕ) → TakesUpTo passage k
+    ensures takes { IfOk result (λ matched. (k : ℕ) → TakesUpTo matched k
         ↔ TakesPlainly masked.now.alphabet.now masked.now.text.now masked.now.applied.now
         label.now position k) }
-    ensures stays { IfOk result (λ passage.
-        (passage ≡ Passage.Stays) ↔ Passes masked.now.text.now label.now position) }
-    ensures calls { IfOk result (λ passage. (graph : ℕ) →
-        (passage ≡ Passage.Calls graph) ↔ (label.now ≡ Label.Call graph)) }
-    ensures opens { IfOk result (λ passage. (passage ≡ Passage.Opens) ↔ Opens label.now) }
+    ensures stays { IfOk result (λ matched.
+        (matched ≡ LabelMatch.Stays) ↔ Passes masked.now.text.now label.now position) }
+    ensures calls { IfOk result (λ matched. (graph : ℕ) →
+        (matched ≡ LabelMatch.Calls graph) ↔ (label.now ≡ Label.Call graph)) }
+    ensures opens { IfOk result (λ matched. (matched ≡ LabelMatch.Opens) ↔ Opens label.now) }
 {
     let text = masked.text;
     let alphabet = masked.alphabet;
     match label {
-        Label::Empty | Label::Begin(_) | Label::End(_) | Label::Cut => Ok(Passage::Stays),
+        Label::Empty | Label::Begin(_) | Label::End(_) | Label::Cut => Ok(LabelMatch::Stays),
         Label::CaseFolded(entry) => Ok(taking(after_fold(
             text,
             alphabet,
@@ -77,40 +77,40 @@ pub fn passage_at(
         Label::Brace(brace) => Ok(taking(after_brace(text, brace.as_str(), position))),
         Label::Mask(mask) => {
             let ends = after_mask(alloc, masked, mask, position)?;
-            Ok(Passage::Spans(ends))
+            Ok(LabelMatch::Spans(ends))
         },
         Label::Space => Ok(taking(after_space(text, position))),
         Label::NoSpace => Ok(staying(!is_space(text, position))),
-        Label::Call(graph) => Ok(Passage::Calls(*graph)),
-        Label::Positive | Label::Negative => Ok(Passage::Opens),
-        Label::ContextEnd => Ok(Passage::Closed),
+        Label::Call(graph) => Ok(LabelMatch::Calls(*graph)),
+        Label::Positive | Label::Negative => Ok(LabelMatch::Opens),
+        Label::ContextEnd => Ok(LabelMatch::Closed),
     }
 }
 
-/// The passage to an end, where there is one.
-fn taking(end: Option<usize>) -> Passage
+/// The label match to an end, where there is one.
+fn taking(end: Option<usize>) -> LabelMatch
     ensures takes { (k : ℕ) → TakesUpTo result k ↔ (end ≡ Some k) }
-    ensures stays { result ≡ Passage.Stays → ⊥ }
-    ensures calls { (graph : ℕ) → result ≡ Passage.Calls graph → ⊥ }
-    ensures opens { result ≡ Passage.Opens → ⊥ }
+    ensures stays { result ≡ LabelMatch.Stays → ⊥ }
+    ensures calls { (graph : ℕ) → result ≡ LabelMatch.Calls graph → ⊥ }
+    ensures opens { result ≡ LabelMatch.Opens → ⊥ }
 {
     match end {
-        Some(end) => Passage::Takes(end),
-        None => Passage::Closed,
+        Some(end) => LabelMatch::Takes(end),
+        None => LabelMatch::Closed,
     }
 }
 
-/// The passage that takes nothing, where it is open.
-fn staying(is_open: bool) -> Passage
+/// The label match that takes nothing, where it is open.
+fn staying(is_open: bool) -> LabelMatch
     ensures takes { (k : ℕ) → TakesUpTo result k → ⊥ }
-    ensures stays { (result ≡ Passage.Stays) ↔ IsTrue is_open }
-    ensures calls { (graph : ℕ) → result ≡ Passage.Calls graph → ⊥ }
-    ensures opens { result ≡ Passage.Opens → ⊥ }
+    ensures stays { (result ≡ LabelMatch.Stays) ↔ IsTrue is_open }
+    ensures calls { (graph : ℕ) → result ≡ LabelMatch.Calls graph → ⊥ }
+    ensures opens { result ≡ LabelMatch.Opens → ⊥ }
 {
     if is_open {
-        Passage::Stays
+        LabelMatch::Stays
     } else {
-        Passage::Closed
+        LabelMatch::Closed
     }
 }
 

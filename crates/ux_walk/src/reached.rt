@@ -18,7 +18,7 @@ ghost use Rattle.ux_walk.specs.Configurations.{Adds, AddsFrom, IsFoundAs, IsNoth
 ghost use Rattle.ux_walk.specs.Contexts.{ContextsTold, MayAsk, Opens};
 ghost use Rattle.ux_walk.specs.Courses.{Course, GoesOn, IsBehind, IsClosed, IsOver, IsOverAt, IsOverSome, IsOverSomeAt, at_state, passing, put_event, put_events};
 ghost use Rattle.ux_walk.specs.Noted.{StandsFor};
-ghost use Rattle.ux_walk.specs.Passages.{IsPassage};
+ghost use Rattle.ux_walk.specs.LabelMatches.{IsLabelMatch};
 ghost use Rattle.ux_walk.specs.Settings.{masked_setting};
 
 use crate::config::{Config, Found, Frame, Return, Visit};
@@ -27,7 +27,7 @@ use crate::groups::Groups;
 use crate::joining::join_all;
 use crate::lists::Lists;
 use crate::look_ups::LookUps;
-use crate::matching::{Passage, passage_at, skip};
+use crate::matching::{LabelMatch, label_match_at, skip};
 use crate::noted::Noted;
 use crate::sets::{add, number, put, stand_once};
 use crate::texts::Texts;
@@ -310,12 +310,12 @@ impl<'t> Reached<'t> {
             IsOver masked.now.alphabet.now masked.now.text.now masked.now.applied.now
             (C.applies contexts.now) config.here [] config.at before edge.now)) }
     {
-        let passage = passage_at(alloc, masked, &edge.label, config.at)?;
-        if passage.is_closed() {
+        let matched = label_match_at(alloc, masked, &edge.label, config.at)?;
+        if matched.is_closed() {
             return Ok(());
         }
         let events = self.put_out(config.events, edge.output.as_slice())?;
-        self.go_on(alloc, contexts, Config { events, ..config }, edge, passage)
+        self.go_on(alloc, contexts, Config { events, ..config }, edge, matched)
     }
 
     /// Goes on after an edge whose label applies in this way.
@@ -325,12 +325,12 @@ impl<'t> Reached<'t> {
         contexts: &C,
         config: Config,
         edge: &'t Edge,
-        passage: Passage,
+        matched: LabelMatch,
     ) -> Mem<()>
-        requires asked { passage ≡ Passage.Opens →
+        requires asked { matched ≡ LabelMatch.Opens →
             C.asks contexts.now config.here.graph edge.now config.at }
         ensures { OnOk result ((alphabet : Letters) (tokens : List Token) (tables : Tables) →
-            IsPassage alphabet tokens tables edge.now.label config.at passage →
+            IsLabelMatch alphabet tokens tables edge.now.label config.at matched →
             AddsFrom self.old self.new config (λ before.
             IsBehind alphabet tokens tables (C.applies contexts.now) edge.now.label
             (at_state config.here edge.now.target) [] config.at before)) }
@@ -339,16 +339,16 @@ impl<'t> Reached<'t> {
             graph: config.here.graph,
             state: edge.target,
         };
-        match passage {
-            Passage::Takes(end) => self.take(config, here, end),
-            Passage::Spans(ends) => self.take_each(config, here, ends.as_slice()),
-            Passage::Stays => self.pass(config, here, &edge.label),
-            Passage::Calls(graph) => self.enter(alloc, contexts, config, here, graph),
-            Passage::Opens => {
+        match matched {
+            LabelMatch::Takes(end) => self.take(config, here, end),
+            LabelMatch::Spans(ends) => self.take_each(config, here, ends.as_slice()),
+            LabelMatch::Stays => self.pass(config, here, &edge.label),
+            LabelMatch::Calls(graph) => self.enter(alloc, contexts, config, here, graph),
+            LabelMatch::Opens => {
                 let closers = contexts.closers(here.graph, edge, config.at);
                 self.close_each(config, closers)
             },
-            Passage::Closed => Ok(()),
+            LabelMatch::Closed => Ok(()),
         }
     }
 

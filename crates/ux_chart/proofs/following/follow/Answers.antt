@@ -1,6 +1,6 @@
 use Rattle.std.proofs.Common.{refl, subst, sym}
 use Rattle.ux_net.specs.declared.label.Label.TheVariants as label
-use Rattle.ux_parts.specs.Parts.{IsClosedInto}
+use Rattle.ux_parts.specs.Parts.{TellsClosing}
 use Rattle.ux_chart.proofs.Entering.{laid_out, never_rises, opens, entered_answer, call_ends}
 use Rattle.ux_parts.specs.Runs.{Plain}
 use Rattle.ux_chart.proofs.FollowingLemmas.{from_none, followed_empty, followed_call, followed_positive, followed_negative, followed_close, followed_plain}
@@ -85,7 +85,7 @@ returns-in-Negative g c =
     c.requires.parts c.args.graph c.args.edge.now.target c.args.from.at c.args.found.now.items
     c.push_states-in-Negative.new.found.items c.args.edge.now.label c.in-Negative.is
     c.closing-closing.result.now
-    (subst (λ l. IsClosedInto c.args.net.now c.args.graph c.args.edge.now.target l)
+    (subst (λ l. TellsClosing c.args.net.now c.args.graph c.args.edge.now.target l)
     (sym c.closing-closing.ensures) part.1) js cs
     (entered_answer input c.args.net.now c.args.parts.now c.requires.parts chart
     c.args.begun c.args.graph c.args.from c.requires.filled c.requires.ready c.args.graph

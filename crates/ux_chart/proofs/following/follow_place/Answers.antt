@@ -2,7 +2,7 @@ use Rattle.std.proofs.Common.{◌∙◌, List, inl, inr, sym, subst}
 use Rattle.std.specs.Prelude.{Contains}
 use Rattle.std.proofs.lemmas.Option.{same_Some, none-some}
 use Rattle.ux_net.specs.declared.state.Edge.{Edge}
-use Rattle.ux_parts.proofs.Mapped.{contains_at}
+use Rattle.ux_base.proofs.FirstsLemmas.{Contains-from_place}
 use Rattle.ux_chart.specs.Places.{Follows}
 use Rattle.ux_chart.proofs.following.follow_place.Goals as goal
 
@@ -12,7 +12,7 @@ follow-requires-clause-inside g c =
       state,
       found,
       subst (λ (xs : List Edge). Contains xs c.in-Some.edge.now) (sym is)
-          (contains_at c.args.edges.now c.args.place c.in-Some.edge.now (sym c.in-Some.ensures)),
+          (Contains-from_place c.args.edges.now c.args.place c.in-Some.edge.now (sym c.in-Some.ensures)),
     )
 
 pub follow-requires-clause-known : goal.follow-requires-clause-known
@@ -20,7 +20,7 @@ follow-requires-clause-known g c =
     let (state, found, is) = c.requires.edges in
     c.requires.known c.args.graph c.args.from.state state c.in-Some.edge.now found
     (subst (λ (xs : List Edge). Contains xs c.in-Some.edge.now) (sym is)
-    (contains_at c.args.edges.now c.args.place c.in-Some.edge.now (sym c.in-Some.ensures)))
+    (Contains-from_place c.args.edges.now c.args.place c.in-Some.edge.now (sym c.in-Some.ensures)))
 
 pub returns-in-Some : goal.returns-in-Some
 returns-in-Some g c = λ w. (

@@ -1,5 +1,5 @@
 use Rattle.std.proofs.Common.{subst, sym}
-use Rattle.ux_parts.specs.Parts.{IsClosedInto}
+use Rattle.ux_parts.specs.Parts.{TellsClosing}
 use Rattle.ux_chart.proofs.Telling.{chart_answer, opened_part, opened_negative, opened_positive, tells_positive, tells_negative, refused_ascends}
 use Rattle.ux_chart.proofs.chart.Chart.closers.Goals as goal
 
@@ -14,7 +14,7 @@ returns-in-Negative-clause-exact g c =
     let told = c.told-reached.ensures in
     tells_negative input net parts are last c.requires.chart.ahead c.args.graph edge.target
     c.args.at edge.label c.in-Negative.is c.closing.result.now
-    (subst (λ l. IsClosedInto net c.args.graph edge.target l) (sym c.closing.ensures)
+    (subst (λ l. TellsClosing net c.args.graph edge.target l) (sym c.closing.ensures)
     (opened_negative input net parts are last c.args.graph edge c.requires.opens c.in-Negative.is))
     c.told-reached.result.ends.now c.told-reached.result.closers.now
     (chart_answer input net parts are last c.args.self.now c.requires.chart c.args.graph
@@ -31,7 +31,7 @@ returns-in-Negative-clause-ascending g c =
     let edge = c.args.edge.now in
     refused_ascends net c.args.graph edge.target c.closing.result.now
     c.told-reached.result.closers.now c.refused_into.result.now
-    (subst (λ l. IsClosedInto net c.args.graph edge.target l) (sym c.closing.ensures)
+    (subst (λ l. TellsClosing net c.args.graph edge.target l) (sym c.closing.ensures)
     (opened_negative input net c.args.parts.now c.requires.parts last c.args.graph edge
     c.requires.opens c.in-Negative.is)) c.refused_into.ensures
 

@@ -11,7 +11,7 @@ use Rattle.ux_walk.proofs.reached.Reached.follow.Goals as goal
 
 pub go_on-requires : goal.go_on-requires
 go_on-requires g c = record {
-  asked = λ opens. c.requires.asked (c.in_ok-passage.ensures.opens.0 opens);
+  asked = λ opens. c.requires.asked (c.in_ok-matched.ensures.opens.0 opens);
 }
 
 pub returns : goal.returns
@@ -30,10 +30,10 @@ returns g c = on_ok c.go_on.result _ _ (λ adds.
     (subst (λ (l : List Piece). Notes c.args.self.now c.put_out.new.self (reverse (put_events l))
     config.events c.in_ok-events.events) c.as_slice.ensures c.in_ok-events.ensures)
     (adds alphabet tokens tables (record {
-      takes = c.in_ok-passage.ensures.takes;
-      stays = c.in_ok-passage.ensures.stays;
-      calls = c.in_ok-passage.ensures.calls;
-      opens = c.in_ok-passage.ensures.opens;
+      takes = c.in_ok-matched.ensures.takes;
+      stays = c.in_ok-matched.ensures.stays;
+      calls = c.in_ok-matched.ensures.calls;
+      opens = c.in_ok-matched.ensures.opens;
     }))) c.go_on.ensures
 
 pub returns-then-is_closed : goal.returns-then-is_closed
@@ -42,9 +42,9 @@ returns-then-is_closed g c = λ v before sound spells.
     nothing_of v _ c.args.self.now sound (λ w.
     behind_closed masked.alphabet.now masked.text.now masked.applied.now
     (g.C.Contexts.applies c.args.contexts.now) c.args.edge.now.label _ c.args.config.at _
-    c.in_ok-passage.passage (record {
-      takes = c.in_ok-passage.ensures.takes;
-      stays = c.in_ok-passage.ensures.stays;
-      calls = c.in_ok-passage.ensures.calls;
-      opens = c.in_ok-passage.ensures.opens;
+    c.in_ok-matched.matched (record {
+      takes = c.in_ok-matched.ensures.takes;
+      stays = c.in_ok-matched.ensures.stays;
+      calls = c.in_ok-matched.ensures.calls;
+      opens = c.in_ok-matched.ensures.opens;
     }) w (c.is_closed.ensures.0 c.if-is_closed.true))

@@ -1,10 +1,10 @@
 use Rattle.std.proofs.Common.{◌↔◌, sym, subst}
 use Rattle.ux_net.specs.declared.label.Label.{Label}
 use Rattle.ux_walk.specs.Courses.{TakesPlainly}
-use Rattle.ux_walk.specs.Passages.{TakesUpTo}
+use Rattle.ux_walk.specs.LabelMatches.{TakesUpTo}
 use Rattle.ux_walk.proofs.MatchingLemmas.{through}
 use Rattle.ux_mask_table.proofs.KnownLabels.{known_mask}
-use Rattle.ux_walk.proofs.matching.passage_at.Goals as goal
+use Rattle.ux_walk.proofs.matching.label_match_at.Goals as goal
 
 pub after_mask-requires-clause-mask : goal.after_mask-requires-clause-mask
 after_mask-requires-clause-mask c =
