@@ -4,4 +4,5 @@ pub mod Kept
 pub mod Words
 pub mod Belonging
 pub mod Accepting
+pub mod Digits
 pub mod Ends

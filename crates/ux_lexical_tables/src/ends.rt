@@ -8,11 +8,12 @@ ghost use Rattle.std.specs.Prelude.{◌≡◌, ◌⊎◌, ◌↔◌, ◌+◌, �
 ghost use Rattle.std.specs.Str.{chars};
 ghost use Rattle.ux_masks.specs.Meets.{MeetsParts};
 ghost use Rattle.ux_tokens.specs.declared.kind.Kind.TheVariants.{Word, Tag};
-ghost use Rattle.ux_lexical_tables.specs.Accepting.{Accepts, AreDigits, IsDigitAt, IsTokenKind, IsWordSo};
+ghost use Rattle.ux_lexical_tables.specs.Accepting.{Accepts, AreDigits, IsTokenKind, IsWordSo};
 ghost use Rattle.ux_lexical_tables.specs.Belonging.{Belongs};
+ghost use Rattle.ux_lexical_tables.specs.Digits.{IsDigitRun};
 ghost use Rattle.ux_lexical_tables.specs.Ends.{AreEnds, Asks, EndsSo, HasSo, IsOfCase, IsPut, IsThere};
 
-use crate::spans::may_bound;
+use crate::digits::DigitRun;
 use crate::spelling::{Case, is_of_case};
 use crate::tables::LexicalTables;
 use std::alloc::Global;
@@ -31,10 +32,13 @@ pub(crate) fn accepted(
     alphabet: &Alphabet,
     mask: &Mask,
     i: usize,
+    run: &mut DigitRun,
 ) -> Mem<Vec<usize>>
     requires belongs { Belongs alphabet.now text.now tables.now }
     requires inside { i < length text.now }
-    ensures { IfOk result (λ ends.
+    requires run { IsDigitRun text.now run.old }
+    ensures run { IsDigitRun text.now run.new }
+    ensures ends { IfOk result (λ ends.
         AreEnds (Accepts alphabet.now text.now tables.now mask.now i) ends.items) }
 {
     let simple = tables.simple(i);
@@ -69,7 +73,7 @@ pub(crate) fn accepted(
         Mask::NotSDic => one(alloc, text, i, is_word_without(text, i, simple, None)),
         Mask::CDic => entry_ends(alloc, text, i, &[], compounds, None),
         Mask::TDic => one(alloc, text, i, is_kind(text, i, Kind::Tag)),
-        Mask::Nb => digit_ends(alloc, text, i),
+        Mask::Nb => digit_ends(alloc, text, i, run),
         Mask::Token => one(alloc, text, i, is_token(text, i)),
         Mask::Lexical(lexical) => entry_ends(alloc, text, i, simple, compounds, Some(lexical)),
         Mask::NotLexical(lexical) => {
@@ -138,51 +142,18 @@ fn put_end(
 }
 
 /// The position after all digits that follow each other from the token on.
-fn digit_ends(alloc: Global, text: &Text, i: usize) -> Mem<Vec<usize>>
-    requires { i < length text.now }
-    ensures { IfOk result (λ ends. AreEnds (AreDigits text.now i) ends.items) }
+fn digit_ends(alloc: Global, text: &Text, i: usize, run: &mut DigitRun) -> Mem<Vec<usize>>
+    requires inside { i < length text.now }
+    requires run { IsDigitRun text.now run.old }
+    ensures run { IsDigitRun text.now run.new }
+    ensures ends { IfOk result (λ ends. AreEnds (AreDigits text.now i) ends.items) }
 {
-    let end = digits_end(text, i);
+    let end = run.end(text, i);
     let mut ends = Vec::new(alloc);
     if i < end {
         ends.push(end)?;
     }
     Ok(ends)
-}
-
-/// The first place from the token on at which no digit stands.
-fn digits_end(text: &Text, i: usize) -> usize
-    requires { i < length text.now }
-    ensures from { i ≤ result }
-    ensures each { (place : ℕ) → i ≤ place → place < result → IsDigitAt text.now place }
-    ensures all { IsDigitAt text.now result → ⊥ }
-{
-    let count = text.len();
-    for place in i..count {
-        if !is_digit(text, place) {
-            return place;
-        }
-    }
-    count
-}
-
-/// Whether a digit stands at the place.
-fn is_digit(text: &Text, place: usize) -> bool
-    requires { place < length text.now }
-    ensures { IsTrue result ↔ IsDigitAt text.now place }
-{
-    may_bound(text.kind(place)) && is_one_digit(text.token(place))
-}
-
-/// Whether the text is one digit.
-fn is_one_digit(text: &str) -> bool
-    ensures { IsTrue result
-        ↔ ((digit : ℕ) × (48 ≤ digit) × (digit ≤ 57) × (text.now ≡ digit ∷ [])) }
-{
-    match text.as_bytes() {
-        [byte] => byte.is_ascii_digit(),
-        _ => false,
-    }
 }
 
 /// Whether the token is of the kind.

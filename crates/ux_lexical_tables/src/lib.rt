@@ -10,10 +10,11 @@
 //! ```text
 //! let tables = LexicalTables::from_parts(words, entries, tags, compounds, unknown);
 //! tables.simple(0)      // the entries of the first token, if it is a word
-//! tables.ends(alloc, &text, &alphabet, &mask, 0, &mut steps)?      // the positions after its spans
+//! tables.ends(alloc, &text, &alphabet, &mask, 0, &mut DigitRun::none(), &mut steps)?    // after its spans
 //! ```
 #![tactic(auto)]
 
+pub mod digits;
 mod ends;
 pub mod rows;
 pub mod spans;
@@ -21,6 +22,7 @@ mod spelling;
 pub mod tables;
 pub mod words;
 
+pub use digits::DigitRun;
 pub use rows::{Rows, Tagged};
 pub use tables::LexicalTables;
 pub use words::Words;

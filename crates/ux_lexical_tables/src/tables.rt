@@ -7,8 +7,10 @@ ghost use Rattle.std.specs.Prelude.{◌≡◌, ◌<◌, ◌+◌, ◌↔◌, ℕ,
 ghost use Rattle.std.specs.List.Sorted.{IsStrictlyIncreasing};
 ghost use Rattle.ux_lexical_tables.specs.Accepting.{Accepts};
 ghost use Rattle.ux_lexical_tables.specs.Belonging.{Belongs};
+ghost use Rattle.ux_lexical_tables.specs.Digits.{IsDigitRun};
 ghost use Rattle.ux_lexical_tables.specs.Kept.{tables_of};
 
+use crate::digits::DigitRun;
 use crate::ends::accepted;
 use crate::rows::{Rows, Tagged, own_at, row_of_number};
 use crate::words::Words;
@@ -97,7 +99,8 @@ impl LexicalTables {
 
     /// The positions after the spans that the mask accepts from a token on, ascending. Takes one
     /// step, also where memory runs out, and time in the entries that begin at the token; for `<NB>`
-    /// in the digits from there.
+    /// in the digits from there, unless `run` has them. The run of digits that was found last is kept
+    /// there, so that a text whose tokens are asked in order is gone along once.
     pub fn ends<L: Ledger>(
         &self,
         alloc: Global,
@@ -105,16 +108,19 @@ impl LexicalTables {
         alphabet: &Alphabet,
         mask: &Mask,
         i: usize,
+        run: &mut DigitRun,
         steps: &mut Steps<L>,
     ) -> Mem<Vec<usize>>
         requires belongs { Belongs alphabet.now text.now self.now }
         requires inside { i < length text.now }
+        requires run { IsDigitRun text.now run.old }
+        ensures run { IsDigitRun text.now run.new }
         ensures step { steps.new ≡ steps.old + 1 }
         ensures exactly { IfOk result (λ ends. (k : ℕ) → Contains ends.items k
             ↔ Accepts alphabet.now text.now self.now mask.now i k) }
         ensures ascending { IfOk result (λ ends. IsStrictlyIncreasing ends.items) }
     {
         steps.tick();
-        accepted(alloc, self, text, alphabet, mask, i)
+        accepted(alloc, self, text, alphabet, mask, i, run)
     }
 }

@@ -7,6 +7,7 @@ ghost use Rattle.std.specs.List.Sorted.{IsStrictlyIncreasing};
 ghost use Rattle.ux_alphabet.specs.Letters.{Letters};
 ghost use Rattle.ux_lexical_tables.specs.Accepting.{Accepts, IsAlone};
 ghost use Rattle.ux_lexical_tables.specs.Belonging.{Belongs};
+ghost use Rattle.ux_lexical_tables.specs.Digits.{IsDigitRun};
 ghost use Rattle.ux_lexical_tables.specs.Tables.{Tables};
 ghost use Rattle.ux_mask_table.specs.MaskTables.{AddsRow, AreKnown, AreRows, AreTold, Grows, IsLike, IsMaskTable, IsNumbered, TellsEnds};
 ghost use Rattle.ux_mask_table.specs.Spans.{ArePaired};
@@ -20,7 +21,7 @@ use std::alloc::Global;
 use std::sync::ledger::Ledger;
 use ux_alphabet::Alphabet;
 use ux_base::{Mem, NoMemory, Steps};
-use ux_lexical_tables::LexicalTables;
+use ux_lexical_tables::{DigitRun, LexicalTables};
 use ux_masks::Mask;
 use ux_net::Net;
 use ux_tokens::{Kind, Text};
@@ -47,8 +48,8 @@ pub struct Told<'t> {
 
 impl<'n> MaskTable<'n> {
     /// The table of a net over a text. Each different mask takes one step for each different token, and
-    /// one for each place at which a span of several tokens begins; never more than one a place. A net
-    /// without masks takes no time in the text.
+    /// one for each place at which a span of several tokens begins; never more than one a place. A run of
+    /// digits is gone along once. A net without masks takes no time in the text.
     pub fn fill<L: Ledger>(
         alloc: Global,
         net: &'n Net,
@@ -141,9 +142,10 @@ fn fill_rows<L: Ledger>(
         numbers.new.items (length text.now)) }
 {
     let mut known = unknown_rows(alloc, text.different())?;
+    let mut run = DigitRun::none();
     for place in 0..text.len() {
         let number = row_for(
-            alloc, masks, text, alphabet, applied, rows, &mut known, place, steps,
+            alloc, masks, text, alphabet, applied, rows, &mut known, place, &mut run, steps,
         )?;
         numbers.push(number)?;
     }
@@ -170,14 +172,17 @@ fn row_for<L: Ledger>(
     rows: &mut Rows,
     known: &mut Vec<Option<u32>>,
     place: usize,
+    run: &mut DigitRun,
     steps: &mut Steps<L>,
 ) -> Mem<u32>
     requires belongs { Belongs alphabet.now text.now applied.now }
     requires inside { place < length text.now }
+    requires run { IsDigitRun text.now run.old }
     requires paired { ArePaired rows.old.spans }
     requires rows { AreRows alphabet.now text.now applied.now (masks_in masks.now)
         rows.old.spans rows.old.list.items }
     requires known { AreKnown text.now applied.now rows.old.list.items known.old.items }
+    ensures run { IsDigitRun text.now run.new }
     ensures steps { steps.new ≤ steps.old + length (masks_in masks.now) }
     ensures paired { OnOk result (ArePaired rows.new.spans) }
     ensures rows { OnOk result (AreRows alphabet.now text.now applied.now (masks_in masks.now)
@@ -188,14 +193,18 @@ fn row_for<L: Ledger>(
         IsLike alphabet.now text.now applied.now rows.new.list.items number place) }
 {
     if !is_alone(text, applied, place) {
-        let number = own_row(alloc, masks, text, alphabet, applied, rows, place, steps)?;
+        let number = own_row(
+            alloc, masks, text, alphabet, applied, rows, place, run, steps,
+        )?;
         return Ok(number);
     }
     let token = text.number(place) as usize;
     if let Some(number) = known_row(text, rows.list.as_slice(), known.as_slice(), token, place) {
         return Ok(number);
     }
-    let number = own_row(alloc, masks, text, alphabet, applied, rows, place, steps)?;
+    let number = own_row(
+        alloc, masks, text, alphabet, applied, rows, place, run, steps,
+    )?;
     if let Some(first) = known.get_mut(token) {
         *first = Some(number);
     }
@@ -212,13 +221,16 @@ fn own_row<L: Ledger>(
     applied: &LexicalTables,
     rows: &mut Rows,
     place: usize,
+    run: &mut DigitRun,
     steps: &mut Steps<L>,
 ) -> Mem<u32>
     requires belongs { Belongs alphabet.now text.now applied.now }
     requires inside { place < length text.now }
+    requires run { IsDigitRun text.now run.old }
     requires paired { ArePaired rows.old.spans }
     requires rows { AreRows alphabet.now text.now applied.now (masks_in masks.now)
         rows.old.spans rows.old.list.items }
+    ensures run { IsDigitRun text.now run.new }
     ensures steps { steps.new ≤ steps.old + length (masks_in masks.now) }
     ensures paired { OnOk result (ArePaired rows.new.spans) }
     ensures rows { OnOk result (AreRows alphabet.now text.now applied.now (masks_in masks.now)
@@ -229,7 +241,7 @@ fn own_row<L: Ledger>(
     let Ok(number) = u32::try_from(rows.list.len()) else {
         return Err(NoMemory);
     };
-    rows.add(alloc, masks, text, alphabet, applied, place, steps)?;
+    rows.add(alloc, masks, text, alphabet, applied, place, run, steps)?;
     Ok(number)
 }
 

@@ -2,6 +2,7 @@
 
 ghost use Rattle.std.specs.Prelude.{◌≡◌, ◌+◌, ◌<◌, ◌≤◌, ◌++◌, ◌∷◌, [], IfOk, OnOk, length};
 ghost use Rattle.ux_lexical_tables.specs.Belonging.{Belongs};
+ghost use Rattle.ux_lexical_tables.specs.Digits.{IsDigitRun};
 ghost use Rattle.ux_mask_table.specs.MaskTables.{AddsRow, AreRows, IsEndOf};
 ghost use Rattle.ux_mask_table.specs.Spans.{AreKept, ArePaired, IsRow};
 ghost use Rattle.ux_net.specs.Masks.{masks_in};
@@ -12,7 +13,7 @@ use std::alloc::Global;
 use std::sync::ledger::Ledger;
 use ux_alphabet::Alphabet;
 use ux_base::{Mem, Steps};
-use ux_lexical_tables::LexicalTables;
+use ux_lexical_tables::{DigitRun, LexicalTables};
 use ux_masks::Mask;
 use ux_tokens::Text;
 
@@ -55,13 +56,16 @@ impl Rows {
         alphabet: &Alphabet,
         applied: &LexicalTables,
         place: usize,
+        run: &mut DigitRun,
         steps: &mut Steps<L>,
     ) -> Mem<()>
         requires belongs { Belongs alphabet.now text.now applied.now }
         requires inside { place < length text.now }
+        requires run { IsDigitRun text.now run.old }
         requires paired { ArePaired self.old.spans }
         requires rows { AreRows alphabet.now text.now applied.now (masks_in masks.now)
             self.old.spans self.old.list.items }
+        ensures run { IsDigitRun text.now run.new }
         ensures steps { steps.new ≤ steps.old + length (masks_in masks.now) }
         ensures paired { OnOk result (ArePaired self.new.spans) }
         ensures rows { OnOk result (AreRows alphabet.now text.now applied.now
@@ -70,7 +74,7 @@ impl Rows {
     {
         let spans = self
             .spans
-            .try_masks(alloc, masks, text, alphabet, applied, place, steps)?;
+            .try_masks(alloc, masks, text, alphabet, applied, place, run, steps)?;
         self.list.push(Row { place, spans })?;
         Ok(())
     }
@@ -86,11 +90,14 @@ impl Spans {
         alphabet: &Alphabet,
         applied: &LexicalTables,
         place: usize,
+        run: &mut DigitRun,
         steps: &mut Steps<L>,
     ) -> Mem<Stretch>
         requires belongs { Belongs alphabet.now text.now applied.now }
         requires inside { place < length text.now }
+        requires run { IsDigitRun text.now run.old }
         requires paired { ArePaired self.old }
+        ensures run { IsDigitRun text.now run.new }
         ensures steps { steps.new ≤ steps.old + length (masks_in masks.now) }
         ensures kept { OnOk result (AreKept self.old self.new) }
         ensures paired { OnOk result (ArePaired self.new) }
@@ -101,7 +108,7 @@ impl Spans {
         let from = self.numbers.len();
         let mut number = 0;
         for mask in masks.as_slice() {
-            let ends = applied.ends(alloc, text, alphabet, mask, place, steps)?;
+            let ends = applied.ends(alloc, text, alphabet, mask, place, run, steps)?;
             self.push_all(number, &ends)?;
             number += 1;
         }

@@ -16,6 +16,7 @@ loop-place-preserved g c =
           c.loop-place.steps c.row_for.new.steps inv.steps c.row_for.ensures.steps;
       long = omega (arith, len, long);
       paired = told.paired;
+      run = c.row_for.ensures.run;
       rows = told.rows;
       known = told.known;
       told = told_more c.args.alphabet.now c.args.text.now c.args.applied.now

@@ -24,6 +24,7 @@ loop-mask-preserved g c =
           (kept_more old new c.loop-mask.number c.deref.result.now inv.paired put.numbers put.ends);
       paired = paired_more old new c.loop-mask.number c.deref.result.now inv.paired put.numbers
           put.ends;
+      run = c.ends.ensures.run;
       row = tried_more c.args.alphabet.now c.args.text.now c.args.applied.now
           (masks_in c.args.masks.now) old new c.len-from.result c.args.place c.loop-mask.number
           c.loop-mask.mask-index c.mask-item.result.now c.in_ok-ends.ends.items c.deref.result.now

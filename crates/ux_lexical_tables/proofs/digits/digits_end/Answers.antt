@@ -1,7 +1,7 @@
 use Rattle.std.proofs.Common.{arith, below_more, ◌≤◌}
 use Rattle.std.proofs.lemmas.Option.{slice_get_within}
 use Rattle.ux_lexical_tables.specs.Accepting.{IsDigitAt}
-use Rattle.ux_lexical_tables.proofs.ends.digits_end.Goals as goal
+use Rattle.ux_lexical_tables.proofs.digits.digits_end.Goals as goal
 
 pub loop-place-init : goal.loop-place-init
 loop-place-init c = λ k from below. absurd (omega (arith, from, below))
