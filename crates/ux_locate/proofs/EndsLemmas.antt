@@ -44,11 +44,11 @@ module _ (ends : List ℕ) (increasing : IsStrictlyIncreasing ends) where
       below_from_sorted ends i j 0 (sorted_from_strictly_increasing ends increasing) lt within
 
   -- each end is that of a place
-  at : (x : ℕ) (c : Contains ends x) → get_or ends c.0 0 ≡ x
+  pub at : (x : ℕ) (c : Contains ends x) → get_or ends c.0 0 ≡ x
   at x (i, lt, is) = get_or_default ends i 0 x lt ∙ is
 
   -- of two ends in order the one that stands first is no later
-  no_later : (i j : ℕ) → i ≤ j → j < length ends → get_or ends i 0 ≤ get_or ends j 0
+  pub no_later : (i j : ℕ) → i ≤ j → j < length ends → get_or ends i 0 ≤ get_or ends j 0
   no_later i j le within = elim (leb_tells j i) [
     | inl same ↦
         let e : i ≡ j = omega (arith, le, same.1) in

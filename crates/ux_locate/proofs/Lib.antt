@@ -4,6 +4,7 @@ pub mod BestLemmas
 pub mod ByChartLemmas
 pub mod CutLaws
 pub mod EndsLemmas
+pub mod FirstEndsLemmas
 pub mod FoundLemmas
 pub mod FreshLemmas
 pub mod HitLemmas

@@ -17,7 +17,7 @@ use Rattle.ux_outputs.specs.Rendering.{text_between}
 use Rattle.ux_outputs.proofs.TakesLemmas.{hit_between, renders_uncut}
 use Rattle.ux_walk.specs.Ends.{AreEnds}
 use Rattle.ux_walk.specs.Settings.{Setting}
-use Rattle.ux_locate.specs.Finding.{IsFound, IsSpanFrom, span_to}
+use Rattle.ux_locate.specs.Finding.{EndsAt, IsFound, IsSpanFrom, span_to}
 use Rattle.ux_locate.specs.Hits.{IsHit, IsStart}
 use Rattle.ux_locate.specs.Index.{IsKeptListing, StandsBefore}
 use Rattle.ux_locate.specs.Keeping.{AreBest, AreKept, IsAsGood, IsKept, first_in, first_of, last_in, last_of}
@@ -62,40 +62,34 @@ module _ (setting : Setting) (start : ℕ) where
   spans_good Shortest a b la lb good = omega (arith, good, la, lb)
 
   -- the spans to the best ends are the best spans from the start
-  pub spans_best : (policy : Policy) (ends best : List ℕ) → AreEnds setting start ends →
-      AreBest policy (λ end. end) (Contains ends) best →
+  pub spans_best : (policy : Policy) (best : List ℕ) →
+      AreBest policy (λ end. end) (EndsAt setting start) best →
       AreBest policy last_in (IsSpanFrom setting start) (map (span_to start) best)
-  spans_best policy ends best are bests =
-      let later : (e : ℕ) → Contains ends e → start < e = λ e c. ((are.exactly e).0 c).0 in
-      record {
-        exactly = λ span. (
-          λ c.
-              let o = origin (span_to start) best span c in
-              let f = (bests.exactly o.0).0 o.1 in
-              subst (λ (s : Span). IsSpanFrom setting start s × ((other : Span) →
-              IsSpanFrom setting start other → IsAsGood policy s.last other.last)) (sym o.2) (
-                (o.0, (are.exactly o.0).0 f.0, refl),
-                λ other from.
-                    let there = (are.exactly from.0).1 from.1 in
-                    subst (λ (s : Span). IsAsGood policy (o.0 - 1) s.last) (sym from.2)
-                    (ends_good policy o.0 from.0 (later o.0 f.0) from.1.0 (f.1 from.0 there)),
-              ),
-          λ f.
-              let end = f.0.0 in
-              let here = (are.exactly end).1 f.0.1 in
-              subst (Contains (map (span_to start) best)) (sym f.0.2)
-              (mapped (span_to start) best end ((bests.exactly end).1 (
-                here,
-                λ other c.
-                    let good = f.1 (span_to start other) (other, (are.exactly other).0 c, refl) in
-                    spans_good policy end other (later end here) (later other c)
-                    (subst (λ (s : Span). IsAsGood policy s.last (other - 1)) f.0.2 good),
-              ))),
-        );
-        some = λ span f.
-            let y = bests.some f.0 ((are.exactly f.0).1 f.1) in
-            (span_to start y.0, mapped (span_to start) best y.0 y.1);
-      }
+  spans_best policy best bests = record {
+    exactly = λ span. (
+      λ c.
+          let o = origin (span_to start) best span c in
+          let f = (bests.exactly o.0).0 o.1 in
+          subst (λ (s : Span). IsSpanFrom setting start s × ((other : Span) →
+          IsSpanFrom setting start other → IsAsGood policy s.last other.last)) (sym o.2) (
+            (o.0, f.0, refl),
+            λ other from. subst (λ (s : Span). IsAsGood policy (o.0 - 1) s.last) (sym from.2)
+                (ends_good policy o.0 from.0 f.0.0 from.1.0 (f.1 from.0 from.1)),
+          ),
+      λ f.
+          let end = f.0.0 in
+          subst (Contains (map (span_to start) best)) (sym f.0.2)
+          (mapped (span_to start) best end ((bests.exactly end).1 (
+            f.0.1,
+            λ other is.
+                let good = f.1 (span_to start other) (other, is, refl) in
+                spans_good policy end other f.0.1.0 is.0
+                (subst (λ (s : Span). IsAsGood policy s.last (other - 1)) f.0.2 good),
+          ))),
+    );
+    some = λ span f.
+        let y = bests.some f.0 f.1 in (span_to start y.0, mapped (span_to start) best y.0 y.1);
+  }
 
   -- where there are no ends no span comes from the start
   pub no_spans : AreEnds setting start [] → (span : Span) → IsSpanFrom setting start span → ⊥

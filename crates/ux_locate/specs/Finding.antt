@@ -1,5 +1,8 @@
 -- What a search finds, start by start. Inner: the crate's own functions alone speak of it.
-use Rattle.std.specs.Prelude.{◌≡◌, ◌↔◌, ℕ, ◌-◌, ◌<◌, List, Some, Contains}
+use Rattle.std.specs.Prelude.{◌≡◌, ◌↔◌, ℕ, ◌-◌, ◌<◌, ◌≤◌, List, Some, Contains}
+use Rattle.std.specs.List.Sorted.{IsStrictlyIncreasing}
+use Rattle.ux_base.specs.declared.settings.Policy.{Policy}
+use Rattle.ux_base.specs.declared.settings.Policy.TheVariants.{Shortest, Longest, All}
 use Rattle.ux_mask_table.specs.MaskedTexts.{HasTable}
 use Rattle.ux_tokens.specs.Numbers.{different_texts}
 use Rattle.ux_tokens.specs.Tokens.{Token}
@@ -7,9 +10,11 @@ use Rattle.ux_outputs.specs.declared.event.Event.{Event}
 use Rattle.ux_outputs.specs.declared.hit.Hit.{Hit}
 use Rattle.ux_outputs.specs.declared.span.Span.{Span}
 use Rattle.ux_outputs.specs.Rendering.{render}
+use Rattle.ux_walk.specs.Ends.{AreEnds}
 use Rattle.ux_walk.specs.declared.look_ups.LookUps.{LookUps}
 use Rattle.ux_walk.specs.LookUps.{AreSound}
 use Rattle.ux_walk.specs.Settings.{Derives, Setting, masked_setting}
+use Rattle.ux_walker.specs.FirstEnds.{IsFirstEnd}
 use Rattle.ux_locate.specs.declared.search.Search.{Search}
 use Rattle.ux_locate.specs.Hits.{IsStart}
 
@@ -21,6 +26,19 @@ span_to start end = record { first = start; last = end - 1 }
 abbrev pub EndsAt : Setting → (start end : ℕ) → Type 0
 EndsAt setting start end =
     (start < end) × (events : List Event) × Derives setting start end events
+
+-- what a policy asks of the ends: where it keeps the shortest hits, the first one
+abbrev pub AreEndsFor : Policy → Setting → (start : ℕ) → List ℕ → Type 0
+AreEndsFor Shortest setting start ends = IsFirstEnd setting start ends
+AreEndsFor Longest setting start ends = AreEnds setting start ends
+AreEndsFor All setting start ends = AreEnds setting start ends
+
+-- of the positions after a start this is the first one, if there is any
+pub record IsFirstAfter (positions : List ℕ) (start : ℕ) (first : List ℕ) : Type 0 where
+  pub exactly : (e : ℕ) → Contains first e ↔ (Contains positions e × (start < e)
+      × ((other : ℕ) → Contains positions other → start < other → e ≤ other))
+  pub some : (e : ℕ) → Contains positions e → start < e → (other : ℕ) × Contains first other
+  pub ascending : IsStrictlyIncreasing first
 
 -- the span is that from the start up to the end of a derivation
 abbrev pub IsSpanFrom : Setting → (start : ℕ) → Span → Type 0

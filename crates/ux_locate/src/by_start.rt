@@ -18,7 +18,7 @@ use crate::expanding::{has_calls, suits_walks};
 use crate::from_start::best_hits;
 use crate::keeping::{hits_reach, is_reached};
 use crate::search::Search;
-use crate::walks::{find_ends, may_find};
+use crate::walks::{find_first_end, may_find};
 use std::alloc::Global;
 use ux_base::Mem;
 use ux_outputs::Hit;
@@ -135,7 +135,7 @@ fn hits_from_starts<'t, E: Ends, C: Contexts>(
         if !may_find(finder, text, start) {
             continue;
         }
-        find_ends(alloc, finder, start, &mut ends)?;
+        find_first_end(alloc, finder, start, &mut ends)?;
         if ends.is_empty() {
             continue;
         }

@@ -6,6 +6,8 @@ ghost use Rattle.ux_meaning.specs.Texts.{IsSpaceAt};
 ghost use Rattle.ux_text_chart.specs.TextCharts.{IsTextChart, chart_setting};
 ghost use Rattle.ux_walk.specs.Ends.{AreEnds};
 ghost use Rattle.ux_walk.specs.Settings.{Derives, Setting};
+ghost use Rattle.ux_walker.specs.FirstEnds.{IsFirstEnd};
+ghost use Rattle.ux_locate.specs.Finding.{IsFirstAfter};
 ghost use Rattle.ux_outputs.specs.declared.event.Event.{Event};
 
 use std::alloc::Global;
@@ -29,6 +31,12 @@ pub trait Ends {
         requires inside { start ≤ length (setting self.now).tokens }
         ensures same { setting self.new ≡ setting self.old }
         ensures ends { OnOk result (AreEnds (setting self.old) start ends.new.items) };
+
+    /// Lets `ends` be the first of these positions alone, if there is any.
+    fn first(&mut self, alloc: Global, start: usize, ends: &mut Vec<usize>) -> Mem<()>
+        requires inside { start ≤ length (setting self.now).tokens }
+        ensures same { setting self.new ≡ setting self.old }
+        ensures first { OnOk result (IsFirstEnd (setting self.old) start ends.new.items) };
 }
 
 impl<'a> Ends for Walker<'a> {
@@ -40,6 +48,10 @@ impl<'a> Ends for Walker<'a> {
 
     fn list(&mut self, alloc: Global, start: usize, ends: &mut Vec<usize>) -> Mem<()> {
         self.ends_from(alloc, start, ends)
+    }
+
+    fn first(&mut self, alloc: Global, start: usize, ends: &mut Vec<usize>) -> Mem<()> {
+        self.first_end_from(alloc, start, ends)
     }
 }
 
@@ -97,6 +109,26 @@ impl<'a> Ends for ChartEnds<'a> {
         keep_after(ends, start);
         Ok(())
     }
+
+    fn first(&mut self, alloc: Global, start: usize, ends: &mut Vec<usize>) -> Mem<()> {
+        ends.clear();
+        push_first_after(self.at(start), start, ends)
+    }
+}
+
+/// Adds the first of the positions that is after a start, if there is any.
+fn push_first_after(positions: &[usize], start: usize, ends: &mut Vec<usize>) -> Mem<()>
+    requires ascending { IsStrictlyIncreasing positions.now }
+    requires none { ends.old.items ≡ [] }
+    ensures { OnOk result (IsFirstAfter positions.now start ends.new.items) }
+{
+    for position in positions {
+        if start < *position {
+            ends.push(*position)?;
+            return Ok(());
+        }
+    }
+    Ok(())
 }
 
 /// Keeps the positions after a start, in their order.

@@ -2,7 +2,8 @@
 //!
 //! The net has no cuts, so every derivation renders exactly the tokens up to its end, and each end is a
 //! hit. Ends come in order, so the policy keeps the last or the first of them, and starts inside a kept
-//! hit are passed over. No text is copied, and none is kept.
+//! hit are passed over. Where the first is kept, no walk goes on behind it. No text is copied, and none is
+//! kept.
 
 ghost use Rattle.std.specs.Prelude.{◌≡◌, ◌<◌, ◌≤◌, ◌+◌, ◌*◌, ◌++◌, ℕ, All, Contains, IfOk, OnOk, length, map};
 ghost use Rattle.ux_base.specs.declared.settings.Mode.TheVariants.{Ignore};
@@ -24,7 +25,7 @@ use crate::ends::{ChartEnds, Ends};
 use crate::expanding::suits_walks;
 use crate::keeping::{is_reached, spans_reach};
 use crate::sorting::sort_spans;
-use crate::walks::{find_ends, may_find};
+use crate::walks::{find_ends_for, may_find};
 use std::alloc::Global;
 use std::sync::ledger::Ledger;
 use ux_alphabet::Alphabet;
@@ -146,7 +147,7 @@ fn spans_from_starts<E: Ends>(
         if !may_find(finder, text, start) {
             continue;
         }
-        find_ends(alloc, finder, start, &mut ends)?;
+        find_ends_for(alloc, finder, policy, start, &mut ends)?;
         push_spans(start, best_ends(policy, ends.as_slice()), &mut spans)?;
     }
     Ok(spans)

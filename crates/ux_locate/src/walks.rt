@@ -1,12 +1,15 @@
 //! From which starts there may be hits, and where derivations from them end.
 
 ghost use Rattle.std.specs.Prelude.{◌≡◌, ◌<◌, ◌↔◌, [], true, false, IsTrue, OnOk, length};
+ghost use Rattle.std.specs.List.Sorted.{IsStrictlyIncreasing};
 ghost use Rattle.ux_walk.specs.Ends.{AreEnds};
+ghost use Rattle.ux_walker.specs.FirstEnds.{IsFirstEnd};
+ghost use Rattle.ux_locate.specs.Finding.{AreEndsFor};
 ghost use Rattle.ux_locate.specs.Hits.{IsStart};
 
 use crate::ends::Ends;
 use std::alloc::Global;
-use ux_base::Mem;
+use ux_base::{Mem, Policy};
 use ux_tokens::{Kind, Text};
 
 /// Whether a search begins at the position, and a derivation from there may end.
@@ -31,8 +34,29 @@ pub fn is_start(text: &Text, position: usize) -> bool
     text.kind(position) != Kind::Space
 }
 
-/// Lets `ends` be the positions after the start at which a derivation from it ends, in order.
-pub fn find_ends<E: Ends>(
+/// Lets `ends` be what a policy asks of the ends of the derivations from a start, in order: where it
+/// keeps the shortest hits, the first one will do.
+pub fn find_ends_for<E: Ends>(
+    alloc: Global,
+    finder: &mut E,
+    policy: Policy,
+    start: usize,
+    ends: &mut Vec<usize>,
+) -> Mem<()>
+    requires { IsStart (E.setting finder.now).tokens start }
+    ensures same { E.setting finder.new ≡ E.setting finder.old }
+    ensures ends { OnOk result (AreEndsFor policy (E.setting finder.old) start ends.new.items) }
+    ensures ascending { OnOk result (IsStrictlyIncreasing ends.new.items) }
+{
+    match policy {
+        Policy::Shortest => finder.first(alloc, start, ends),
+        Policy::Longest | Policy::All => finder.list(alloc, start, ends),
+    }
+}
+
+/// Lets `ends` be the first position after the start at which a derivation from it ends, if there is
+/// any.
+pub fn find_first_end<E: Ends>(
     alloc: Global,
     finder: &mut E,
     start: usize,
@@ -40,7 +64,7 @@ pub fn find_ends<E: Ends>(
 ) -> Mem<()>
     requires { IsStart (E.setting finder.now).tokens start }
     ensures same { E.setting finder.new ≡ E.setting finder.old }
-    ensures ends { OnOk result (AreEnds (E.setting finder.old) start ends.new.items) }
+    ensures first { OnOk result (IsFirstEnd (E.setting finder.old) start ends.new.items) }
 {
-    finder.list(alloc, start, ends)
+    finder.first(alloc, start, ends)
 }

@@ -1,3 +1,4 @@
 pub mod Agendas
+pub mod FirstEnds
 pub mod Walking
 pub mod Walkers

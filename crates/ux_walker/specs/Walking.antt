@@ -52,3 +52,10 @@ pub record IsUnderWay (known : Known) (start : ℕ) (visits : List Visit) (ends 
     pub later : (e : ℕ) → Contains ends e → start < e
     pub ascending : IsStrictlyIncreasing ends
     pub before : (e : ℕ) (visit : Visit) → Contains ends e → Contains visits visit → e < visit.at
+
+-- The walk from the start came to its first end, and to no other; or to none, and no visit is left.
+pub record IsFirstWalk (known : Known) (start : ℕ) (ends : List ℕ) : Type 0 where
+  pub visits : List Visit
+  pub way : IsUnderWay known start visits ends
+  pub one : length ends ≤ 1
+  pub all : ends ≡ [] → visits ≡ []

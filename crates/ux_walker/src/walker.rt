@@ -9,9 +9,10 @@ ghost use Rattle.ux_meaning.specs.Texts.{IsSpaceAt};
 ghost use Rattle.ux_walk.specs.Ends.{AreEnds};
 ghost use Rattle.ux_mask_table.specs.MaskedTexts.{HasTable};
 ghost use Rattle.ux_walk.specs.Settings.{masked_setting};
+ghost use Rattle.ux_walker.specs.FirstEnds.{IsFirstEnd};
 
 use crate::agenda::Agenda;
-use crate::walking::walk;
+use crate::walking::{walk, walk_to_first};
 use std::alloc::Global;
 use std::marker::Model;
 use ux_automaton::Automaton;
@@ -84,6 +85,31 @@ impl<'a> Walker<'a> {
         self.is_spent = true;
         self.masked.net.is_measured();
         walk(
+            alloc,
+            self.masked.text,
+            &mut self.automaton,
+            &mut self.agenda,
+            start,
+            ends,
+        )?;
+        self.is_spent = false;
+        Ok(())
+    }
+
+    /// Lets `ends` be the first of these positions alone, if there is any. Takes a step of the automaton
+    /// for each position up to it, and memory for fronts to which no walk came before. Where memory ran
+    /// out once, it does so again.
+    pub fn first_end_from(&mut self, alloc: Global, start: usize, ends: &mut Vec<usize>) -> Mem<()>
+        requires inside { start ≤ length self.now.tokens }
+        ensures same { self.new ≡ self.old }
+        ensures first { OnOk result (IsFirstEnd self.old start ends.new.items) }
+    {
+        if self.is_spent {
+            return Err(NoMemory);
+        }
+        self.is_spent = true;
+        self.masked.net.is_measured();
+        walk_to_first(
             alloc,
             self.masked.text,
             &mut self.automaton,

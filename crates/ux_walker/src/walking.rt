@@ -1,4 +1,4 @@
-//! A walk from a start to all its ends.
+//! A walk from a start to all its ends, or to the first of them.
 //!
 //! The least position of the agenda is taken, and the automaton tells where a walk goes on from the
 //! front there: each of these lies further on, so every position is taken once. An end is noted when
@@ -7,7 +7,7 @@
 ghost use Rattle.std.specs.Prelude.{◌≡◌, ◌⊎◌, ◌↔◌, ◌+◌, ◌<◌, ◌≤◌, ◌++◌, ◌∷◌, [], ℕ, List, Contains, IsTrue, OnOk, length};
 ghost use Rattle.ux_outputs.specs.Rendering.{skip as skip_of};
 ghost use Rattle.ux_automaton.specs.Fronts.{Keeps};
-ghost use Rattle.ux_walker.specs.Walking.{AreReady, FrontLeads, IsUnderWay, LandingsLead, MayGoOn, Notes, VisitsLead};
+ghost use Rattle.ux_walker.specs.Walking.{AreReady, FrontLeads, IsFirstWalk, IsUnderWay, LandingsLead, MayGoOn, Notes, VisitsLead};
 
 use crate::agenda::{Agenda, Visit};
 use std::alloc::Global;
@@ -37,6 +37,30 @@ pub fn walk(
     Ok(())
 }
 
+/// Lets `ends` be the first position after the start to which walks from it lead, if there is any.
+pub fn walk_to_first(
+    alloc: Global,
+    text: &Text,
+    automaton: &mut Automaton,
+    agenda: &mut Agenda,
+    start: usize,
+    ends: &mut Vec<usize>,
+) -> Mem<()>
+    requires text { automaton.now.setting.tokens ≡ text.now }
+    requires inside { start ≤ length text.now }
+    ensures same { OnOk result (automaton.new.setting ≡ automaton.old.setting) }
+    ensures walked { OnOk result (IsFirstWalk automaton.new start ends.new.items) }
+{
+    begin(alloc, automaton, agenda, start, ends)?;
+    while let Some(visit) = agenda.take_least() {
+        go_on(alloc, text, automaton, agenda, start, visit, ends)?;
+        if !ends.is_empty() {
+            return Ok(());
+        }
+    }
+    Ok(())
+}
+
 /// Lets the front in which walks begin wait at the start alone, with no end noted.
 fn begin(
     alloc: Global,
@@ -48,6 +72,7 @@ fn begin(
     requires { start ≤ length automaton.now.setting.tokens }
     ensures same { OnOk result (automaton.new.setting ≡ automaton.old.setting) }
     ensures begun { OnOk result (IsUnderWay automaton.new start agenda.new ends.new.items) }
+    ensures none { OnOk result (ends.new.items ≡ []) }
 {
     ends.clear();
     agenda.clear();
@@ -72,6 +97,8 @@ fn go_on(
     ensures same { OnOk result (automaton.new.setting ≡ automaton.old.setting) }
     ensures under_way { OnOk result (IsUnderWay automaton.new start agenda.new ends.new.items) }
     ensures further { OnOk result (AreReady automaton.new (visit.at + 1) agenda.new) }
+    ensures noted { OnOk result ((ends.new.items ≡ ends.old.items)
+        ⊎ (ends.new.items ≡ ends.old.items ++ visit.at ∷ [])) }
 {
     let step = automaton.step(alloc, visit.front, visit.at)?;
     note_end(start, visit.at, &step, ends)?;

@@ -4,9 +4,11 @@ use Rattle.std.proofs.lemmas.List.{nil_from_length}
 use Rattle.ux_tokens.specs.Tokens.{Token}
 use Rattle.ux_walk.specs.Ends.{AreEnds}
 use Rattle.ux_walk.specs.Settings.{Setting}
+use Rattle.ux_walker.specs.FirstEnds.{IsFirstEnd}
 use Rattle.ux_locate.specs.Finding.{IsFoundBefore, IsHitFrom, setting_in}
 use Rattle.ux_locate.specs.Hits.{IsStart}
 use Rattle.ux_locate.specs.Keeping.{AreKept, first_of, last_of}
+use Rattle.ux_locate.proofs.FirstEndsLemmas.{first_none}
 use Rattle.ux_locate.proofs.HitLemmas.{hit_begins, no_hits}
 use Rattle.ux_locate.proofs.KeepingLemmas.{told_reach}
 use Rattle.ux_locate.proofs.StartLemmas.{kept_all, kept_inside, kept_next, kept_skip, kept_start}
@@ -25,8 +27,8 @@ loop-start-init g c =
           (λ start. hit_begins search start c.requires.masks c.requires.uncut));
     }
 
-pub find_ends-requires : goal.find_ends-requires
-find_ends-requires g c =
+pub find_first_end-requires : goal.find_first_end-requires
+find_first_end-requires g c =
     let text = ap (λ (s : Setting). s.tokens) c.loop-start.invariant.same in
     subst (λ (tokens : List Token). IsStart tokens c.loop-start.start) (sym text)
     (c.may_find.ensures.starts c.if-not-may_find.false)
@@ -65,19 +67,20 @@ pub loop-start-preserved-then-is_empty : goal.loop-start-preserved-then-is_empty
 loop-start-preserved-then-is_empty g c =
     let search = c.args.search.now in
     let start = c.loop-start.start in
-    let ends = c.find_ends.new.ends in
+    let ends = c.find_first_end.new.ends in
     let none = nil_from_length ends.items
     (sym ends.ok.0 ∙ (Decides-eqb ends.len 0).0 (sym c.if-is_empty.ensures)) in
-    let are = subst (λ (s : Setting). AreEnds s start ends.items)
-    c.loop-start.invariant.same c.in_ok-find_ends.ensures.ends in
+    let first = subst (λ (s : Setting). IsFirstEnd s start ends.items)
+    c.loop-start.invariant.same c.in_ok-find_first_end.ensures.first in
     record {
-      same = c.find_ends.ensures.same ∙ c.loop-start.invariant.same;
+      same = c.find_first_end.ensures.same ∙ c.loop-start.invariant.same;
       kept = c.loop-start.invariant.kept;
       hits = kept_skip search.policy first_of last_of search.masked.now.text.now (IsHitFrom search)
           (λ start. hit_begins search start c.requires.masks c.requires.uncut)
           start c.loop-start.hits.items c.loop-start.invariant.hits
           (λ starts. no_hits search start c.requires.masks
-          (subst (AreEnds (setting_in search) start) none are) starts);
+          (first_none (setting_in search) start
+          (subst (IsFirstEnd (setting_in search) start) none first)) starts);
     }
 
 pub loop-start-preserved : goal.loop-start-preserved
@@ -89,7 +92,7 @@ loop-start-preserved g c =
     start c.is_reached.result c.is_reached.ensures c.hits_reach.ensures
     c.as_slice.ensures.value in
     record {
-      same = c.find_ends.ensures.same ∙ c.loop-start.invariant.same;
+      same = c.find_first_end.ensures.same ∙ c.loop-start.invariant.same;
       kept = c.best_hits.ensures.kept;
       hits = subst (AreKept search.policy first_of last_of
           (IsFoundBefore search.masked.now.text.now (IsHitFrom search) (start + 1)))

@@ -5,9 +5,10 @@ use Rattle.ux_outputs.specs.declared.span.Span.{Span}
 use Rattle.ux_tokens.specs.Tokens.{Token}
 use Rattle.ux_walk.specs.Ends.{AreEnds}
 use Rattle.ux_walk.specs.Settings.{Setting}
-use Rattle.ux_locate.specs.Finding.{IsFoundBefore, IsSpanFrom, span_to}
+use Rattle.ux_locate.specs.Finding.{AreEndsFor, IsFoundBefore, IsSpanFrom, span_to}
 use Rattle.ux_locate.specs.Hits.{IsStart}
 use Rattle.ux_locate.specs.Keeping.{AreKept, first_in, last_in}
+use Rattle.ux_locate.proofs.FirstEndsLemmas.{asked_later, best_of_asked}
 use Rattle.ux_locate.proofs.KeepingLemmas.{told_reach}
 use Rattle.ux_locate.proofs.SpanLemmas.{no_spans, span_begins, spans_best}
 use Rattle.ux_locate.proofs.StartLemmas.{kept_all, kept_inside, kept_next, kept_skip, kept_start}
@@ -33,21 +34,22 @@ loop-start-init g c =
           (begins setting tokens c.requires));
     }
 
-pub find_ends-requires : goal.find_ends-requires
-find_ends-requires g c =
+pub find_ends_for-requires : goal.find_ends_for-requires
+find_ends_for-requires g c =
     let text = ap (λ (s : Setting). s.tokens) c.loop-start.invariant.same ∙ c.requires in
     subst (λ (tokens : List Token). IsStart tokens c.loop-start.start) (sym text)
     (c.may_find.ensures.starts c.if-not-may_find.false)
 
 pub best_ends-requires : goal.best_ends-requires
 best_ends-requires g c = subst IsStrictlyIncreasing (sym c.as_slice-in-loop-start.ensures.value)
-    c.in_ok-find_ends.ensures.ends.ascending
+    c.in_ok-find_ends_for.ensures.ascending
 
 pub push_spans-requires : goal.push_spans-requires
 push_spans-requires g c e inside =
-    ((c.in_ok-find_ends.ensures.ends.exactly e).0
+    asked_later (g.E.Ends.setting c.loop-start.finder) c.loop-start.start c.args.policy
+    c.find_ends_for.new.ends.items c.in_ok-find_ends_for.ensures.ends e
     (subst (λ (l : List ℕ). Contains l e) c.as_slice-in-loop-start.ensures.value
-    ((c.best_ends.ensures.exactly e).0 inside).0)).0
+    ((c.best_ends.ensures.exactly e).0 inside).0)
 
 pub loop-start-preserved-then-is_reached : goal.loop-start-preserved-then-is_reached
 loop-start-preserved-then-is_reached g c =
@@ -91,10 +93,10 @@ loop-start-preserved g c =
     c.as_slice.ensures.value in
     let ends = c.as_slice-in-loop-start.result.now in
     let best = c.best_ends.result.now in
-    let are = subst (λ (s : Setting). AreEnds s start c.find_ends.new.ends.items)
-    c.loop-start.invariant.same c.in_ok-find_ends.ensures.ends in
+    let are = subst (λ (s : Setting). AreEndsFor policy s start c.find_ends_for.new.ends.items)
+    c.loop-start.invariant.same c.in_ok-find_ends_for.ensures.ends in
     record {
-      same = c.find_ends.ensures.same ∙ c.loop-start.invariant.same;
+      same = c.find_ends_for.ensures.same ∙ c.loop-start.invariant.same;
       spans = subst (AreKept policy first_in last_in
           (IsFoundBefore tokens (IsSpanFrom setting) (start + 1)))
           (sym c.in_ok-push_spans.ensures)
@@ -102,9 +104,10 @@ loop-start-preserved g c =
           (begins setting tokens c.requires) start spans c.loop-start.invariant.spans
           (told.1 c.if-is_reached.false) (c.may_find.ensures.starts c.if-not-may_find.false)
           (map (span_to start) best)
-          (spans_best setting start policy ends best
-          (subst (AreEnds setting start) (sym c.as_slice-in-loop-start.ensures.value) are)
-          c.best_ends.ensures));
+          (spans_best setting start policy best
+          (best_of_asked setting start policy ends best
+          (subst (AreEndsFor policy setting start) (sym c.as_slice-in-loop-start.ensures.value) are)
+          c.best_ends.ensures)));
     }
 
 pub returns : goal.returns

@@ -1,6 +1,11 @@
 use Rattle.std.proofs.Common.{arith}
 use Rattle.ux_locate.proofs.StartLemmas.{start_within}
-use Rattle.ux_locate.proofs.walks.find_ends.Goals as goal
+use Rattle.ux_locate.proofs.walks.find_ends_for.Goals as goal
+
+pub first-requires : goal.first-requires
+first-requires g c =
+    let low = start_within (g.E.Ends.setting c.args.finder.now).tokens c.args.start c.requires in
+    omega (arith, low)
 
 pub list-requires : goal.list-requires
 list-requires g c =
