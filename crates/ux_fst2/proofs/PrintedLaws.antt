@@ -1,6 +1,6 @@
 -- What is printed for graphs that can be spelled says these graphs again.
-use Rattle.std.proofs.Common.{arith, ◌≡◌, ◌≢◌, ℕ, zero, suc, ◌+◌, ◌-◌, ◌<◌, ◌≤◌, ◌^◌, List, [], ◌∷◌, ◌++◌, Bool, true, false, length, map, get_or, refl, sym, ◌∙◌, ap, subst, inl, inr, Option, Some, None, min}
-use Rattle.std.specs.Prelude.{◌==◌, ◌⊎◌, All, AllPairs, Contains, if◌then◌else◌, slice_get}
+use Rattle.std.proofs.Common.{arith, ◌≡◌, ◌≢◌, ℕ, zero, suc, ◌<◌, ◌^◌, List, [], ◌∷◌, Bool, true, false, length, get_or, refl, sym, ◌∙◌, ap, subst, inl, inr, Option, Some, None, min}
+use Rattle.std.specs.Prelude.{◌==◌, ◌⊎◌, All, AllPairs, if◌then◌else◌}
 use Rattle.std.specs.List.{AllZip, flat_map}
 use Rattle.std.proofs.lemmas.List.Elements.{All-append, All-cons, All-nil}
 use Rattle.std.proofs.lemmas.List.{get_or_default}
@@ -18,7 +18,7 @@ use Rattle.ux_net.specs.declared.state_graph.StateGraph.{StateGraph}
 use Rattle.ux_fst2_file.specs.Fields.{MOST, SPACE, begins_with_field, fields_of, widened}
 use Rattle.ux_fst2_file.specs.Lines.{END, IsEnd}
 use Rattle.ux_fst2_file.proofs.PrintLaws.{printed_says}
-use Rattle.ux_fst2_file.specs.Labels.{FitsEdge, FitsGraph, FitsLabel, FitsState, limits_of}
+use Rattle.ux_fst2_file.specs.Labels.{FitsEdge, FitsLabel, FitsState}
 use Rattle.ux_fst2_file.specs.Printed as file
 use Rattle.ux_fst2_file.specs.declared.labels.Limits.{Limits}
 use Rattle.ux_fst2_file.specs.declared.file.Fst2Label.{Fst2Label}
@@ -30,7 +30,8 @@ use Rattle.ux_fst2_file.specs.declared.file.Fst2File.{Fst2File}
 use Rattle.ux_fst2.specs.Files.{IsEdgeBy, IsFileOf, IsGraphBy, IsPrintedBy, IsStateBy, called, tag_unless, tags_of, tags_of_edge, tags_of_graph, tags_of_state}
 use Rattle.ux_fst2.specs.Reading.{AreGoodBefore, AreTagsWhole, IsSaidBy, SaysGraphs, SaysLabel}
 use Rattle.ux_fst2.specs.Spelling.{AreSpellable, IsSpellableBy, IsSpellableEdge, IsSpellableGraph, IsSpellableState, IsSpellableTag}
-use Rattle.ux_fst2.specs.Tags.{AT, EMPTY_TAG, PERCENT, mark_of, tag_text}
+use Rattle.ux_fst2.specs.Tags.{AT, EMPTY_TAG, IsTag, PERCENT, mark_of, tag_text}
+use Rattle.ux_fst2.proofs.SaidLaws.{said_back}
 use Rattle.ux_fst2.proofs.TagLemmas.{empty_tag_says}
 use Rattle.ux_fst2.proofs.Zips.{zip-length}
 
@@ -63,6 +64,11 @@ is_call labels.ContextEnd graph is = cc
 is_call labels.Cut graph is = cc
 is_call (labels.Call other) graph is = let same : other ≡ graph = cc in ap labels.Call same
 
+-- the tag of a label and an output that some text says does so too
+spelled_says : (label : Label) (output : List Piece) → IsSpellableTag label output →
+    IsTag (tag_text label output) label output
+spelled_says label output is = said_back label output is.said
+
 module _ (tags : List (List ℕ)) (count : ℕ) (fits : count < 65536) where
   -- what the edges of a graph of so many states may name
   abbrev limits : ℕ → Limits
@@ -82,7 +88,7 @@ module _ (tags : List (List ℕ)) (count : ℕ) (fits : count < 65536) where
       let within = slice_get_within tags tag (tag_text label output) printed.1 in (
         omega (arith, printed.2),
         omega (arith, printed.2, within),
-        (tag_text label output, printed.1, spells.says),
+        (tag_text label output, printed.1, spelled_says label output spells),
       )
   label_tells states (Call graph) label output printed inside spelled =
       let nothing : output ≡ [] = rw printed at spelled in
@@ -213,7 +219,7 @@ marked_no_end b text (inr is) end =
 tag_good : (label : Label) (output : List Piece) → IsSpellableTag label output →
     IsGoodText (tag_text label output)
 tag_good label output is = (
-  (label, output, is.says),
+  (label, output, spelled_says label output is),
   record { other = marked_no_end (mark_of label) _ (mark_is label); line = is.line },
 )
 

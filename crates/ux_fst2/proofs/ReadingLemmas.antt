@@ -1,6 +1,6 @@
 -- The tags that were read, and the graphs whose edges bear them.
-use Rattle.std.proofs.Common.{arith, ◌≡◌, ℕ, zero, suc, ◌+◌, ◌<◌, ◌≤◌, List, [], ◌∷◌, ◌++◌, Bool, true, false, length, take, get_or, refl, sym, ◌∙◌, ap, subst, inl, inr}
-use Rattle.std.specs.Prelude.{◌⊎◌, Some, slice_get, All}
+use Rattle.std.proofs.Common.{arith, ◌≡◌, ℕ, ◌+◌, ◌<◌, List, Bool, true, false, length, get_or, refl, sym, ◌∙◌, ap, subst, inl, inr}
+use Rattle.std.specs.Prelude.{Some, slice_get, All}
 use Rattle.std.specs.List.{AllZip}
 use Rattle.std.proofs.lemmas.Bool.{ltb-true, ltb-false}
 use Rattle.std.proofs.Math.Dec.{ltb}
@@ -15,9 +15,9 @@ use Rattle.ux_fst2_file.specs.declared.file.Fst2Edge.{Fst2Edge}
 use Rattle.ux_fst2_file.specs.declared.file.Fst2State.{Fst2State}
 use Rattle.ux_fst2_file.specs.declared.file.Fst2Graph.{Fst2Graph}
 use Rattle.ux_fst2_file.specs.declared.file.Fst2File.{Fst2File}
-use Rattle.ux_fst2_file.specs.Labels.{FitsEdge, FitsLabel, FitsState, LabelsFit, limits_of}
+use Rattle.ux_fst2_file.specs.Labels.{FitsEdge, FitsLabel, LabelsFit, limits_of}
 use Rattle.ux_fst2.specs.Files.{IsEdgeBy, IsGraphBy, IsStateBy}
-use Rattle.ux_fst2.specs.Inner.{IsBorneBy, IsReadTag, NamesTag, NamesTagBy, NamesTags, NamesTagsIn}
+use Rattle.ux_fst2.specs.Inner.{IsBorneBy, IsReadTag, NamesTag, NamesTagBy, NamesTagsIn}
 use Rattle.ux_fst2.specs.Reading.{AreGoodBefore, AreTagsWhole, IsGoodTag, IsSaidBy, StopsAtTag}
 use Rattle.ux_net.specs.declared.state_graph.StateGraph.{StateGraph}
 use Rattle.ux_fst2.specs.declared.tag.Tag as tags

@@ -1,6 +1,6 @@
 -- A text with a backslash before each of some signs, as the reader of the box language goes over it:
 -- it finds nothing free in it, and takes the backslashes off again.
-use Rattle.std.proofs.Common.{arith, ◌≡◌, ℕ, suc, List, [], ◌∷◌, ◌++◌, Bool, true, false, refl, sym, ◌∙◌, ap, length, Option, Some, None, inl, inr}
+use Rattle.std.proofs.Common.{◌≡◌, ℕ, suc, List, [], ◌∷◌, ◌++◌, Bool, true, false, refl, sym, ◌∙◌, ap, length, Option, Some, None, inl, inr}
 use Rattle.std.specs.Prelude.{◌==◌, ◌&&◌, ◌⊎◌, not, if◌then◌else◌}
 use Rattle.std.specs.Option.{option_map}
 use Rattle.std.proofs.lemmas.Bool.{eqb-true, false≢true}
@@ -36,7 +36,7 @@ resolved_plain b text other =
     else b ∷ resolved Language false text) other
 
 -- it is neither a sign at which a part ends nor a backslash that protects
-free_after : (stop : Stop) (b : ℕ) (text : List ℕ) →
+pub free_after : (stop : Stop) (b : ℕ) (text : List ℕ) →
     first_free stop true (b ∷ text) ≡ option_map suc (first_free stop false text)
 free_after stop b text = by (is_stop stop b) (b == BACKSLASH)
   where
@@ -48,14 +48,14 @@ free_after stop b text = by (is_stop stop b) (b == BACKSLASH)
     by false true = refl
     by false false = refl
 
-free_slash : (stop : Stop) (text : List ℕ) →
+pub free_slash : (stop : Stop) (text : List ℕ) →
     first_free stop false (BACKSLASH ∷ text) ≡ option_map suc (first_free stop true text)
 free_slash Mark text = refl
 free_slash Greater text = refl
 free_slash CloseBrace text = refl
 free_slash LiteralEnd text = refl
 
-free_plain : (stop : Stop) (b : ℕ) (text : List ℕ) → is_stop stop b ≡ false →
+pub free_plain : (stop : Stop) (b : ℕ) (text : List ℕ) → is_stop stop b ≡ false →
     (b == BACKSLASH) ≡ false →
     first_free stop false (b ∷ text) ≡ option_map suc (first_free stop false text)
 free_plain stop b text goes other =
@@ -70,7 +70,7 @@ open_after b text = by (b == BACKSLASH)
     by true = refl
     by false = refl
 
-open_plain : (b : ℕ) (text : List ℕ) → (b == BACKSLASH) ≡ false →
+pub open_plain : (b : ℕ) (text : List ℕ) → (b == BACKSLASH) ≡ false →
     ends_open false (b ∷ text) ≡ ends_open false text
 open_plain b text other = ap (λ (q : Bool). ends_open (q && not false) text) other
 

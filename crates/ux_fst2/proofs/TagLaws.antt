@@ -1,10 +1,8 @@
 -- The text of a tag says one label and one output.
-use Rattle.std.proofs.Common.{◌≡◌, ◌⊎◌, inl, inr, ℕ, List, [], ◌∷◌, refl, sym, ap, ◌∙◌, subst}
-use Rattle.ux_grf.specs.declared.graph.GraphKind.TheVariants.{Plain}
+use Rattle.std.proofs.Common.{◌≡◌, inl, inr, ℕ, List, [], ◌∷◌, sym, ap, ◌∙◌, subst}
 use Rattle.ux_grf.specs.declared.item.Item.{Item}
 use Rattle.ux_grf.specs.declared.item.Item.TheVariants as item
 use Rattle.ux_grf.specs.declared.item.Piece.{Piece}
-use Rattle.ux_grf.specs.Content.{IsContent}
 use Rattle.ux_grf.proofs.UniqueLemmas.{IsContent-once}
 use Rattle.ux_masks.proofs.UniqueLaws.{one_mask}
 use Rattle.ux_net.specs.declared.label.Label.{Label}

@@ -1,7 +1,6 @@
 -- What a tag says is what its content says, and a content is read in one way.
-use Rattle.std.proofs.Common.{◌≡◌, ◌≢◌, ℕ, List, [], ◌∷◌, refl, sym, ◌∙◌, ap, subst, inl, inr, Result, Ok, Err, Option, Some, None}
+use Rattle.std.proofs.Common.{◌≡◌, ◌≢◌, ℕ, List, [], ◌∷◌, refl, sym, ap, subst, inl, inr, Result, Ok, Err, Option, Some, None}
 use Rattle.std.specs.Prelude.{IfOk, MatchOption, codes}
-use Rattle.std.proofs.lemmas.Bool.{eqb-true}
 use Rattle.ux_grf.specs.declared.graph.GraphKind.TheVariants.{Plain}
 use Rattle.ux_grf.specs.declared.content.Content.{Content}
 use Rattle.ux_grf.specs.declared.item.Item.{Item}
@@ -11,15 +10,12 @@ use Rattle.ux_grf.specs.declared.error.GrfError.TheVariants.{NoHeader, BadCount,
 use Rattle.ux_grf.specs.Content.{IsContent, IsOnly, RefusesContent}
 use Rattle.ux_grf.proofs.UniqueLemmas.{IsContent-IsFault}
 use Rattle.ux_net.specs.declared.label.Label.{Label}
-use Rattle.ux_fst2.specs.Inner.{IsMarked}
 use Rattle.ux_grf.specs.Items.{item_then, line_over}
 use Rattle.ux_grf.specs.Lines.{last_line, of_items}
 use Rattle.ux_grf.specs.Output.{chars_only, pieces_put}
 use Rattle.ux_grf.specs.declared.item.Item.TheVariants as item
 use Rattle.ux_net.specs.declared.label.Label.TheVariants.{Empty}
 use Rattle.ux_fst2.specs.Tags.{EMPTY_TAG, PERCENT, AT, IsExactOf, IsItemOf, IsTag, IsTagContent}
-use Rattle.ux_fst2.specs.declared.tag.Mark.{Mark}
-use Rattle.ux_fst2.specs.declared.tag.Mark.TheVariants as marks
 
 -- what holds of an answer, where there is one, holds in other words
 pub said_lift : {A E : Type 0} (r : Result (Option A) E) (N M : Type 0) (P Q : A → Type 0) →

@@ -1,11 +1,12 @@
 -- Which graphs of states the text of a compiled grammar says, and why it is refused. The manual, on
 -- .fst2 files. Public: the crate's public contracts speak of it.
-use Rattle.std.specs.Prelude.{◌≡◌, ◌⊎◌, ℕ, zero, suc, ◌<◌, Bool, true, false, List, [], ◌∷◌, Option, Some, None, length, slice_get}
+use Rattle.std.specs.Prelude.{◌≡◌, ◌⊎◌, ℕ, zero, suc, ◌<◌, ◌≤◌, Bool, true, false, List, [], Some, length, slice_get}
 use Rattle.std.specs.List.{AllZip}
 use Rattle.ux_grf.specs.declared.item.Piece.{Piece}
 use Rattle.ux_net.specs.declared.label.Label.{Label}
 use Rattle.ux_net.specs.declared.label.Label.TheVariants as labels
 use Rattle.ux_net.specs.declared.state_graph.StateGraph.{StateGraph}
+use Rattle.ux_net.specs.StateGraphs.{AreInsideStates}
 use Rattle.ux_fst2_file.specs.Files.{Says}
 use Rattle.ux_fst2_file.specs.Labels.{LabelsFit, StopsAtLabel}
 use Rattle.ux_fst2_file.specs.Refusals as lines
@@ -84,3 +85,9 @@ Refuses text (BadLine line) = lines.Refuses text (file_error.BadLine line)
 Refuses text (BadTag n) = HasBadTag text n
 Refuses text (BadLabel line) = HasBadLabel text line
 Refuses text NoMemory = ⊥
+
+-- graphs of states that a net can be made of: there are not too many, and edges stay inside
+pub record AreStateGraphs (graphs : List StateGraph) : Type 0 where
+  pub some : 1 ≤ length graphs
+  pub few : length graphs ≤ 65535
+  pub inside : AreInsideStates graphs

@@ -11,8 +11,8 @@
 //!
 //! Begin with `specs/Tags.antt`: `tag_text` is how a tag is printed, `IsTag` what one says, which is
 //! more, since a file may spell a tag in another way. `specs/Masks.antt` has the text of a mask,
-//! `specs/Files.antt` the file of a net, and `specs/Reading.antt` what a text says and why it is
-//! refused.
+//! `specs/Files.antt` the file of a net, `specs/Reading.antt` what a text says and why it is refused,
+//! and `specs/Spelling.antt` which nets read back. `laws` says which tags do.
 //!
 //! ```text
 //! let text = print(alloc, &net)?;
@@ -21,6 +21,7 @@
 #![tactic(auto)]
 
 mod error;
+pub mod laws;
 mod masks;
 pub mod printing;
 pub mod reading;

@@ -5,7 +5,7 @@ ghost use Rattle.std.specs.Prelude.{◌≡◌, ◌⊎◌, ℕ, ◌<◌, ◌∷�
 ghost use Rattle.std.specs.List.{AllZip};
 ghost use Rattle.ux_fst2.specs.Files.{IsEdgeBy, IsGraphBy, IsStateBy};
 ghost use Rattle.ux_fst2.specs.Inner.{IsBorneBy, IsReadTag, NamesTag, NamesTags, NamesTagsIn};
-ghost use Rattle.ux_fst2.specs.Reading.{AreTagsWhole, IsGoodTag, Refuses, SaysGraphs, StopsAtTag};
+ghost use Rattle.ux_fst2.specs.Reading.{AreStateGraphs, AreTagsWhole, IsGoodTag, Refuses, SaysGraphs, StopsAtTag};
 ghost use Rattle.ux_fst2.specs.Tags.{EMPTY_TAG};
 ghost use Rattle.ux_fst2.specs.declared.error.Fst2Error.TheVariants.{BadTag, NoMemory as OutOfMemory};
 
@@ -17,12 +17,14 @@ use ux_fst2_file::{Fst2Edge, Fst2Graph, Fst2Label, Fst2State, Fst2Text, bad_labe
 use ux_grf::Piece;
 use ux_net::{Edge, Label, State, StateGraph};
 
-/// The graphs that the text of a compiled grammar says, or why it is refused.
+/// The graphs that the text of a compiled grammar says, or why it is refused. A net can be made of
+/// them.
 ///
 /// A tag is read once. Takes time in the text, and in what its edges bear: a tag's label and output
 /// are copied for each edge that names it.
 pub fn read_states(alloc: Global, text: &str) -> Result<Vec<StateGraph>, Fst2Error>
     ensures ok { IfOk result (λ graphs. SaysGraphs text.now graphs.items) }
+    ensures given { IfOk result (λ graphs. AreStateGraphs graphs.items) }
     ensures err { IfErr result (λ error. (error ≡ OutOfMemory) ⊎ Refuses text.now error) }
 {
     let said = ux_fst2_file::read(alloc, text)?;

@@ -14,15 +14,15 @@ use Rattle.ux_net.specs.StateGraphs.{state_grammar}
 use Rattle.ux_net.specs.declared.state_graph.StateGraph.{StateGraph}
 use Rattle.ux_admission.specs.SoundGrammar.{IsSoundGrammar}
 use Rattle.ux_fst2.specs.Reading.{SaysGraphs}
-use Rattle.ux_fst2.proofs.TagLaws.{tag_once}
 use Rattle.ux_compile.specs.Refusing.{IsCompilable}
 use Rattle.ux_compile.proofs.RefusingLemmas.{compilable_not_refused}
 use Rattle.ux_grammars.specs.Graphs.{IsNoFst2, IsNoGraph, MOST_GRAPHS, MOST_READS, RefusesCompiled, RefusesGrammar, boxes_plan, drawing_format, fst2_format, grammar_plan, graph_format, graphs_plan, plan_by, states_plan}
 use Rattle.ux_alphabet.specs.Letters.{Letters}
 use Rattle.ux_grammars.specs.Naming.{file_of, is_compiled, next_name}
 use Rattle.ux_grammars.specs.Sources.{of_boxes}
-use Rattle.ux_grammars.proofs.CompiledLaws.{graphs_once, said_not_refused, text_refused_once}
-use Rattle.ux_grammars.proofs.StatesRefusedOnce.{sound_not_refused, states_refused_once}
+use Rattle.ux_fst2.proofs.TextLaws.{graphs_once, said_not_refused, text_refused_once}
+use Rattle.ux_grammars.proofs.StatesRefusedOnce.{states_refused_once}
+use Rattle.ux_states.proofs.NotRefused.{sound_not_refused}
 use Rattle.ux_grammars.proofs.GrammarRefusedOnce.{grammar_error_once, named_not_memory}
 use Rattle.ux_grammars.proofs.GraphRefusedOnce.{graph_refused_once}
 use Rattle.ux_grammars.proofs.GraphRefusals.{drawn_not_refused, drawn_once}
@@ -110,7 +110,7 @@ boxes_laws word letters =
 fst2_sound : IsSound fst2_format
 fst2_sound =
     decoded_sound Decode (said_as Fst2 SaysGraphs IsNoFst2)
-    (said_sound Fst2 SaysGraphs IsNoFst2 said_not_refused (graphs_once tag_once) text_refused_once)
+    (said_sound Fst2 SaysGraphs IsNoFst2 said_not_refused graphs_once text_refused_once)
 
 -- its graphs are refused for one cause, or have a meaning
 states_test : (word : List ℕ) (graphs : List StateGraph) →

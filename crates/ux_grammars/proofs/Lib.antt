@@ -1,4 +1,3 @@
-pub mod CompiledLaws
 pub mod CompilingLemmas
 pub mod DrawingLemmas
 pub mod GrammarLaws
@@ -8,6 +7,5 @@ pub mod GraphRefusedOnce
 mod MaskRefusedOnce
 mod NamingExamples
 pub mod ReadingLemmas
-pub mod SaidLemmas
 pub mod StatesRefusedOnce
 pub mod TableLemmas

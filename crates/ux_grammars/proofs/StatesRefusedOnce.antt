@@ -1,31 +1,14 @@
--- Graphs of states are refused for one error, and not where they have a meaning.
+-- Graphs of states are refused for one error.
 use Rattle.std.proofs.Common.{arith, ◌≡◌, ◌≢◌, ◌⊎◌, inl, inr, ℕ, ◌<◌, List, refl, ap, subst}
 use Rattle.std.proofs.lemmas.Bool.{cases_order}
 use Rattle.ux_boxes.specs.Refusing.{is_name_at}
 use Rattle.ux_boxes.specs.declared.error.NetError.{NetError}
 use Rattle.ux_boxes.specs.declared.error.NetError.TheVariants.{MissingGraph, BadMask, ContextClose, NegativeRecursion, EmptyLoop, LeftRecursion, NoMemory}
-use Rattle.ux_net.specs.StateGraphs.{state_grammar}
 use Rattle.ux_net.specs.declared.state_graph.StateGraph.{StateGraph}
-use Rattle.ux_admission.specs.SoundGrammar.{IsSoundGrammar}
 use Rattle.ux_state_places.specs.RefusingStates.{RefusesStates, names_told}
 use Rattle.ux_grammars.proofs.GrammarRefusedOnce.{first_named, one_name, step}
 
 module _ (graphs : List StateGraph) where
-  -- graphs that have a meaning aren't refused
-  pub sound_not_refused : (error : NetError) → IsSoundGrammar (state_grammar graphs) →
-      error ≢ NoMemory → RefusesStates graphs error → ⊥
-  sound_not_refused (MissingGraph name) sound some r = r
-  sound_not_refused (BadMask name node place) sound some r = r
-  sound_not_refused (ContextClose name node) sound some r =
-      sound.contexts.closed r.0 node r.2.here
-  sound_not_refused (NegativeRecursion name) sound some r =
-      sound.contexts.no_recursion r.1.0 r.1.2.here
-  sound_not_refused (EmptyLoop name node) sound some r =
-      sound.admissible.no_empty_loop r.1.0 node r.1.2.here
-  sound_not_refused (LeftRecursion name node) sound some r =
-      sound.admissible.no_left_recursion r.2.0 node r.2.2.here
-  sound_not_refused NoMemory sound some r = some refl
-
   -- graphs that a test refuses aren't refused by a later one
   not_later : (e f : NetError) → f ≢ NoMemory → step e < step f → RefusesStates graphs e →
       RefusesStates graphs f → ⊥

@@ -11,7 +11,6 @@ use Rattle.ux_grf.specs.declared.graph.Graph.{Graph}
 use Rattle.ux_boxes.specs.Boxes.{Drawn}
 use Rattle.ux_compile.specs.Compiling.{IsConstructed}
 use Rattle.ux_net.specs.Nets.{net_grammar}
-use Rattle.ux_net.specs.StateGraphs.{AreInsideStates}
 use Rattle.ux_net.specs.Whole.{HaveSameStates}
 use Rattle.ux_net.specs.declared.state_graph.StateGraph.{StateGraph}
 use Rattle.ux_boxes.specs.Refusing.{AreWhole, drawn}
@@ -61,12 +60,6 @@ IsPlaced (EmptyLoop graph node) = ⊤
 IsPlaced (LeftRecursion graph node) = ⊤
 IsPlaced (MissingGraph name) = ⊥
 IsPlaced NoMemory = ⊤
-
--- graphs of states that a net can be made of: there are not too many, and edges stay inside
-pub record AreStateGraphs (graphs : List StateGraph) : Type 0 where
-  pub some : 1 ≤ length graphs
-  pub few : length graphs ≤ MOST_GRAPHS
-  pub inside : AreInsideStates graphs
 
 -- the net has the states that are made of the boxes, or the very states that were told
 abbrev pub HasStatesOf : Letters → Source → (net : List NetGraph) → Type 0

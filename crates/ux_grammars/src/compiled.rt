@@ -4,7 +4,7 @@ ghost use Rattle.std.specs.Prelude.{◌≡◌, ◌≢◌, ◌≤◌, AllPairs, I
 ghost use Rattle.ux_base.specs.Outside.{IsLater};
 ghost use Rattle.ux_alphabet.specs.Letters.{Letters};
 ghost use Rattle.ux_admission.specs.SoundGrammar.{IsSoundGrammar};
-ghost use Rattle.ux_fst2.specs.Reading.{SaysGraphs};
+ghost use Rattle.ux_fst2.specs.Reading.{AreStateGraphs, SaysGraphs};
 ghost use Rattle.ux_net.specs.Nets.{net_grammar};
 ghost use Rattle.ux_net.specs.StateGraphs.{state_grammar};
 ghost use Rattle.ux_net.specs.Whole.{HaveSameStates};
@@ -12,7 +12,7 @@ ghost use Rattle.ux_net.specs.Words.{SayTheSame};
 ghost use Rattle.ux_states.specs.Met.{met_grammar};
 ghost use Rattle.ux_plan.specs.Plans.{Halts, Reads, StopsFile, StopsTest, refusing};
 ghost use Rattle.ux_grammars.specs.Graphs.{RefusesCompiled, fst2_format, states_plan};
-ghost use Rattle.ux_grammars.specs.Reading.{AreStateGraphs, HasNet};
+ghost use Rattle.ux_grammars.specs.Reading.{HasNet};
 
 use std::alloc::Global;
 use ux_base::Folder;

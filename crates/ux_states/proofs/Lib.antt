@@ -6,6 +6,6 @@ pub mod RunsOfNet
 pub mod MarkedLaw
 pub mod BuildingLemmas
 pub mod TellsLaw
-pub mod SameLetters
 pub mod WordsLaw
 pub mod SoundLaw
+pub mod NotRefused

@@ -4,29 +4,11 @@ use Rattle.ux_net.specs.declared.net_graph.NetGraph.{NetGraph}
 use Rattle.ux_net.specs.Closers.{ClosesInto}
 use Rattle.ux_net.specs.Nets.{net_graph, net_grammar, states_of}
 use Rattle.ux_net.specs.StateGraphs.{told_states, state_grammar}
-use Rattle.ux_net.specs.Words.{Step, StepGraph, Letter, Run, stop, along, across, IsBody}
+use Rattle.ux_net.specs.Words.{Letter, Run, stop, along, across, IsBody}
+use Rattle.ux_net.proofs.SameGrammar.{run_steps, body_steps}
 use Rattle.ux_state_places.proofs.RunLifts.{IsMetState, hop, opened_place, run_lifts}
 use Rattle.ux_states.proofs.Found.{Found, IsBuilt}
 use Rattle.ux_states.proofs.NetStates.{of_step, to_step}
-
-module _ (g : ℕ) (old new : StepGraph) (steps : (s : Step) → old.IsStep s → new.IsStep s) where
-  -- a run of a graph is one of another that has its steps
-  pub run_steps : {a b : ℕ} {word : List Letter} → Run g old a b word → Run g new a b word
-  run_steps stop = stop
-  run_steps (along s i m r) = along s (steps s i) m (run_steps r)
-  run_steps (across sign s t i m body j n r) =
-      across sign s t (steps s i) m (run_steps body) (steps t j) n (run_steps r)
-
-  -- and so is a body
-  pub body_steps : (opening closing : ℕ) (word : List Letter) →
-      IsBody g old opening closing word → IsBody g new opening closing word
-  body_steps opening closing word body = record {
-    step = body.step;
-    inside = steps body.step body.inside;
-    closed = body.closed;
-    after = body.after;
-    run = run_steps body.run;
-  }
 
 module _ (it : Found) (net : List NetGraph) (made : IsBuilt it net) (g : ℕ) where
   open it use {graphs, places, stands, hubs, stand}

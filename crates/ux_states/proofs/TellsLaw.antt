@@ -23,8 +23,7 @@ use Rattle.ux_boxes.specs.Places.{places_of, label_lines}
 use Rattle.ux_state_places.specs.Kinds.{kind_of}
 use Rattle.ux_state_places.proofs.RunLifts.{Opened, opened_place}
 use Rattle.ux_state_places.proofs.RunProjects.{closes_forth, closes_back}
-use Rattle.ux_admission.specs.Admission.{row_at}
-use Rattle.ux_states.specs.Building.{is_refusing, is_refused, closing_from, closings_at, closings_of}
+use Rattle.ux_admission.specs.ToldClosings.{is_refusing, is_refused, closing_from, closings_at, closings_of}
 use Rattle.ux_states.proofs.Found.{Found, IsBuilt}
 use Rattle.ux_states.proofs.HubLemmas.{state, row, Into}
 use Rattle.ux_states.proofs.NetStates.{step_of, of_state, there, both}
@@ -78,7 +77,7 @@ module _ (it : Found) (g : ℕ) where
   ]
 
   abbrev closings : ℕ → List Closing
-  closings n = flat_map (closings_at (places_of places g) (row_at stands g) (row it g))
+  closings n = flat_map (closings_at (state it g) (places_of places g) (row it g))
       (range_with_len 0 n)
 
   -- what is told of the places before n ascends, and is of such places
@@ -118,20 +117,20 @@ module _ (it : Found) (g : ℕ) where
 
   -- what is told of one place more
   next : (n : ℕ) (entries : List Closing) → n < length (places_of places g) → UpTo n entries →
-      UpTo (n + 1) (entries ++ closings_at (places_of places g) (row_at stands g) (row it g) n)
+      UpTo (n + 1) (entries ++ closings_at (state it g) (places_of places g) (row it g) n)
   next n entries inside u = go (is_refused (places_of places g) n) refl
     where
       none : UpTo (n + 1) (entries ++ [])
       none = subst (UpTo (n + 1)) (sym (append-nil entries)) (wider n entries u)
 
       some : is_refused (places_of places g) n ≡ true → (list : List ℕ) →
-          UpTo (n + 1) (entries ++ closing_from (row_at stands g) n list)
+          UpTo (n + 1) (entries ++ closing_from (state it g) n list)
       some is [] = none
       some is (c ∷ later) =
           one n entries (record { opening = state it g n; closing = state it g c }) inside is refl u
 
       go : (t : Bool) → is_refused (places_of places g) n ≡ t →
-          UpTo (n + 1) (entries ++ cond t (closing_from (row_at stands g) n (row it g n)) [])
+          UpTo (n + 1) (entries ++ cond t (closing_from (state it g) n (row it g n)) [])
       go true is = some is (row it g n)
       go false is = none
 
@@ -142,26 +141,26 @@ module _ (it : Found) (g : ℕ) where
       let more : n + 1 ≡ suc n = omega arith in
       subst (λ k. UpTo k (closings k)) more
       (subst (UpTo (n + 1))
-      (sym (joined_more (closings_at (places_of places g) (row_at stands g) (row it g)) n))
+      (sym (joined_more (closings_at (state it g) (places_of places g) (row it g)) n))
       (next n (closings n) (omega (arith, le)) (up_to n (omega (arith, le)))))
 
   -- what is told of a graph ascends
-  pub closings_ascend : Ascend (closings_of (places_of places g) (row_at stands g) (row it g))
+  pub closings_ascend : Ascend (closings_of (state it g) (places_of places g) (row it g))
   closings_ascend = (up_to (length (places_of places g)) (omega arith)).up
 
   -- and tells for such a place where it is closed
   pub closing_told : (p c : ℕ) (later : List ℕ) → p < length (places_of places g) →
       is_refused (places_of places g) p ≡ true → row it g p ≡ c ∷ later →
-      closing_in (closings_of (places_of places g) (row_at stands g) (row it g)) (state it g p)
+      closing_in (closings_of (state it g) (places_of places g) (row it g)) (state it g p)
       ≡ Some (state it g c)
   closing_told p c later inside refused is =
-      let all = closings_of (places_of places g) (row_at stands g) (row it g) in
+      let all = closings_of (state it g) (places_of places g) (row it g) in
       let entry : Closing = record { opening = state it g p; closing = state it g c } in
-      let here : closings_at (places_of places g) (row_at stands g) (row it g) p ≡ entry ∷ [] =
-      ap (λ (t : Bool). cond t (closing_from (row_at stands g) p (row it g p)) []) refused
-      ∙ ap (closing_from (row_at stands g) p) is in
+      let here : closings_at (state it g) (places_of places g) (row it g) p ≡ entry ∷ [] =
+      ap (λ (t : Bool). cond t (closing_from (state it g) p (row it g p)) []) refused
+      ∙ ap (closing_from (state it g) p) is in
       let within : Contains all entry =
-      contains_joined (closings_at (places_of places g) (row_at stands g) (row it g))
+      contains_joined (closings_at (state it g) (places_of places g) (row it g))
       (range_with_len 0 (length (places_of places g))) p entry
       (contains_range (length (places_of places g)) p inside)
       (subst (λ (l : List Closing). Contains l entry) (sym here) (contains_first entry [])) in
@@ -227,7 +226,7 @@ module _ (it : Found) (net : List NetGraph) (made : IsBuilt it net) where
           state it g c,
           ap (λ (x : Option NetGraph). closing_in (told_by x) edge.target) b.there
               ∙ (ap (λ (l : List Closing). closing_in l edge.target) b.of.closings
-              ∙ (ap (closing_in (closings_of (places_of places g) (row_at stands g) (row it g)))
+              ∙ (ap (closing_in (closings_of (state it g) (places_of places g) (row it g)))
               (sym o.same.to)
               ∙ closing_told it g p c later o.place.inside refused first)),
           record {

@@ -4,8 +4,8 @@ use Rattle.std.proofs.Common.{arith, ◌≡◌, ℕ, ◌<◌, List, [], ◌++◌
 use Rattle.ux_net.specs.declared.net_graph.NetGraph.{NetGraph}
 use Rattle.ux_net.specs.Nets.{net_graph, net_grammar, states_of, IsNetStep}
 use Rattle.ux_net.specs.StateGraphs.{told_states, state_grammar}
-use Rattle.ux_net.specs.Words.{Sign, Step, Letter, Grammar, opens, mark_of, put_by, Run, stop, along, across, IsWord, IsBody, same_context, AreRenumbered, none, more, SayTheSame}
-use Rattle.ux_net.proofs.RefineLemmas.{renumbered_joined}
+use Rattle.ux_net.specs.Words.{Sign, Step, Letter, Grammar, opens, mark_of, Run, stop, along, across, IsWord, IsBody, same_context, AreRenumbered, none, more, SayTheSame}
+use Rattle.ux_net.proofs.RefineLemmas.{renumbered_joined, put_same, line_same}
 use Rattle.ux_net.proofs.RunLemmas.{run_joined, one_step}
 use Rattle.ux_admission.specs.Admissible.{IsMet}
 use Rattle.ux_state_places.proofs.RunLifts.{IsMetState, from_inside, opened_place}
@@ -13,8 +13,8 @@ use Rattle.ux_state_places.proofs.RunProjects.{start_met, end_inside}
 use Rattle.ux_states.specs.Met.{met_grammar}
 use Rattle.ux_states.proofs.Found.{Found, IsBuilt}
 use Rattle.ux_states.proofs.NetStates.{of_step, of_end, to_end}
-use Rattle.ux_states.proofs.SameLetters.{line_same, put_same}
-use Rattle.ux_states.proofs.RunsOfNet.{run_steps, body_steps, run_told, met_then, run_in_net, body_in_net}
+use Rattle.ux_net.proofs.SameGrammar.{run_steps, body_steps}
+use Rattle.ux_states.proofs.RunsOfNet.{run_told, met_then, run_in_net, body_in_net}
 
 module _ (it : Found) (net : List NetGraph) (made : IsBuilt it net) where
   open it use {graphs, places, stands, hubs, stand}
@@ -65,11 +65,11 @@ module _ (it : Found) (net : List NetGraph) (made : IsBuilt it net) where
     same_word stop m = none
     same_word (along s i mark r) m =
         renumbered_joined Old number
-        (renumbered_joined Old number (put_same Old number s) (line_same Old number s.labels))
+        (renumbered_joined Old number (put_same Old number s.output) (line_same Old number s.labels))
         (same_word r (comes_on (one_step g (net_graph (told_states graphs g)) s i mark) m))
     same_word (across sign s t i mark body j closed r) m =
         let after = comes_on (across sign s t i mark body j closed stop) m in
-        renumbered_joined Old number (put_same Old number s)
+        renumbered_joined Old number (put_same Old number s.output)
         (more (same_context (comes_in s sign i mark) after) (same_word r after))
 
     -- to such a state a run of the places leads

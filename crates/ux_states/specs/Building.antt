@@ -1,11 +1,7 @@
 -- How a graph of a net is built of its states and of the places that stand for them. Inner: the
 -- crate's own functions alone speak of it.
-use Rattle.std.specs.Prelude.{◌≡◌, ℕ, ◌+◌, List, [], ◌∷◌, ◌++◌, length, map, get_or, Bool, true, false, cond, Some}
-use Rattle.std.specs.List.{range_with_len, flat_map, list_any}
-use Rattle.ux_net.specs.declared.label.Label.{Label}
-use Rattle.ux_net.specs.declared.label.Label.TheVariants.{Negative}
+use Rattle.std.specs.Prelude.{◌≡◌, ℕ, ◌+◌, List, [], ◌∷◌, ◌++◌, length, map, get_or, Bool, false, cond, Some}
 use Rattle.ux_net.specs.declared.net_graph.NetGraph.{NetGraph}
-use Rattle.ux_net.specs.declared.net_graph.Closing.{Closing}
 use Rattle.ux_net.specs.declared.net_graph.Rank.{Rank}
 use Rattle.ux_net.specs.declared.net_graph.UnmetState.{UnmetState}
 use Rattle.ux_net.specs.declared.state.State.{State}
@@ -15,8 +11,9 @@ use Rattle.ux_net.specs.StateGraphs.{told_at}
 use Rattle.ux_net.specs.Whole.{bare_state}
 use Rattle.ux_boxes.specs.declared.place.Place.{Place}
 use Rattle.ux_boxes.specs.Numbers.{number_of}
-use Rattle.ux_boxes.specs.Places.{places_of, label_lines, is_reached}
+use Rattle.ux_boxes.specs.Places.{places_of, is_reached}
 use Rattle.ux_admission.specs.Admission.{row_at}
+use Rattle.ux_admission.specs.ToldClosings.{closings_of}
 
 -- what is kept aside of a state
 abbrev pub entry_of : ℕ → State → UnmetState
@@ -52,30 +49,6 @@ hub_rank row hub = record { major = get_or row hub 0; minor = 0 }
 abbrev pub hub_free : List Bool → ℕ → Bool
 hub_free row hub = get_or row hub false
 
--- a line that opens a context which may not follow
-abbrev pub is_refusing : List Label → Bool
-is_refusing (Negative ∷ []) = true
-is_refusing line = false
-
--- such a context opens into the place
-abbrev pub is_refused : List Place → ℕ → Bool
-is_refused places p = list_any is_refusing (label_lines places p)
-
--- where the body from a place is closed, of which these are the closers: into the first of them
-abbrev pub closing_from : List ℕ → ℕ → List ℕ → List Closing
-closing_from stands p [] = []
-closing_from stands p (c ∷ later) =
-    record { opening = get_or stands p 0; closing = get_or stands c 0 } ∷ []
-
--- the same, where the context may not follow
-abbrev pub closings_at : List Place → List ℕ → (row : ℕ → List ℕ) → ℕ → List Closing
-closings_at places stands row p = cond (is_refused places p) (closing_from stands p (row p)) []
-
--- that of each place
-abbrev pub closings_of : List Place → List ℕ → (row : ℕ → List ℕ) → List Closing
-closings_of places stands row =
-    flat_map (closings_at places stands row) (range_with_len 0 (length places))
-
 -- the graph is built of its states, and of the places and hubs that stand for them
 pub record IsBuiltOf (graph : StateGraph) (places : List Place) (stands hubs : List ℕ)
     (row : ℕ → List ℕ) (rank_row : List ℕ) (free_row : List Bool) (built : NetGraph) : Type 0 where
@@ -84,7 +57,7 @@ pub record IsBuiltOf (graph : StateGraph) (places : List Place) (stands hubs : L
   pub unmet : built.unmet ≡ aside_from (is_met places hubs) 0 graph.states
   pub ranks : built.ranks ≡ map (hub_rank rank_row) hubs
   pub free : built.free ≡ map (hub_free free_row) hubs
-  pub closings : built.closings ≡ closings_of places stands row
+  pub closings : built.closings ≡ closings_of (λ p. get_or stands p 0) places row
 
 -- the row of closers of each place of a graph
 abbrev pub closers_at : List (List Place) → List (List ℕ) → (g p : ℕ) → List ℕ

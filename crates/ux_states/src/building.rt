@@ -5,11 +5,12 @@ ghost use Rattle.std.specs.Vec.Iter.{into_iter_items};
 ghost use Rattle.ux_boxes.specs.Numbers.{AreOffsets};
 ghost use Rattle.ux_states.specs.Building.{hub_rank, hub_free, IsBuiltOf, AreBuilt};
 
-use crate::closings::{closings, row_at};
 use crate::parting::part;
 use std::alloc::Global;
 use std::vec::IntoIter;
+use ux_admission::closings;
 use ux_base::{Lst, Mem, NoMemory};
+use ux_boxes::row_at;
 use ux_net::{NetGraph, Rank, StateGraph};
 use ux_state_places::{Admitted, Placed};
 

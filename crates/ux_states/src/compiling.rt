@@ -11,8 +11,7 @@ ghost use Rattle.ux_states.specs.Met.{met_grammar};
 
 use crate::building::built;
 use std::alloc::Global;
-use ux_boxes::NetError;
-use ux_boxes::offsets::offsets_of;
+use ux_boxes::{NetError, offsets_of};
 use ux_net::{Net, StateGraph, count_masks};
 use ux_state_places::{admit_states, place_states};
 

@@ -7,7 +7,8 @@
 //! `of_states` makes the net with exactly the states that it is given, or refuses them. A state has the
 //! rank and the mark of its hub, the place from which its edges lead (`ux_state_places`). A state to
 //! which no run comes is kept aside, since no rank need fall along its edges. Begin with
-//! `specs/Building.antt`, which says how a graph is built.
+//! `specs/Building.antt`, which says how a graph is built. `read_printed` reads what is printed for a
+//! net, and has the law of that.
 //!
 //! ```text
 //! let net = of_states(alloc, graphs)?;
@@ -16,8 +17,9 @@
 #![tactic(auto)]
 
 mod building;
-mod closings;
 mod compiling;
 mod parting;
+mod printed;
 
 pub use compiling::of_states;
+pub use printed::read_printed;

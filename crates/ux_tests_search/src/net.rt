@@ -82,7 +82,7 @@ fn show_graph(alloc: Global, all: &mut String, net: &Net, graph: u32) -> Result<
 }
 
 /// The states of the graphs, of which there are at most two.
-fn show_net(alloc: Global, net: &Net) -> Result<String, AllocError> {
+pub(crate) fn show_net(alloc: Global, net: &Net) -> Result<String, AllocError> {
     let mut all = String::new(alloc);
     for graph in 1..=net.graphs().min(2) {
         if graph > 1 {

@@ -1,4 +1,4 @@
-use Rattle.std.proofs.Common.{◌≡◌, ◌++◌, ℕ, List, ◌∙◌, ap, refl, string_bytes}
+use Rattle.std.proofs.Common.{◌++◌, ℕ, List, ◌∙◌, ap, refl, string_bytes}
 use Rattle.std.specs.List.{flat_map}
 use Rattle.ux_masks.specs.Signs.{COLON, TILDE}
 use Rattle.ux_fst2.specs.Masks.{behind_sign, codes_text, is_code_alone}

@@ -1,4 +1,4 @@
-use Rattle.std.proofs.Common.{◌≡◌, ◌+◌, List, sym, subst, take}
+use Rattle.std.proofs.Common.{◌+◌, List, sym, subst, take}
 use Rattle.std.specs.List.{AllZip}
 use Rattle.ux_fst2_file.specs.declared.file.Fst2Edge.{Fst2Edge}
 use Rattle.ux_fst2.specs.Files.{IsEdgeBy, IsPrintedBy, tags_of_edge}

@@ -1,4 +1,4 @@
-use Rattle.std.proofs.Common.{◌≡◌, ◌∷◌, ℕ, List, [], sym, subst, ◌∙◌, map, refl, ap}
+use Rattle.std.proofs.Common.{◌≡◌, ℕ, List, sym, subst, ◌∙◌, map}
 use Rattle.std.specs.List.{AllZip, flat_map}
 use Rattle.ux_fst2_file.specs.declared.file.Fst2Graph.{Fst2Graph}
 use Rattle.ux_fst2.specs.Tags.{EMPTY_TAG}

@@ -1,4 +1,4 @@
-use Rattle.std.proofs.Common.{◌+◌, ◌∷◌, List, sym, subst, take, refl}
+use Rattle.std.proofs.Common.{◌+◌, List, sym, subst, take}
 use Rattle.std.specs.List.{AllZip}
 use Rattle.ux_net.specs.declared.state.Edge.{Edge}
 use Rattle.ux_fst2.specs.Files.{IsEdgeBy}

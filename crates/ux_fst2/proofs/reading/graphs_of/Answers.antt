@@ -1,4 +1,4 @@
-use Rattle.std.proofs.Common.{◌+◌, List, sym, subst, take}
+use Rattle.std.proofs.Common.{◌+◌, sym, subst, take}
 use Rattle.std.specs.List.{AllZip}
 use Rattle.ux_fst2.specs.Files.{IsGraphBy}
 use Rattle.ux_fst2.specs.Inner.{IsBorneBy}

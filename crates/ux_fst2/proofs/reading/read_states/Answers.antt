@@ -1,4 +1,4 @@
-use Rattle.std.proofs.Common.{◌≡◌, ◌∙◌, List, sym, subst, length, ap, true}
+use Rattle.std.proofs.Common.{List, sym, subst, length}
 use Rattle.std.specs.Prelude.{All}
 use Rattle.std.specs.List.{AllZip}
 use Rattle.ux_fst2_file.specs.Files.{Says}
@@ -9,6 +9,7 @@ use Rattle.ux_fst2.specs.Inner.{IsBorneBy, IsReadTag, NamesTagsIn}
 use Rattle.ux_fst2.specs.Reading.{AreTagsWhole, IsSaidBy}
 use Rattle.ux_fst2.specs.declared.tag.Tag.{Tag}
 use Rattle.ux_fst2.proofs.ReadingLemmas.{borne_says, fitting_names, lift_graphs}
+use Rattle.ux_fst2.proofs.SaidGraphs.{said_graphs}
 use Rattle.ux_fst2.proofs.Zips.{zip-length}
 use Rattle.ux_fst2.proofs.reading.read_states.Goals as goal
 
@@ -41,3 +42,7 @@ returns-clause-ok c =
           AllZip (IsGraphBy (IsBorneBy tags)) gs c.in_ok-graphs_of.field-0.items)
           c.as_slice.ensures c.in_ok-graphs_of.ensures);
     }
+
+pub returns-clause-given : goal.returns-clause-given
+returns-clause-given c =
+    said_graphs c.args.text.now c.in_ok-graphs_of.field-0.items (returns-clause-ok c)

@@ -1,8 +1,8 @@
-use Rattle.std.proofs.Common.{◌≡◌, ◌+◌, ℕ, List, sym, subst, take, inr, refl, length}
+use Rattle.std.proofs.Common.{◌+◌, ℕ, List, sym, subst, take, inr, refl}
 use Rattle.std.specs.List.{AllZip}
 use Rattle.ux_fst2.specs.Inner.{IsReadTag}
 use Rattle.ux_fst2.specs.Reading.{IsGoodTag, StopsAtTag}
-use Rattle.ux_fst2.proofs.ReadingLemmas.{good_more, stops_at_end, stops_at_none, stops_here}
+use Rattle.ux_fst2.proofs.ReadingLemmas.{good_more, stops_here}
 use Rattle.ux_fst2.proofs.Zips.{zip-more}
 use Rattle.ux_fst2.proofs.reading.read_tags.Goals as goal
 

@@ -1,5 +1,3 @@
-use Rattle.std.proofs.Common.{◌≡◌, sym, subst}
-use Rattle.std.proofs.lemmas.Grind.{common_steps}
 use Rattle.ux_fst2.proofs.tag.folded_label.Goals as goal
 
 pub returns-in-Mask : goal.returns-in-Mask

@@ -1,12 +1,10 @@
--- A text says one compiled grammar, or is refused for one reason; graphs of states are refused for one.
-use Rattle.std.proofs.Common.{arith, ◌≡◌, ◌≢◌, ◌⊎◌, inl, inr, ℕ, zero, suc, ◌<◌, Bool, true, false, List, [], ◌∷◌, Option, Some, refl, sym, ap, ◌∙◌, subst, length, map}
-use Rattle.std.specs.Prelude.{slice_get}
+-- A text says one compiled grammar, or is refused for one reason.
+use Rattle.std.proofs.Common.{arith, ◌≡◌, inl, inr, ℕ, ◌<◌, Bool, true, false, List, [], ◌∷◌, Option, Some, refl, sym, ap, ◌∙◌, subst, length}
 use Rattle.std.specs.List.{AllZip}
 use Rattle.std.proofs.lemmas.Bool.{cases_order}
 use Rattle.std.proofs.lemmas.Option.{same_Some, slice_get_within}
 use Rattle.ux_grf.specs.declared.item.Piece.{Piece}
 use Rattle.ux_net.specs.declared.label.Label.{Label}
-use Rattle.ux_net.specs.declared.label.Label.TheVariants as labels
 use Rattle.ux_net.specs.declared.state.Edge.{Edge}
 use Rattle.ux_net.specs.declared.state.State.{State}
 use Rattle.ux_net.specs.declared.state_graph.StateGraph.{StateGraph}
@@ -24,8 +22,9 @@ use Rattle.ux_fst2_file.proofs.FileLaws.{file_once}
 use Rattle.ux_fst2_file.proofs.LabelLaws.{bad_label_once, labels_fit_or_stop}
 use Rattle.ux_fst2_file.proofs.RefusalLaws as file
 use Rattle.ux_fst2.specs.Files.{IsEdgeBy, IsGraphBy, IsStateBy}
-use Rattle.ux_fst2.specs.Reading.{AreGoodBefore, AreTagsWhole, HasBadLabel, HasBadTag, IsBadTag, IsGoodTag, IsSaidBy, Refuses, SaysGraphs, StopsAtTag}
+use Rattle.ux_fst2.specs.Reading.{AreTagsWhole, HasBadLabel, HasBadTag, IsBadTag, IsSaidBy, Refuses, SaysGraphs, StopsAtTag}
 use Rattle.ux_fst2.specs.Tags.{IsTag}
+use Rattle.ux_fst2.proofs.TagLaws.{tag_once}
 use Rattle.ux_fst2.specs.declared.error.Fst2Error.{Fst2Error}
 use Rattle.ux_fst2.specs.declared.error.Fst2Error.TheVariants.{BadCount, BadLine, BadTag, BadLabel, NoMemory}
 
@@ -61,51 +60,45 @@ same_graph a b name states =
     let G : List ℕ → List State → StateGraph = λ n ss. record { name = n; states = ss } in
     ap (λ (n : List ℕ). G n a.states) name ∙ ap (G b.name) states
 
--- a tag says one label and one output
-abbrev pub TagsAreOnce : Type 0
-TagsAreOnce = (text : List ℕ) (label other : Label) (output also : List Piece) →
-    IsTag text label output → IsTag text other also → (label ≡ other) × (output ≡ also)
+-- a number of a file says one label and one output, as a tag does
+label_once : (tags : List (List ℕ)) (x : Fst2Label) (label other : Label)
+    (output also : List Piece) → IsSaidBy tags x label output → IsSaidBy tags x other also →
+    (label ≡ other) × (output ≡ also)
+label_once tags (Tag n) label other output also is likewise =
+    let same = same_Some is.0 likewise.0 (sym is.1 ∙ likewise.1) in
+    tag_once likewise.0 label other output also
+    (subst (λ (t : List ℕ). IsTag t label output) same is.2) likewise.2
+label_once tags (Call g) label other output also is likewise =
+    (is.0 ∙ sym likewise.0, is.1 ∙ sym likewise.1)
 
-module _ (tag_once : TagsAreOnce) where
-  -- so does a number of a file
-  label_once : (tags : List (List ℕ)) (x : Fst2Label) (label other : Label)
-      (output also : List Piece) → IsSaidBy tags x label output → IsSaidBy tags x other also →
-      (label ≡ other) × (output ≡ also)
-  label_once tags (Tag n) label other output also is likewise =
-      let same = same_Some is.0 likewise.0 (sym is.1 ∙ likewise.1) in
-      tag_once likewise.0 label other output also
-      (subst (λ (t : List ℕ). IsTag t label output) same is.2) likewise.2
-  label_once tags (Call g) label other output also is likewise =
-      (is.0 ∙ sym likewise.0, is.1 ∙ sym likewise.1)
+module _ (tags : List (List ℕ)) where
+  edge_once : (x : Fst2Edge) (y z : Edge) → IsEdgeBy (IsSaidBy tags) x y →
+      IsEdgeBy (IsSaidBy tags) x z → y ≡ z
+  edge_once x y z is also =
+      let both = label_once tags x.label y.label z.label y.output z.output is.label also.label in
+      same_edge y z both.0 both.1 (sym is.target ∙ also.target)
 
-  module _ (tags : List (List ℕ)) where
-    edge_once : (x : Fst2Edge) (y z : Edge) → IsEdgeBy (IsSaidBy tags) x y →
-        IsEdgeBy (IsSaidBy tags) x z → y ≡ z
-    edge_once x y z is also =
-        let both = label_once tags x.label y.label z.label y.output z.output is.label also.label in
-        same_edge y z both.0 both.1 (sym is.target ∙ also.target)
+  state_once : (x : Fst2State) (y z : State) → IsStateBy (IsSaidBy tags) x y →
+      IsStateBy (IsSaidBy tags) x z → y ≡ z
+  state_once x y z is also =
+      same_state y z (sym is.ends ∙ also.ends)
+      (each_once (IsEdgeBy (IsSaidBy tags)) edge_once x.edges y.edges z.edges is.edges also.edges)
 
-    state_once : (x : Fst2State) (y z : State) → IsStateBy (IsSaidBy tags) x y →
-        IsStateBy (IsSaidBy tags) x z → y ≡ z
-    state_once x y z is also =
-        same_state y z (sym is.ends ∙ also.ends)
-        (each_once (IsEdgeBy (IsSaidBy tags)) edge_once x.edges y.edges z.edges is.edges also.edges)
+  graph_once : (x : Fst2Graph) (y z : StateGraph) → IsGraphBy (IsSaidBy tags) x y →
+      IsGraphBy (IsSaidBy tags) x z → y ≡ z
+  graph_once x y z is also =
+      same_graph y z (sym is.named ∙ also.named)
+      (each_once (IsStateBy (IsSaidBy tags)) state_once x.states y.states z.states is.are also.are)
 
-    graph_once : (x : Fst2Graph) (y z : StateGraph) → IsGraphBy (IsSaidBy tags) x y →
-        IsGraphBy (IsSaidBy tags) x z → y ≡ z
-    graph_once x y z is also =
-        same_graph y z (sym is.named ∙ also.named)
-        (each_once (IsStateBy (IsSaidBy tags)) state_once x.states y.states z.states is.are also.are)
-
-  -- a text says one list of graphs
-  pub graphs_once : (text : List ℕ) (one other : List StateGraph) → SaysGraphs text one →
-      SaysGraphs text other → one ≡ other
-  graphs_once text one other is also =
-      let same = (file_once text is.file also.file true true is.says also.says).0 in
-      each_once (IsGraphBy (IsSaidBy also.file.tags)) (graph_once also.file.tags) also.file.graphs one
-      other
-      (subst (λ (f : Fst2File). AllZip (IsGraphBy (IsSaidBy f.tags)) f.graphs one) same is.are)
-      also.are
+-- a text says one list of graphs
+pub graphs_once : (text : List ℕ) (one other : List StateGraph) → SaysGraphs text one →
+    SaysGraphs text other → one ≡ other
+graphs_once text one other is also =
+    let same = (file_once text is.file also.file true true is.says also.says).0 in
+    each_once (IsGraphBy (IsSaidBy also.file.tags)) (graph_once also.file.tags) also.file.graphs one
+    other
+    (subst (λ (f : Fst2File). AllZip (IsGraphBy (IsSaidBy f.tags)) f.graphs one) same is.are)
+    also.are
 
 -- THE REASONS
 

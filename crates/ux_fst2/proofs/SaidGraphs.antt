@@ -1,6 +1,6 @@
 -- Graphs of states that a text says can be made a net of: there are not too many, each has a state,
 -- and edges stay inside.
-use Rattle.std.proofs.Common.{arith, refl, false, ◌≡◌, ◌⊎◌, inl, inr, ℕ, zero, suc, ◌+◌, ◌<◌, ◌≤◌, List, [], ◌∷◌, ◌++◌, Option, Some, None, sym, ap, ◌∙◌, subst, length, get_or}
+use Rattle.std.proofs.Common.{arith, refl, false, ◌≡◌, inl, inr, ℕ, zero, suc, ◌+◌, ◌<◌, List, [], ◌∷◌, Option, Some, None, sym, subst, length, get_or}
 use Rattle.std.specs.Prelude.{Contains, slice_get}
 use Rattle.std.specs.List.{AllZip}
 use Rattle.std.proofs.lemmas.Option.{get_or_from_slice_get, slice_get_within}
@@ -9,13 +9,12 @@ use Rattle.ux_grf.specs.declared.item.Item.{Item}
 use Rattle.ux_grf.specs.declared.item.Item.TheVariants as item
 use Rattle.ux_grf.specs.declared.item.Piece.{Piece}
 use Rattle.ux_net.specs.declared.label.Label.{Label}
-use Rattle.ux_net.specs.declared.label.Label.TheVariants as labels
 use Rattle.ux_net.specs.declared.state.Edge.{Edge}
 use Rattle.ux_net.specs.declared.state.State.{State}
 use Rattle.ux_net.specs.declared.state_graph.StateGraph.{StateGraph}
 use Rattle.ux_net.specs.Nets.{IsCalled, IsEdgeInside}
-use Rattle.ux_net.specs.StateGraphs.{AreInsideStates, told_at, told_in, told_states}
-use Rattle.ux_fst2_file.specs.Files.{BeginGraphs, BeginStates, EndsGraph, end_line, state_line, no_graph, graph_then}
+use Rattle.ux_net.specs.StateGraphs.{told_at, told_in, told_states}
+use Rattle.ux_fst2_file.specs.Files.{BeginGraphs, BeginStates, end_line, state_line, no_graph, graph_then}
 use Rattle.ux_fst2_file.specs.Labels.{FitsEdge, FitsLabel, limits_of}
 use Rattle.ux_fst2_file.specs.declared.file.Fst2Label.{Fst2Label}
 use Rattle.ux_fst2_file.specs.declared.file.Fst2Label.TheVariants.{Tag, Call}
@@ -24,9 +23,8 @@ use Rattle.ux_fst2_file.specs.declared.file.Fst2State.{Fst2State}
 use Rattle.ux_fst2_file.specs.declared.file.Fst2Graph.{Fst2Graph}
 use Rattle.ux_fst2_file.specs.declared.labels.Limits.{Limits}
 use Rattle.ux_fst2.specs.Files.{IsEdgeBy, IsGraphBy, IsStateBy}
-use Rattle.ux_fst2.specs.Reading.{IsSaidBy, SaysGraphs}
+use Rattle.ux_fst2.specs.Reading.{AreStateGraphs, IsSaidBy, SaysGraphs}
 use Rattle.ux_fst2.specs.Tags.{IsExactOf, IsItemOf, IsTag}
-use Rattle.ux_grammars.specs.Reading.{AreStateGraphs}
 
 -- items of two lists that stand at one place
 zip_get : {A B : Type 0} (R : A → B → Type 0) (xs : List A) (ys : List B) (k : ℕ) (d : A) (e : B) →
