@@ -21,6 +21,13 @@ const DICTIONARY: &str = "cat,.N:s\n";
 /// A dictionary of lemmas with their classes.
 const STEMS: &str = "cat,N1\n";
 
+/// The automaton of one sentence.
+const AUTOMATA: &str = "#TFST 1\nS 1 2 1\n0 1 {cat,.N:s}\n";
+
+/// A rule that asks for a verb wherever it stands.
+const RULE: &str =
+    "#Unigraph\n#\n6\n\"<E>\" 0 0 1 2 \n\"\" 0 0 0 \n\"<!>\" 0 0 1 3 \n\"<!>\" 0 0 1 4 \n\"<V>\" 0 0 1 5 \n\"<!>\" 0 0 1 1 \n";
+
 /// A text in which the graph has one hit.
 pub const CATS: &str = "The cat sat. The cats sat.";
 
@@ -117,6 +124,8 @@ pub fn usual(name: &str) -> &'static str {
         "m.grf" => CALL,
         "d.dic" | "e.dic" => DICTIONARY,
         "s.dic" => STEMS,
+        "t.tfst" => AUTOMATA,
+        "r.grf" | "s.grf" => RULE,
         _ => CATS,
     }
 }

@@ -78,6 +78,14 @@ const CHECK_STEMS: &[&str] = &["check", "--delas", "s.dic"];
 
 const REPORT: &[&str] = &["dico", "t.txt", "a.txt", "d.dic", "e.dic"];
 
+const CONCORDANCE: &[&str] = &["concord", "m.grf", "t.txt", "a.txt", "d.dic", "e.dic"];
+
+const COMPILED: &[&str] = &["fst2", "m.grf", "a.txt"];
+
+const SENTENCES: &[&str] = &["txt2tfst", "t.txt", "a.txt", "d.dic", "e.dic"];
+
+const RULES: &[&str] = &["elag", "t.tfst", "r.grf", "s.grf"];
+
 /// Each command, and each of its files in the order of reading.
 const ROWS: &[Row] = &[
     (SEARCH, "a.txt"),
@@ -97,6 +105,22 @@ const ROWS: &[Row] = &[
     (REPORT, "t.txt"),
     (REPORT, "d.dic"),
     (REPORT, "e.dic"),
+    (CONCORDANCE, "a.txt"),
+    (CONCORDANCE, "m.grf"),
+    (CONCORDANCE, "g.grf"),
+    (CONCORDANCE, "t.txt"),
+    (CONCORDANCE, "d.dic"),
+    (CONCORDANCE, "e.dic"),
+    (COMPILED, "a.txt"),
+    (COMPILED, "m.grf"),
+    (COMPILED, "g.grf"),
+    (SENTENCES, "a.txt"),
+    (SENTENCES, "t.txt"),
+    (SENTENCES, "d.dic"),
+    (SENTENCES, "e.dic"),
+    (RULES, "t.tfst"),
+    (RULES, "r.grf"),
+    (RULES, "s.grf"),
 ];
 
 /// Gives the row's words where its file is wrong, and compares the line on `err` and the status.
