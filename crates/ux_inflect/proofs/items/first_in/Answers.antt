@@ -1,0 +1,18 @@
+use Rattle.std.proofs.Common.{arith, ◌∙◌, sym}
+use Rattle.std.proofs.lemmas.Bool.{false≢true}
+use Rattle.std.proofs.lemmas.Option.{slice_get_within}
+use Rattle.ux_net.specs.Nets.{states_of}
+use Rattle.ux_inflect.proofs.ItemsLemmas.{bad_in}
+use Rattle.ux_inflect.proofs.items.first_in.Goals as goal
+
+pub loop-node-preserved : goal.loop-node-preserved
+loop-node-preserved c = λ m less bad.
+    bad_in c.args.net.now c.args.graph c.loop-node.node c.edges.result.now c.loop-node.invariant
+    c.edges.ensures (λ h. false≢true (sym c.if-has_bad.false ∙ c.has_bad.ensures.1 h)) m less bad
+
+pub returns : goal.returns
+returns c = λ n bad.
+    c.loop-node.invariant n (
+    let w = slice_get_within (states_of c.args.net.now c.args.graph) n bad.state bad.found in
+    let count = c.states-node-end.ensures.count in
+    omega (arith, w, count, c.loop-node-test.false)) bad

@@ -1,0 +1,13 @@
+pub mod Strokes
+pub mod Whole
+pub mod Inflected
+pub mod Cyclic
+pub mod Refusing
+pub mod Rows
+pub mod Surveys
+pub mod Endings
+pub mod Places
+pub mod Searches
+pub mod Ways
+pub mod Weights
+pub mod Faults
