@@ -707,7 +707,7 @@ def dead_end_with_outputs(n):
     return search("e " + "a " * n, *MERGE)
 
 
-@case("locate", 2_000, known=SEARCH)
+@case("locate", 2_000)
 def shortest_hits_of_a_loop(n):
     """the shortest hits of a loop over n words"""
     drawn(("a", [1, 2]))
@@ -728,7 +728,7 @@ def longest_merged_hit_of_a_loop(n):
     return search("a " * n, *LONGEST, *MERGE)
 
 
-@case("locate", 4_000, known=SEARCH)
+@case("locate", 4_000)
 def digits(n):
     """a number of n digits"""
     chain("s", "<NB>")
