@@ -31,18 +31,18 @@ both-true : (a b : Bool) → (a && b) ≡ true → (a ≡ true) × (b ≡ true)
 both-true true b e = (refl, e)
 both-true false b e = cc
 
-abbrev joined : (from to reading : ℕ) → placed.Link
-joined from to reading = record { from = from; to = to; reading = reading }
+abbrev joined : (from reading to : ℕ) → placed.Link
+joined from reading to = record { from = from; reading = reading; to = to }
 
 -- two links with the same parts are the same
 pub link-from_eq : (x y : placed.Link) →
-    (nat_eq x.from y.from && (nat_eq x.to y.to && nat_eq x.reading y.reading)) ≡ true → x ≡ y
+    (nat_eq x.from y.from && (nat_eq x.reading y.reading && nat_eq x.to y.to)) ≡ true → x ≡ y
 link-from_eq x y e =
-    let first = both-true (nat_eq x.from y.from) (nat_eq x.to y.to && nat_eq x.reading y.reading) e in
-    let rest = both-true (nat_eq x.to y.to) (nat_eq x.reading y.reading) first.1 in
-    ap (λ (a : ℕ). joined a x.to x.reading) (eqb-true x.from y.from first.0)
-    ∙ (ap (λ (a : ℕ). joined y.from a x.reading) (eqb-true x.to y.to rest.0)
-    ∙ ap (joined y.from y.to) (eqb-true x.reading y.reading rest.1))
+    let first = both-true (nat_eq x.from y.from) (nat_eq x.reading y.reading && nat_eq x.to y.to) e in
+    let rest = both-true (nat_eq x.reading y.reading) (nat_eq x.to y.to) first.1 in
+    ap (λ (a : ℕ). joined a x.reading x.to) (eqb-true x.from y.from first.0)
+    ∙ (ap (λ (a : ℕ). joined y.from a x.to) (eqb-true x.reading y.reading rest.0)
+    ∙ ap (joined y.from y.reading) (eqb-true x.to y.to rest.1))
 
 true-both : (a b : Bool) → a ≡ true → b ≡ true → (a && b) ≡ true
 true-both true b e f = f
@@ -60,10 +60,10 @@ not-equal Greater apart = refl
 
 -- having the same parts is an equivalence
 pub link-equivalence : IsEquivalence (λ (x y : placed.Link).
-    nat_eq x.from y.from && (nat_eq x.to y.to && nat_eq x.reading y.reading))
+    nat_eq x.from y.from && (nat_eq x.reading y.reading && nat_eq x.to y.to))
 link-equivalence = and_equiv (on_equiv (λ (link : placed.Link). link.from) nat_eq_equiv)
-    (and_equiv (on_equiv (λ (link : placed.Link). link.to) nat_eq_equiv)
-    (on_equiv (λ (link : placed.Link). link.reading) nat_eq_equiv))
+    (and_equiv (on_equiv (λ (link : placed.Link). link.reading) nat_eq_equiv)
+    (on_equiv (λ (link : placed.Link). link.to) nat_eq_equiv))
 
 module _ (texts : List (List ℕ)) where
   abbrev texts-cmp : (x y : placed.Link) → Ordering
@@ -107,26 +107,26 @@ module _ (texts : List (List ℕ)) where
 
   -- links that are level have the same parts
   level-same : (x y : placed.Link) → link_cmp texts x y ≡ Equal →
-      (nat_eq x.from y.from && (nat_eq x.to y.to && nat_eq x.reading y.reading)) ≡ true
+      (nat_eq x.from y.from && (nat_eq x.reading y.reading && nat_eq x.to y.to)) ≡ true
   level-same x y e =
       let first = then-equal (nat_cmp x.from y.from) (ends-cmp x y) e in
       let second = then-equal (nat_cmp x.to y.to) (readings-cmp x y) first.1 in
       let third = then-equal (texts-cmp x y) (nat_cmp x.reading y.reading) second.1 in
-      true-both (nat_eq x.from y.from) (nat_eq x.to y.to && nat_eq x.reading y.reading)
+      true-both (nat_eq x.from y.from) (nat_eq x.reading y.reading && nat_eq x.to y.to)
       (eq-eqb x.from y.from (nat-equal x.from y.from first.0))
-      (true-both (nat_eq x.to y.to) (nat_eq x.reading y.reading)
-      (eq-eqb x.to y.to (nat-equal x.to y.to second.0))
-      (eq-eqb x.reading y.reading (nat-equal x.reading y.reading third.1)))
+      (true-both (nat_eq x.reading y.reading) (nat_eq x.to y.to)
+      (eq-eqb x.reading y.reading (nat-equal x.reading y.reading third.1))
+      (eq-eqb x.to y.to (nat-equal x.to y.to second.0)))
 
   -- just the same links are level
   pub link-ties : (x y : placed.Link) →
-      (nat_eq x.from y.from && (nat_eq x.to y.to && nat_eq x.reading y.reading))
+      (nat_eq x.from y.from && (nat_eq x.reading y.reading && nat_eq x.to y.to))
       ≡ is_eq (link_cmp texts x y)
-  link-ties x y = by (nat_eq x.from y.from && (nat_eq x.to y.to && nat_eq x.reading y.reading)) refl
+  link-ties x y = by (nat_eq x.from y.from && (nat_eq x.reading y.reading && nat_eq x.to y.to)) refl
     where
       by : (b : Bool) →
-          (nat_eq x.from y.from && (nat_eq x.to y.to && nat_eq x.reading y.reading)) ≡ b →
-          (nat_eq x.from y.from && (nat_eq x.to y.to && nat_eq x.reading y.reading))
+          (nat_eq x.from y.from && (nat_eq x.reading y.reading && nat_eq x.to y.to)) ≡ b →
+          (nat_eq x.from y.from && (nat_eq x.reading y.reading && nat_eq x.to y.to))
           ≡ is_eq (link_cmp texts x y)
       by true e =
           let tied : link_cmp texts x y ≡ Equal =

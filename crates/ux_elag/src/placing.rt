@@ -4,13 +4,15 @@
 //! tell of any number of states.
 
 ghost use Rattle.std.specs.Prelude.{◌≡◌, ◌↔◌, ◌<◌, ◌++◌, ℕ, All, Contains, IfOk, OnOk, length, map};
+ghost use Rattle.std.specs.declared.cmp.Ordering.TheVariants.{Equal};
+ghost use Rattle.std.specs.List.{HoldsAt};
 ghost use Rattle.std.specs.List.Sorted.{IsStrictlySortedBy};
 ghost use Rattle.std.specs.Ordering.{nat_cmp};
 ghost use Rattle.ux_elag.specs.Numbers.{HasEnds, IsFormed, IsPlaced, IsWithin, ends_of, stated, states_in};
 
 use crate::ranks::{in_order, place_of};
 use std::alloc::Global;
-use ux_base::Mem;
+use ux_base::{Mem, NoMemory};
 use ux_reading_table::{NumberedLink, NumberedSentence};
 use ux_subsets::{Automaton, Link};
 
@@ -64,10 +66,26 @@ fn placed_links(alloc: Global, links: &[NumberedLink], states: &[u64]) -> Mem<Ve
     let mut found = Vec::new(alloc);
     for link in links {
         found.push(Link {
-            from: place_of(states, &link.from),
-            to: place_of(states, &link.to),
+            from: narrow_place_of(states, &link.from)?,
             reading: link.reading,
+            to: narrow_place_of(states, &link.to)?,
         })?;
     }
     Ok(found)
+}
+
+/// The place of a state in a list in order that has it. A place of more than 32 bits is want of
+/// memory.
+fn narrow_place_of(states: &[u64], state: &u64) -> Mem<u32>
+    requires in_order { IsStrictlySortedBy nat_cmp states.now }
+    requires there { Contains states.now state.now }
+    ensures inside { IfOk result (λ place. place < length states.now) }
+    ensures equal { IfOk result
+        (HoldsAt (λ other. nat_cmp other state.now ≡ Equal) states.now) }
+{
+    let place = place_of(states, state);
+    if place > u32::MAX as usize {
+        return Err(NoMemory);
+    }
+    Ok(place as u32)
 }

@@ -10,11 +10,9 @@ use Rattle.std.proofs.lemmas.List.{length-take, length-map, get_or-take, get_or-
 use Rattle.std.proofs.lemmas.List.Elements.{Contains-get_or}
 use Rattle.ux_base.proofs.Lists.{less_or}
 use Rattle.ux_subsets.specs.declared.automaton.Link.{Link}
-use Rattle.ux_subsets.specs.declared.departures.Departure.{Departure}
 use Rattle.ux_subsets.specs.declared.departures.Step.{Step}
 use Rattle.ux_subsets.specs.Paths.{link, IsAscending}
-use Rattle.ux_subsets.specs.Departures.{departure_of, step_by, IsBefore, AreInOrder, IsStart, AreStarts, start_at, steps_from, AreByStart}
-use Rattle.ux_subsets.proofs.ElementsLemmas.{contains_map, contained_map}
+use Rattle.ux_subsets.specs.Departures.{step_of, IsBefore, AreInOrder, IsStart, AreStarts, start_at, steps_from, AreByStart}
 use Rattle.ux_subsets.proofs.SpellingLemmas.{same_link}
 use Rattle.ux_subsets.proofs.SubsetsSpellLemmas.{below_or_last}
 
@@ -42,10 +40,10 @@ not_less_step x y h =
     let e = not_less_first x.reading y.reading (nat_cmp x.to y.to) h in
     record { reading = e.0; to = λ same. not_less_last x.to y.to (e.1 (sym same)) }
 
--- where the departure at the place isn't below the state, none from there on is
-pub is_start : (sorted : List Departure) → IsNonDecreasingBy (λ (d : Departure). d.from) sorted → (state start : ℕ) → start ≤ length sorted →
-    ((k : ℕ) (d : Departure) → k < start → (get_or sorted k d).from < state) →
-    (start < length sorted → (d : Departure) → state ≤ (get_or sorted start d).from) → IsStart sorted state start
+-- where the link at the place isn't below the state, none from there on is
+pub is_start : (sorted : List Link) → IsNonDecreasingBy (λ (d : Link). d.from) sorted → (state start : ℕ) → start ≤ length sorted →
+    ((k : ℕ) (d : Link) → k < start → (get_or sorted k d).from < state) →
+    (start < length sorted → (d : Link) → state ≤ (get_or sorted start d).from) → IsStart sorted state start
 is_start sorted up state start le before at = record {
   within = le;
   before = before;
@@ -53,7 +51,7 @@ is_start sorted up state start le before at = record {
 }
 
 -- one start more
-pub starts_more : (sorted : List Departure) (state place : ℕ) (starts starts' : List ℕ) → starts' ≡ starts ++ place ∷ [] → IsStart sorted state place → AreStarts sorted state starts → AreStarts sorted (state + 1) starts'
+pub starts_more : (sorted : List Link) (state place : ℕ) (starts starts' : List ℕ) → starts' ≡ starts ++ place ∷ [] → IsStart sorted state place → AreStarts sorted state starts → AreStarts sorted (state + 1) starts'
 starts_more sorted state place starts starts' pushed is a = subst (λ (ps : List ℕ). AreStarts sorted (state + 1) ps) (sym pushed) (record {
   len = let e = a.len in length-append starts (place ∷ []) ∙ omega (arith, e);
   each = λ s lt. elim (below_or_last s state (omega (arith, lt))) [
@@ -93,24 +91,23 @@ at_between xs p q i d lt =
     let less : i < q - p = omega (arith, lt, len) in
     (get_or-take (q - p) (drop p xs) i d less ∙ get_or-drop p xs i d, omega (arith, less))
 
-module _ (links : List Link) (last : ℕ) (up : IsAscending last links) (sorted : List Departure)
-    (same : (d : Departure) → Contains sorted d ↔ Contains (map departure_of links) d)
-    (rises : (i j : ℕ) (d : Departure) → i ≤ j → j < length sorted →
-    ((get_or sorted i d).from ≤ (get_or sorted j d).from) × ((get_or sorted j d).from ≡ (get_or sorted i d).from → IsBefore (get_or sorted i d).step (get_or sorted j d).step))
-    (starts : List ℕ) (begin : AreStarts sorted last starts) (steps : List Step) (are : steps ≡ map (λ (d : Departure). d.step) sorted) where
+module _ (links : List Link) (last : ℕ) (up : IsAscending last links) (sorted : List Link)
+    (same : (l : Link) → Contains sorted l ↔ Contains links l)
+    (rises : (i j : ℕ) (d : Link) → i ≤ j → j < length sorted →
+    ((get_or sorted i d).from ≤ (get_or sorted j d).from) × ((get_or sorted j d).from ≡ (get_or sorted i d).from → IsBefore (step_of (get_or sorted i d)) (step_of (get_or sorted j d))))
+    (starts : List ℕ) (begin : AreStarts sorted last starts) (steps : List Step) (are : steps ≡ map step_of sorted) where
   len : length steps ≡ length sorted
-  len = ap length are ∙ length-map sorted (λ (d : Departure). d.step)
+  len = ap length are ∙ length-map sorted step_of
 
   abbrev at : ℕ → ℕ
   at s = start_at steps starts s
 
-  from_below : (k : ℕ) (d : Departure) → k < length sorted → (get_or sorted k d).from < last
+  from_below : (k : ℕ) (d : Link) → k < length sorted → (get_or sorted k d).from < last
   from_below k d lt =
-      let m = contained_map departure_of links (get_or sorted k d) ((same (get_or sorted k d)).0 (Contains-get_or sorted k d lt)) in
-      let a = up.ascends m.0 m.1 in
-      let b = up.within m.0 m.1 in
-      let e : m.0.from ≡ (get_or sorted k d).from = ap (λ (x : Departure). x.from) m.2 in
-      omega (arith, a, b, e)
+      let there = (same (get_or sorted k d)).0 (Contains-get_or sorted k d lt) in
+      let a = up.ascends (get_or sorted k d) there in
+      let b = up.within (get_or sorted k d) there in
+      omega (arith, a, b)
 
   start : (s : ℕ) → IsStart sorted s (at s)
   start s = elim (less_or s last) [
@@ -124,15 +121,12 @@ module _ (links : List Link) (last : ℕ) (up : IsAscending last links) (sorted 
         })
   ]
 
-  nowhere : Departure
-  nowhere = record { from = 0; step = step_by 0 0 }
-
   up_start : (s : ℕ) → at s ≤ at (s + 1)
   up_start s = elim (less_or (at (s + 1)) (at s)) [
     | inl lt ↦
         let w = (start s).within in
-        let b = (start s).before (at (s + 1)) nowhere lt in
-        let a = (start (s + 1)).after (at (s + 1)) nowhere (omega arith) (omega (arith, lt, w)) in
+        let b = (start s).before (at (s + 1)) (link 0 0 0) lt in
+        let a = (start (s + 1)).after (at (s + 1)) (link 0 0 0) (omega arith) (omega (arith, lt, w)) in
         absurd (omega (arith, a, b))
     | inr le ↦ le
   ]
@@ -140,25 +134,19 @@ module _ (links : List Link) (last : ℕ) (up : IsAscending last links) (sorted 
   inside : (s : ℕ) → at s ≤ length steps
   inside s = let w = (start s).within in let e = len in omega (arith, w, e)
 
-  -- between the starts each departure leaves the state
-  leaves : (s k : ℕ) (d : Departure) → at s ≤ k → k < at (s + 1) → (get_or sorted k d).from ≡ s
+  -- between the starts each link leaves the state
+  leaves : (s k : ℕ) (d : Link) → at s ≤ k → k < at (s + 1) → (get_or sorted k d).from ≡ s
   leaves s k d from below =
       let w = (start (s + 1)).within in
       let b = (start (s + 1)).before k d below in
       let a = (start s).after k d from (omega (arith, below, w)) in
       omega (arith, a, b)
 
-  step_at : (k : ℕ) (d : Departure) (e : Step) → k < length sorted → get_or steps k e ≡ (get_or sorted k d).step
-  step_at k d e lt = ap (λ (xs : List Step). get_or xs k e) are ∙ get_or-map (λ (d : Departure). d.step) sorted k d e lt
+  step_at : (k : ℕ) (d : Link) (e : Step) → k < length sorted → get_or steps k e ≡ step_of (get_or sorted k d)
+  step_at k d e lt = ap (λ (xs : List Step). get_or xs k e) are ∙ get_or-map step_of sorted k d e lt
 
-  abbrev departure : ℕ → Step → Departure
-  departure s e = record { from = s; step = e }
-
-  joined : (a a' : ℕ) (b b' : Step) → a ≡ a' → b ≡ b' → departure a b ≡ departure a' b'
-  joined a a' b b' f g = cc
-
-  same_departure : (d : Departure) (s : ℕ) (e : Step) → d.from ≡ s → d.step ≡ e → d ≡ departure s e
-  same_departure d s e f g = joined d.from s d.step e f g
+  same_as : (l : Link) (s : ℕ) (e : Step) → l.from ≡ s → step_of l ≡ e → l ≡ link s e.to e.reading
+  same_as l s e f g = same_link l.from s l.to e.to l.reading e.reading f (ap (λ (x : Step). x.to) g) (ap (λ (x : Step). x.reading) g)
 
   exact_step : (s : ℕ) (e : Step) → Contains (steps_from steps starts s) e ↔ Contains links (link s e.to e.reading)
   exact_step s e = (
@@ -167,54 +155,51 @@ module _ (links : List Link) (last : ℕ) (up : IsAscending last links) (sorted 
         let w = (start (s + 1)).within in
         let below = k.2 in
         let lt : k.0 < length sorted = omega (arith, below, w) in
-        let d = get_or sorted k.0 (departure s e) in
-        let is : d ≡ departure s e = same_departure d s e (leaves s k.0 (departure s e) k.1 k.2) (sym (step_at k.0 (departure s e) e lt) ∙ k.3) in
-        let there = subst (λ (x : Departure). Contains sorted x) is (Contains-get_or sorted k.0 (departure s e) lt) in
-        let m = contained_map departure_of links (departure s e) ((same (departure s e)).0 there) in
-        subst (λ (l : Link). Contains links l)
-        (same_link m.0.from s m.0.to e.to m.0.reading e.reading (ap (λ (x : Departure). x.from) m.2) (ap (λ (x : Departure). x.step.to) m.2) (ap (λ (x : Departure). x.step.reading) m.2))
-        m.1,
+        let d = link s e.to e.reading in
+        let is : get_or sorted k.0 d ≡ d = same_as (get_or sorted k.0 d) s e (leaves s k.0 d k.1 k.2) (sym (step_at k.0 d e lt) ∙ k.3) in
+        (same d).0 (subst (λ (x : Link). Contains sorted x) is (Contains-get_or sorted k.0 d lt)),
     λ h.
-        let there = (same (departure s e)).1 (contains_map departure_of links (link s e.to e.reading) h) in
+        let d = link s e.to e.reading in
+        let there = (same d).1 h in
         let k = there.0 in
         let lt = there.1 in
-        let from : (get_or sorted k (departure s e)).from ≡ s = ap (λ (x : Departure). x.from) there.2 in
+        let from : (get_or sorted k d).from ≡ s = ap (λ (x : Link). x.from) there.2 in
         (in_between steps (at s) (at (s + 1)) e (inside (s + 1))).1 (
           k,
           elim (less_or k (at s)) [
-            | inl below ↦ let b = (start s).before k (departure s e) below in absurd (omega (arith, b, from))
+            | inl below ↦ let b = (start s).before k d below in absurd (omega (arith, b, from))
             | inr le ↦ le
           ],
           elim (less_or k (at (s + 1))) [
             | inl below ↦ below
-            | inr le ↦ let a = (start (s + 1)).after k (departure s e) le lt in absurd (omega (arith, a, from))
+            | inr le ↦ let a = (start (s + 1)).after k d le lt in absurd (omega (arith, a, from))
           ],
-          step_at k (departure s e) e lt ∙ ap (λ (x : Departure). x.step) there.2,
+          step_at k d e lt ∙ ap step_of there.2,
         ),
   )
 
   in_order : (s : ℕ) → AreInOrder (steps_from steps starts s)
   in_order s i j d le lt =
       let w = (start (s + 1)).within in
-      let d' = departure 0 d in
+      let d' = link 0 d.to d.reading in
       let b = at_between steps (at s) (at (s + 1)) j d lt in
       let a = at_between steps (at s) (at (s + 1)) i d (omega (arith, le, lt)) in
       let below = b.1 in
       let below' = a.1 in
-      let first : get_or (steps_from steps starts s) i d ≡ (get_or sorted (at s + i) d').step = a.0 ∙ step_at (at s + i) d' d (omega (arith, below', w)) in
-      let second : get_or (steps_from steps starts s) j d ≡ (get_or sorted (at s + j) d').step = b.0 ∙ step_at (at s + j) d' d (omega (arith, below, w)) in
+      let first : get_or (steps_from steps starts s) i d ≡ step_of (get_or sorted (at s + i) d') = a.0 ∙ step_at (at s + i) d' d (omega (arith, below', w)) in
+      let second : get_or (steps_from steps starts s) j d ≡ step_of (get_or sorted (at s + j) d') = b.0 ∙ step_at (at s + j) d' d (omega (arith, below, w)) in
       let tied : (get_or sorted (at s + j) d').from ≡ (get_or sorted (at s + i) d').from =
       leaves s (at s + j) d' (omega arith) below ∙ sym (leaves s (at s + i) d' (omega arith) below') in
       subst (λ (x : Step). IsBefore x (get_or (steps_from steps starts s) j d)) (sym first)
-      (subst (λ (x : Step). IsBefore (get_or sorted (at s + i) d').step x) (sym second)
+      (subst (λ (x : Step). IsBefore (step_of (get_or sorted (at s + i) d')) x) (sym second)
       ((rises (at s + i) (at s + j) d' (omega (arith, le)) (omega (arith, below, w))).1 tied))
 
   pub are_by_start : AreByStart links steps starts
   are_by_start = record { rises = up_start; within = inside; exact = exact_step; ordered = in_order }
 
--- a departure that isn't less leaves no smaller state, and where it leaves the same, its step isn't before
-pub not_less_departure : (x y : Departure) → is_lt (ordering_then (nat_cmp x.from y.from) (ordering_then (nat_cmp x.step.reading y.step.reading) (nat_cmp x.step.to y.step.to))) ≡ false →
-    (y.from ≤ x.from) × (x.from ≡ y.from → IsBefore y.step x.step)
-not_less_departure x y h =
-    let e = not_less_first x.from y.from (ordering_then (nat_cmp x.step.reading y.step.reading) (nat_cmp x.step.to y.step.to)) h in
-    (e.0, λ same. not_less_step x.step y.step (e.1 same))
+-- a link that isn't less leaves no smaller state, and where it leaves the same, its step isn't before
+pub not_less_link : (x y : Link) → is_lt (ordering_then (nat_cmp x.from y.from) (ordering_then (nat_cmp x.reading y.reading) (nat_cmp x.to y.to))) ≡ false →
+    (y.from ≤ x.from) × (x.from ≡ y.from → IsBefore (step_of y) (step_of x))
+not_less_link x y h =
+    let e = not_less_first x.from y.from (ordering_then (nat_cmp x.reading y.reading) (nat_cmp x.to y.to)) h in
+    (e.0, λ same. not_less_step (step_of x) (step_of y) (e.1 same))

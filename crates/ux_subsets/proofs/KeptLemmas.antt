@@ -7,16 +7,12 @@ use Rattle.ux_subsets.specs.declared.automaton.Link.{Link}
 use Rattle.ux_subsets.specs.declared.sets.Set.{Set}
 use Rattle.ux_subsets.specs.declared.sets.Over.{Over}
 use Rattle.ux_subsets.specs.Paths.{link, Spells, IsAscending, IsLeft, IsNormal}
-use Rattle.ux_subsets.specs.Building.{states_at, seen_at, IsStage}
-use Rattle.ux_subsets.proofs.ElementsLemmas.{nothing_in, contains_first}
+use Rattle.ux_subsets.specs.Building.{states_at, seen_at, IsReached}
+use Rattle.ux_subsets.proofs.ElementsLemmas.{contains_first}
 use Rattle.ux_subsets.proofs.SpellingLemmas.{Reads, spells_iff, climbs}
-use Rattle.ux_subsets.proofs.StagesLemmas.{all_expanded}
 
-module _ {Stands : ℕ → List ℕ → Type 0} {Satisfies : List ℕ → Type 0} (last : ℕ) (links : List Link) (up : IsAscending last links) (sets : List Set) (links' : List Link) (overs : List Over) (expanded border : ℕ) (all : Bool)
-    (s : IsStage Stands Satisfies last links sets links' overs [] expanded border last all) (is : IsTrue all) where
-  early : (n : ℕ) → n < length sets → n < expanded
-  early n lt = let whole = all_expanded last links sets links' overs [] expanded border all s in omega (arith, lt, whole)
-
+module _ {Stands : ℕ → List ℕ → Type 0} {Satisfies : List ℕ → Type 0} (last : ℕ) (links : List Link) (up : IsAscending last links) (sets : List Set) (links' : List Link) (overs : List Over) (count : ℕ) (all : Bool)
+    (s : IsReached Stands Satisfies last links sets links' overs count all) (is : IsTrue all) where
   -- what a state of the set spells to the last one satisfies, behind what came before
   keeps : (readings before : List ℕ) (n state : ℕ) → n < length sets → Stands (seen_at sets n) before → Contains (states_at sets n) state →
       Reads links state last readings → Satisfies (before ++ readings)
@@ -25,15 +21,15 @@ module _ {Stands : ℕ → List ℕ → Type 0} {Satisfies : List ℕ → Type 0
     | inl e ↦
         let len = climbs links last up readings h.0 last h.2 in
         let none : readings ≡ [] = nil_from_length readings (omega (arith, len, e)) in
-        let over = s.kept is n r (early n lt) (state, at, subst (λ (t : ℕ). Contains links (link state t r)) e h.1) in
-        subst (λ (rest : List ℕ). Satisfies (before ++ r ∷ rest)) (sym none) ((s.built.over n r (early n lt) before stands).0 over).1
-    | inr other ↦ elim (s.built.going n r h.0 (early n lt) (other, (state, at, h.1))) [
+        let over = s.kept is n r lt (state, at, subst (λ (t : ℕ). Contains links (link state t r)) e h.1) in
+        subst (λ (rest : List ℕ). Satisfies (before ++ r ∷ rest)) (sym none) ((s.built.over n r lt before stands).0 over).1
+    | inr other ↦ elim (s.built.going n r h.0 lt (other, (state, at, h.1))) [
       | inl k ↦
           let b = s.built.linked (link n k.0 r) k.1 in
           let there = (s.built.linked_set (link n k.0 r) k.1 h.0).1 (other, (state, at, h.1)) in
           let rest = keeps readings (before ++ r ∷ []) k.0 h.0 b.1 (s.built.linked_seen (link n k.0 r) k.1 before stands) there h.2 in
           subst Satisfies (append_assoc before (r ∷ []) readings) rest
-      | inr w ↦ absurd (nothing_in w.1)
+      | inr w ↦ absurd w.1
     ]
   ]
 

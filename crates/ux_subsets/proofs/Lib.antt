@@ -15,7 +15,8 @@ pub mod GatheringLemmas
 pub mod InterningLemmas
 pub mod RowsLemmas
 pub mod KeptLemmas
-pub mod NumberedLemmas
+pub mod ClosedLemmas
 pub mod RunsLemmas
-pub mod NumberingLemmas
+pub mod TurningLemmas
+pub mod AgendaLemmas
 pub mod DeparturesLemmas

@@ -1,19 +1,19 @@
 -- Sets get their numbers.
-use Rattle.std.proofs.Common.{arith, ◌≡◌, ℕ, zero, suc, ◌+◌, ◌<◌, ◌≤◌, ◌⊎◌, inl, inr, List, [], ◌∷◌, ◌++◌, refl, sym, ap, subst, ◌∙◌, length, length-append, take, ◌-◌, Bool, true, false, cond, ◌||◌}
+use Rattle.std.proofs.Common.{arith, ◌≡◌, ℕ, zero, suc, ◌+◌, ◌<◌, ◌≤◌, ◌⊎◌, inl, inr, List, [], ◌∷◌, ◌++◌, refl, sym, ap, subst, ◌∙◌, length, length-append, append_assoc, get_or, take, ◌-◌, Bool, true, false, cond, ◌||◌}
 use mathlib.Core.Bool.{◌&&◌}
 use Rattle.std.specs.List.{list_any}
 use Rattle.indexmap.specs.IndexSet.{insert_key}
 use Rattle.ux_base.proofs.Lists.{less_or}
 use Rattle.std.specs.Prelude.{Contains, Some, slice_get}
-use Rattle.std.proofs.lemmas.Option.{same_Some, slice_get_within}
+use Rattle.std.proofs.lemmas.Option.{same_Some, slice_get_within, slice_get-get_or}
 use Rattle.std.proofs.lemmas.List.Elements.{Contains-append_left, Contains-push, Contains-push_cases}
 use Rattle.std.specs.List.Sorted.{IsStrictlyIncreasing}
 use Rattle.ux_subsets.specs.declared.automaton.Link.{Link}
 use Rattle.ux_subsets.specs.declared.sets.Set.{Set}
 use Rattle.ux_subsets.specs.declared.sets.Over.{Over}
 use Rattle.ux_subsets.specs.declared.sets.Waiting.{Waiting}
-use Rattle.ux_subsets.specs.Paths.{IsAscending}
-use Rattle.ux_subsets.specs.Building.{states_of, states_at, seen_at, IsBuilt, HasNumber, IsPlaced, Unlike, AreUnlike, AreApart, IsStage}
+use Rattle.ux_subsets.specs.Paths.{link, IsAscending}
+use Rattle.ux_subsets.specs.Building.{states_of, states_at, first_at, seen_at, IsBuilt, HasNumber, IsPlaced, Unlike, AreUnlike, AreApart, IsStage, Waits}
 use Rattle.ux_subsets.proofs.ElementsLemmas.{nothing_in, first_or_later}
 use Rattle.ux_subsets.proofs.BuiltLemmas.{placed}
 
@@ -134,7 +134,8 @@ module _ (old new : List Set) (set : Set) (number : ℕ) (h : HasNumber old new 
     | inr f ↦ inr f.2
   ]
 
-unlike_front : (front : List Waiting) (w : Waiting) → AreUnlike (front ++ w ∷ []) → AreUnlike front × ((x : Waiting) → Contains front x → Unlike x w)
+-- the last one is unlike those before it
+pub unlike_front : (front : List Waiting) (w : Waiting) → AreUnlike (front ++ w ∷ []) → AreUnlike front × ((x : Waiting) → Contains front x → Unlike x w)
 unlike_front [] w u = (tt, λ x h. absurd (nothing_in h))
 unlike_front (y ∷ front) w u =
     let rest = unlike_front front w u.1 in (
@@ -180,43 +181,125 @@ module _ (sets sets' : List Set) (Waits Waits' : Waiting → Type 0) (w : Waitin
     ];
   }
 
--- one that waits gets its link
-pub stage_placed : {Stands : ℕ → List ℕ → Type 0} {Satisfies : List ℕ → Type 0} (last : ℕ) (links : List Link) → IsAscending last links → (sets sets' : List Set) (links' links'' : List Link) (overs : List Over)
-    (waiting front : List Waiting) (one : Waiting) (expanded border level : ℕ) (all : Bool) → waiting ≡ front ++ one ∷ [] → IsPlaced sets sets' links' links'' one → border ≤ length sets →
-    IsStage Stands Satisfies last links sets links' overs waiting expanded border level all →
-    (border ≤ length sets') × IsStage Stands Satisfies last links sets' links'' overs front expanded border level all
-stage_placed {Stands} {Satisfies} last links up sets sets' links' links'' overs waiting front one expanded border level all popped p bound m =
-    let u = unlike_front front one (subst AreUnlike popped m.unlike) in
-    let there = subst (λ (ws : List Waiting). Contains ws one) (sym popped) (Contains-push front one) in
-    let in_front = λ (w : Waiting) (h : Contains front w). subst (λ (ws : List Waiting). Contains ws w) (sym popped) (Contains-append_left front (one ∷ []) w h) in
-    let longer = more sets sets' one.set p.number p.has in
-    let is_new = λ (n s : ℕ) (e : n ≡ p.number) (c : Contains (states_at sets' n) s).
-    m.later one there s (subst (λ (xs : List ℕ). Contains xs s) (ap (states_at sets') e ∙ p.has.same) c) in (
-      omega (arith, bound, longer),
-      record {
-        built = subst (λ (ls : List Link). IsBuilt Stands Satisfies last links sets' ls overs (Contains front) expanded) (sym p.linked)
-            (placed last links up sets sets' links' overs (Contains waiting) (Contains front) expanded m.built
-            one there p.number in_front
-            (λ x h. elim (Contains-push_cases front one x (subst (λ (ws : List Waiting). Contains ws x) popped h)) [ inl f ↦ inl f | inr e ↦ inr (sym e) ])
-            (λ x h from reading. u.1 x h from reading)
-            (kept sets sets' one.set p.number p.has) longer (was sets sets' one.set p.number p.has)
-            p.has.there p.has.same (kept_seen sets sets' one.set p.number p.has) p.has.same_seen);
-        unlike = u.0;
-        fresh = λ n s from lt c. elim (was sets sets' one.set p.number p.has n lt) [
-          | inl old ↦ m.fresh n s from old (subst (λ (xs : List ℕ). Contains xs s) (kept sets sets' one.set p.number p.has n old) c)
-          | inr e ↦ let above = is_new n s e c in omega (arith, above)
-        ];
-        newer = λ n s from lt c. elim (was sets sets' one.set p.number p.has n lt) [
-          | inl old ↦ m.newer n s from old (subst (λ (xs : List ℕ). Contains xs s) (kept sets sets' one.set p.number p.has n old) c)
-          | inr e ↦ is_new n s e c
-        ];
-        later = λ w h. m.later w (in_front w h);
-        apart = placed_apart sets sets' (Contains waiting) (Contains front) one there p.number p.has in_front m.apart;
-        kept = λ so n r lt leads.
-            let c = m.built.count in
-            m.kept so n r lt (leads.0, subst (λ (xs : List ℕ). Contains xs leads.0) (kept sets sets' one.set p.number p.has n (omega (arith, lt, c))) leads.1, leads.2);
-      },
+-- the least state of the set
+first_at_states : (sets : List Set) (n : ℕ) (set : Set) → n < length sets → states_at sets n ≡ states_of set → first_at sets n ≡ set.first
+first_at_states [] n set lt e = absurd (omega (arith, lt))
+first_at_states (x ∷ sets) zero set lt e = cc
+first_at_states (x ∷ sets) (suc n) set lt e = first_at_states sets n set (omega (arith, lt)) e
+
+first_at_append : (sets more : List Set) (n : ℕ) → n < length sets → first_at (sets ++ more) n ≡ first_at sets n
+first_at_append [] more n lt = absurd (omega arith)
+first_at_append (x ∷ sets) more zero lt = refl
+first_at_append (x ∷ sets) more (suc n) lt = first_at_append sets more n (omega arith)
+
+pub states_at_behind : (before sets : List Set) (n : ℕ) → states_at (before ++ sets) (length before + n) ≡ states_at sets n
+states_at_behind [] sets n = let e : 0 + n ≡ n = omega arith in ap (states_at sets) e
+states_at_behind (x ∷ before) sets n =
+    let e : suc (length before) + n ≡ suc (length before + n) = omega arith in
+    ap (states_at (x ∷ (before ++ sets))) e ∙ states_at_behind before sets n
+
+pub seen_at_behind : (before sets : List Set) (n : ℕ) → seen_at (before ++ sets) (length before + n) ≡ seen_at sets n
+seen_at_behind [] sets n = let e : 0 + n ≡ n = omega arith in ap (seen_at sets) e
+seen_at_behind (x ∷ before) sets n =
+    let e : suc (length before) + n ≡ suc (length before + n) = omega arith in
+    ap (seen_at (x ∷ (before ++ sets))) e ∙ seen_at_behind before sets n
+
+-- the place among the sets with one least state is a number among all sets
+behind_others : (before old new : List Set) (set : Set) (place : ℕ) → ((n : ℕ) → n < length before → first_at before n ≡ set.first → ⊥) →
+    HasNumber old new set place → HasNumber (before ++ old) (before ++ new) set (length before + place)
+behind_others before old new set place other h = record {
+  there = let len = length-append before new in let there = h.there in omega (arith, len, there);
+  same = states_at_behind before new place ∙ h.same;
+  same_seen = seen_at_behind before new place ∙ h.same_seen;
+  either = elim h.either [
+    | inl e ↦ inl (ap (λ (xs : List Set). before ++ xs) e)
+    | inr f ↦ inr (
+      ap (λ (xs : List Set). before ++ xs) f.0 ∙ sym (append_assoc before old (set ∷ [])),
+      (let at = f.1 in let len = length-append before old in omega (arith, at, len)),
+      λ n lt states seen. elim (less_or n (length before)) [
+        | inl lt' ↦ other n lt' (first_at_states before n set lt' (sym (states_at_append before old n lt') ∙ states))
+        | inr le ↦
+            let is : length before + (n - length before) ≡ n = omega (arith, le) in
+            let len = length-append before old in
+            f.2 (n - length before) (omega (arith, le, lt, len))
+            (sym (states_at_behind before old (n - length before)) ∙ (ap (states_at (before ++ old)) is ∙ states))
+            (sym (seen_at_behind before old (n - length before)) ∙ (ap (seen_at (before ++ old)) is ∙ seen))
+      ],
     )
+  ];
+}
+
+fewer_due : (front : List Waiting) (one : Waiting) (filed : ℕ → List Waiting) (w : Waiting) → Waits front filed w → Waits (front ++ one ∷ []) filed w
+fewer_due front one filed w h = elim h [ inl d ↦ inl (Contains-append_left front (one ∷ []) w d) | inr f ↦ inr f ]
+
+split_due : (front : List Waiting) (one : Waiting) (filed : ℕ → List Waiting) (w : Waiting) → Waits (front ++ one ∷ []) filed w → Waits front filed w ⊎ (w ≡ one)
+split_due front one filed w h = elim h [
+  | inl d ↦ elim (Contains-push_cases front one w d) [ inl f ↦ inl (inl f) | inr e ↦ inr (sym e) ]
+  | inr f ↦ inl (inr f)
+]
+
+-- one that is due gets its link
+module _ {Stands : ℕ → List ℕ → Type 0} {Satisfies : List ℕ → Type 0} (last : ℕ) (links : List Link) (up : IsAscending last links) (before sets sets' : List Set) (links' links'' : List Link) (overs : List Over)
+    (front : List Waiting) (one : Waiting) (filed : ℕ → List Waiting) (state : ℕ) (all : Bool) (at : one.set.first ≡ state) (p : IsPlaced (length before) sets sets' links' links'' one)
+    (m : IsStage Stands Satisfies last links (before ++ sets) links' overs (front ++ one ∷ []) filed (length before) (length before) state all) where
+  other : (n : ℕ) → n < length before → first_at before n ≡ one.set.first → ⊥
+  other n lt e = let b = m.below n lt in let same = first_at_append before sets n lt in omega (arith, b, e, at, same)
+
+  has : HasNumber (before ++ sets) (before ++ sets') one.set (length before + p.place)
+  has = behind_others before sets sets' one.set p.place other p.has
+
+  due_first : Waits (front ++ one ∷ []) filed one
+  due_first = inl (Contains-push front one)
+
+  alone : (x : Waiting) → Waits front filed x → Unlike x one
+  alone x h = elim h [
+    | inl d ↦ (unlike_front front one m.are.unlike).1 x d
+    | inr f ↦ λ from reading. m.are.unlike_due f.0 one x (Contains-push front one) f.1 (sym from) (sym reading)
+  ]
+
+  new_first : (n : ℕ) → n ≡ length before + p.place → first_at (before ++ sets') n ≡ state
+  new_first n e = first_at_states (before ++ sets') n one.set (let t = has.there in omega (arith, e, t)) (ap (states_at (before ++ sets')) e ∙ has.same) ∙ at
+
+  kept_first : (n : ℕ) → n < length (before ++ sets) → first_at (before ++ sets') n ≡ first_at (before ++ sets) n
+  kept_first n lt = elim has.either [
+    | inl e ↦ ap (λ (xs : List Set). first_at xs n) e
+    | inr f ↦ ap (λ (xs : List Set). first_at xs n) f.0 ∙ first_at_append (before ++ sets) (one.set ∷ []) n lt
+  ]
+
+  before_in : (n : ℕ) → n < length before → n < length (before ++ sets)
+  before_in n lt = let len = length-append before sets in omega (arith, len, lt)
+
+  pub stage_placed : IsStage Stands Satisfies last links (before ++ sets') links'' overs front filed (length before) (length before) state all
+  stage_placed = record {
+    built = subst (λ (ls : List Link). IsBuilt Stands Satisfies last links (before ++ sets') ls overs (Waits front filed) (length before)) (sym p.linked)
+        (placed last links up (before ++ sets) (before ++ sets') links' overs (Waits (front ++ one ∷ []) filed) (Waits front filed) (length before) m.built
+        one due_first (length before + p.place) (λ x h. fewer_due front one filed x h) (λ x h. split_due front one filed x h) alone
+        (kept (before ++ sets) (before ++ sets') one.set (length before + p.place) has) (more (before ++ sets) (before ++ sets') one.set (length before + p.place) has)
+        (was (before ++ sets) (before ++ sets') one.set (length before + p.place) has)
+        has.there has.same (kept_seen (before ++ sets) (before ++ sets') one.set (length before + p.place) has) has.same_seen);
+    are = record {
+      unlike = (unlike_front front one m.are.unlike).0;
+      unlike_in = m.are.unlike_in;
+      unlike_due = λ k x y h. m.are.unlike_due k x y (Contains-append_left front (one ∷ []) x h);
+      unlike_across = m.are.unlike_across;
+      place = m.are.place;
+    };
+    passed = m.passed;
+    behind = omega arith;
+    below = λ n lt. let b = m.below n lt in let same = kept_first n (before_in n lt) in omega (arith, b, same);
+    here = λ n from lt. elim (was (before ++ sets) (before ++ sets') one.set (length before + p.place) has n lt) [
+      | inl old ↦ kept_first n old ∙ m.here n from old
+      | inr e ↦ new_first n e
+    ];
+    rising = λ l h. elim (Contains-push_cases links' (link one.from (length before + p.place) one.reading) l (subst (λ (ls : List Link). Contains ls l) p.linked h)) [
+      | inl old ↦ m.rising l old
+      | inr e ↦ let from = m.built.waits one due_first in subst (λ (x : Link). x.from < x.to) e (omega (arith, from))
+    ];
+    apart = placed_apart (before ++ sets) (before ++ sets') (Waits (front ++ one ∷ []) filed) (Waits front filed) one due_first (length before + p.place) has
+        (λ x h. fewer_due front one filed x h) m.apart;
+    kept = λ so n r lt leads.
+        m.kept so n r lt (leads.0, subst (λ (xs : List ℕ). Contains xs leads.0) (kept (before ++ sets) (before ++ sets') one.set (length before + p.place) has n (before_in n lt)) leads.1, leads.2);
+  }
 
 -- a list from which nothing could be taken is empty
 pub nothing_left : {A : Type 0} (v new : List A) (n : ℕ) → n ≡ 0 → new ≡ take (n - 1) v → v ≡ new ++ [] → v ≡ []
@@ -228,3 +311,10 @@ nothing_left v new n zero_long rest items =
     take_none : {A : Type 0} (xs : List A) → take 0 xs ≡ []
     take_none [] = refl
     take_none (x ∷ xs) = refl
+
+-- the set at the place has its states
+pub states_at_get : (sets : List Set) (n : ℕ) (d : Set) → n < length sets → states_at sets n ≡ states_of (get_or sets n d)
+states_at_get sets n d lt = states_at_some sets n (get_or sets n d) (slice_get-get_or sets n d lt)
+
+pub seen_at_get : (sets : List Set) (n : ℕ) (d : Set) → n < length sets → seen_at sets n ≡ (get_or sets n d).seen
+seen_at_get sets n d lt = seen_at_some sets n (get_or sets n d) (slice_get-get_or sets n d lt)

@@ -1,5 +1,5 @@
 -- An automaton of subsets while it is built.
-use Rattle.std.specs.Prelude.{◌≡◌, ◌≢◌, ℕ, zero, suc, ◌<◌, ◌≤◌, ◌↔◌, ◌⊎◌, List, [], ◌∷◌, ◌++◌, length, Contains, Bool, IsTrue}
+use Rattle.std.specs.Prelude.{◌≡◌, ◌≢◌, ℕ, zero, suc, ◌+◌, ◌<◌, ◌≤◌, ◌↔◌, ◌⊎◌, List, [], ◌∷◌, ◌++◌, length, map, Contains, Bool, IsTrue}
 use Rattle.ux_subsets.specs.declared.automaton.Link.{Link}
 use Rattle.ux_subsets.specs.declared.sets.Set.{Set}
 use Rattle.ux_subsets.specs.declared.sets.Over.{Over}
@@ -74,11 +74,11 @@ pub record HasNumber (old new : List Set) (set : Set) (number : ℕ) : Type 0 wh
   pub same_seen : seen_at new number ≡ set.seen
   pub either : (new ≡ old) ⊎ ((new ≡ old ++ set ∷ []) × (number ≡ length old) × ((n : ℕ) → n < length old → states_at old n ≡ states_of set → seen_at old n ≡ set.seen → ⊥))
 
--- the set that waits has a place, and the link goes to it
-pub record IsPlaced (old new : List Set) (links links' : List Link) (w : Waiting) : Type 0 where
-  pub number : ℕ
-  pub has : HasNumber old new w.set number
-  pub linked : links' ≡ links ++ link w.from number w.reading ∷ []
+-- the set that waits has a place, and the link goes to it; numbers are places, counted on from the base
+pub record IsPlaced (base : ℕ) (old new : List Set) (links links' : List Link) (w : Waiting) : Type 0 where
+  pub place : ℕ
+  pub has : HasNumber old new w.set place
+  pub linked : links' ≡ links ++ link w.from (base + place) w.reading ∷ []
 
 -- no two wait for one reading from one state
 abbrev pub Unlike : Waiting → Waiting → Type 0
@@ -94,16 +94,47 @@ pub record AreApart (sets : List Set) (Waits : Waiting → Type 0) : Type 0 wher
   pub waits_sorted : (w : Waiting) → Waits w → IsStrictlyIncreasing (states_of w.set)
   pub different : (n k : ℕ) → n < length sets → k < length sets → states_at sets n ≡ states_at sets k → seen_at sets n ≡ seen_at sets k → n ≡ k
 
--- a stage of a round: the sets that have no links yet have no state below the level, and those from the border on only greater ones;
--- and if `all`, then each path that is over satisfies
-pub record IsStage (Stands : ℕ → List ℕ → Type 0) (Satisfies : List ℕ → Type 0) (last : ℕ) (links : List Link) (sets : List Set) (links' : List Link) (overs : List Over) (waiting : List Waiting) (expanded border level : ℕ) (all : Bool) : Type 0 where
-  pub built : IsBuilt Stands Satisfies last links sets links' overs (Contains waiting) expanded
-  pub unlike : AreUnlike waiting
-  pub fresh : (n s : ℕ) → expanded ≤ n → n < length sets → Contains (states_at sets n) s → level ≤ s
-  pub newer : (n s : ℕ) → border ≤ n → n < length sets → Contains (states_at sets n) s → level < s
-  pub later : (w : Waiting) → Contains waiting w → (t : ℕ) → Contains (states_of w.set) t → level < t
-  pub apart : AreApart sets (Contains waiting)
+-- what waits: it is due, or filed for a state
+abbrev pub Waits : (due : List Waiting) → (filed : ℕ → List Waiting) → Waiting → Type 0
+Waits due filed w = Contains due w ⊎ ((k : ℕ) × Contains (filed k) w)
+
+-- no two wait for one reading from one state, and each is filed by the least state of its set
+pub record AreFiled (due : List Waiting) (filed : ℕ → List Waiting) : Type 0 where
+  pub unlike : AreUnlike due
+  pub unlike_in : (k : ℕ) → AreUnlike (filed k)
+  pub unlike_due : (k : ℕ) (x y : Waiting) → Contains due x → Contains (filed k) y → Unlike x y
+  pub unlike_across : (k j : ℕ) (x y : Waiting) → k ≢ j → Contains (filed k) x → Contains (filed j) y → Unlike x y
+  pub place : (k : ℕ) (w : Waiting) → Contains (filed k) w → w.set.first ≡ k
+
+-- a stage at a state: nothing is filed for it or for smaller ones; the sets before the border have smaller least states, those that have no links
+-- yet have this one; links rise; and if `all`, then each path that is over satisfies
+pub record IsStage (Stands : ℕ → List ℕ → Type 0) (Satisfies : List ℕ → Type 0) (last : ℕ) (links : List Link) (sets : List Set) (links' : List Link) (overs : List Over) (due : List Waiting) (filed : ℕ → List Waiting) (expanded border state : ℕ) (all : Bool) : Type 0 where
+  pub built : IsBuilt Stands Satisfies last links sets links' overs (Waits due filed) expanded
+  pub are : AreFiled due filed
+  pub passed : (k : ℕ) → k ≤ state → filed k ≡ []
+  pub behind : border ≤ expanded
+  pub below : (n : ℕ) → n < border → first_at sets n < state
+  pub here : (n : ℕ) → border ≤ n → n < length sets → first_at sets n ≡ state
+  pub rising : (l : Link) → Contains links' l → l.from < l.to
+  pub apart : AreApart sets (Waits due filed)
   pub kept : IsTrue all → (n r : ℕ) → n < expanded → Leads last links sets n r last → Contains overs (over_at n r)
+
+-- the sets that are reached have all their links
+pub record IsReached (Stands : ℕ → List ℕ → Type 0) (Satisfies : List ℕ → Type 0) (last : ℕ) (links : List Link) (sets : List Set) (links' : List Link) (overs : List Over) (count : ℕ) (all : Bool) : Type 0 where
+  pub counted : count ≡ length sets
+  pub built : IsBuilt Stands Satisfies last links sets links' overs (λ w. ⊥) (length sets)
+  pub rising : (l : Link) → Contains links' l → l.from < l.to
+  pub apart : AreApart sets (λ w. ⊥)
+  pub kept : IsTrue all → (n r : ℕ) → n < length sets → Leads last links sets n r last → Contains overs (over_at n r)
+
+-- the link to the last state where a path is over
+abbrev pub closing : ℕ → Over → Link
+closing last' o = link o.from last' o.reading
+
+-- the automaton of so many sets, with the links to the last state
+pub record IsClosed (links : List Link) (overs : List Over) (count last' : ℕ) (links' : List Link) : Type 0 where
+  pub last : last' ≡ count
+  pub made : links' ≡ links ++ map (closing count) overs
 
 -- what waits from n by the reading, with this state of the machine: one set, or none where none goes on
 pub record AreNew (Goes : ℕ → Type 0) (n r next : ℕ) (new : List Waiting) : Type 0 where

@@ -1,16 +1,15 @@
 -- The links in order, those that leave a state together.
 use Rattle.std.specs.Prelude.{◌≡◌, ◌≢◌, ℕ, ◌+◌, ◌-◌, ◌<◌, ◌≤◌, ◌↔◌, List, take, drop, get_or, length, Contains}
 use Rattle.ux_subsets.specs.declared.automaton.Link.{Link}
-use Rattle.ux_subsets.specs.declared.departures.Departure.{Departure}
 use Rattle.ux_subsets.specs.declared.departures.Step.{Step}
 use Rattle.ux_subsets.specs.Paths.{link}
 
 abbrev pub step_by : (reading to : ℕ) → Step
 step_by r t = record { reading = r; to = t }
 
--- the link by the state that it leaves
-abbrev pub departure_of : Link → Departure
-departure_of l = record { from = l.from; step = step_by l.reading l.to }
+-- the link without the state that it leaves
+abbrev pub step_of : Link → Step
+step_of l = step_by l.reading l.to
 
 -- the first isn't later: its reading isn't greater, nor, where that is the same, the state to which it leads
 pub record IsBefore (a b : Step) : Type 0 where
@@ -20,14 +19,14 @@ pub record IsBefore (a b : Step) : Type 0 where
 abbrev pub AreInOrder : List Step → Type 0
 AreInOrder steps = (i j : ℕ) (d : Step) → i ≤ j → j < length steps → IsBefore (get_or steps i d) (get_or steps j d)
 
--- the departures before the place leave smaller states, the others don't
-pub record IsStart (sorted : List Departure) (state place : ℕ) : Type 0 where
+-- the links before the place leave smaller states, the others don't
+pub record IsStart (sorted : List Link) (state place : ℕ) : Type 0 where
   pub within : place ≤ length sorted
-  pub before : (k : ℕ) (d : Departure) → k < place → (get_or sorted k d).from < state
-  pub after : (k : ℕ) (d : Departure) → place ≤ k → k < length sorted → state ≤ (get_or sorted k d).from
+  pub before : (k : ℕ) (d : Link) → k < place → (get_or sorted k d).from < state
+  pub after : (k : ℕ) (d : Link) → place ≤ k → k < length sorted → state ≤ (get_or sorted k d).from
 
 -- the start of each state below the last
-pub record AreStarts (sorted : List Departure) (last : ℕ) (starts : List ℕ) : Type 0 where
+pub record AreStarts (sorted : List Link) (last : ℕ) (starts : List ℕ) : Type 0 where
   pub len : length starts ≡ last
   pub each : (s : ℕ) → s < last → IsStart sorted s (get_or starts s (length sorted))
 

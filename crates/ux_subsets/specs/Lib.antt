@@ -3,5 +3,5 @@ pub mod Machines
 pub mod Rows
 pub mod Departures
 pub mod Building
-pub mod Numbered
+pub mod Agenda
 pub mod Turning

@@ -4,12 +4,11 @@ ghost use Rattle.std.specs.Prelude.{◌≡◌, ℕ, ◌<◌, ◌≤◌, List, Co
 ghost use Rattle.std.specs.Ordering.{is_lt};
 ghost use Rattle.std.specs.List.Sorted.{IsPermutation, IsNonDecreasingBy};
 ghost use Rattle.ux_subsets.specs.declared.automaton.Link.{Link};
-ghost use Rattle.ux_subsets.specs.declared.departures.Departure.{Departure};
 ghost use Rattle.ux_subsets.specs.declared.departures.Step.{Step};
 ghost use Rattle.ux_subsets.specs.Paths.{IsAscending};
-ghost use Rattle.ux_subsets.specs.Departures.{steps_from, departure_of, AreByStart, AreStarts, IsStart};
+ghost use Rattle.ux_subsets.specs.Departures.{steps_from, step_of, AreByStart, AreStarts, IsStart};
 
-use crate::automaton::Link;
+use crate::automaton::{Link, narrowed};
 use std::alloc::Global;
 use ux_base::Mem;
 
@@ -17,14 +16,7 @@ use ux_base::Mem;
 #[derive(Clone, Copy, PartialEq, Eq, PartialOrd, Ord)]
 pub struct Step {
     pub reading: u32,
-    pub to: usize,
-}
-
-/// A step with the state that it leaves.
-#[derive(Clone, Copy, PartialEq, Eq, PartialOrd, Ord)]
-pub struct Departure {
-    pub from: usize,
-    pub step: Step,
+    pub to: u32,
 }
 
 /// All steps by the states that they leave, those of a state by their readings. `starts` has the
@@ -32,46 +24,31 @@ pub struct Departure {
 #[derive(Drop)]
 pub struct Departures {
     pub steps: Vec<Step>,
-    pub starts: Vec<usize>,
+    pub starts: Vec<u32>,
 }
 
 /// The links by the states that they leave. Sorts them, which takes a step a link where they are
 /// in order.
-pub(crate) fn by_start(alloc: Global, links: &[Link], last: usize) -> Mem<Departures>
-    ensures { IfOk result (λ table. IsAscending last links.now →
-        AreByStart links.now table.steps.items table.starts.items) }
+pub(crate) fn by_start(alloc: Global, links: Vec<Link>, last: u32) -> Mem<Departures>
+    ensures { IfOk result (λ table. IsAscending last links.items →
+        AreByStart links.items table.steps.items table.starts.items) }
 {
-    let listed = departing(alloc, links)?;
-    let sorted = in_order(listed);
+    let sorted = in_order(links);
     let starts = starts_of(alloc, sorted.as_slice(), last)?;
     let steps = steps_of(alloc, sorted.as_slice())?;
     Ok(Departures { steps, starts })
 }
 
-/// The links as departures.
-fn departing(alloc: Global, links: &[Link]) -> Mem<Vec<Departure>>
-    ensures { IfOk result (λ found. found.items ≡ map departure_of links.now) }
-{
-    let mut found = Vec::with_capacity(alloc, links.len())?;
-    for link in links {
-        found.push(Departure {
-            from: link.from,
-            step: Step {
-                reading: link.reading,
-                to: link.to,
-            },
-        })?;
-    }
-    Ok(found)
-}
-
-/// The steps of the departures.
-fn steps_of(alloc: Global, sorted: &[Departure]) -> Mem<Vec<Step>>
-    ensures { IfOk result (λ found. found.items ≡ map (λ (d : Departure). d.step) sorted.now) }
+/// The steps of the links.
+fn steps_of(alloc: Global, sorted: &[Link]) -> Mem<Vec<Step>>
+    ensures { IfOk result (λ found. found.items ≡ map step_of sorted.now) }
 {
     let mut found = Vec::with_capacity(alloc, sorted.len())?;
-    for departure in sorted {
-        found.push(departure.step)?;
+    for link in sorted {
+        found.push(Step {
+            reading: link.reading,
+            to: link.to,
+        })?;
     }
     Ok(found)
 }
@@ -86,24 +63,24 @@ pub(crate) fn in_order<T: Ord + Drop>(mut items: Vec<T>) -> Vec<T>
     items
 }
 
-/// For each state below the last the place of its first departure.
-fn starts_of(alloc: Global, sorted: &[Departure], last: usize) -> Mem<Vec<usize>>
-    ensures { IfOk result (λ starts. IsNonDecreasingBy (λ (d : Departure). d.from) sorted.now →
+/// For each state below the last the place of its first link.
+fn starts_of(alloc: Global, sorted: &[Link], last: u32) -> Mem<Vec<u32>>
+    ensures { IfOk result (λ starts. IsNonDecreasingBy (λ (l : Link). l.from) sorted.now →
         AreStarts sorted.now last starts.items) }
 {
-    let mut starts = Vec::with_capacity(alloc, last)?;
+    let mut starts = Vec::with_capacity(alloc, last as usize)?;
     let mut place = 0;
     for state in 0..last {
         place = start_from(sorted, place, state);
-        starts.push(place)?;
+        starts.push(narrowed(place)?)?;
     }
     Ok(starts)
 }
 
-/// The place of the first departure from the state or a greater one, looked for from a place on.
-fn start_from(sorted: &[Departure], place: usize, state: usize) -> usize
-    ensures { IsNonDecreasingBy (λ (d : Departure). d.from) sorted.now → place ≤ length sorted.now →
-        ((k : ℕ) (d : Departure) → k < place → (get_or sorted.now k d).from < state) →
+/// The place of the first link from the state or a greater one, looked for from a place on.
+fn start_from(sorted: &[Link], place: usize, state: u32) -> usize
+    ensures { IsNonDecreasingBy (λ (l : Link). l.from) sorted.now → place ≤ length sorted.now →
+        ((k : ℕ) (d : Link) → k < place → (get_or sorted.now k d).from < state) →
         IsStart sorted.now state result }
 {
     let mut start = place;
@@ -114,15 +91,16 @@ fn start_from(sorted: &[Departure], place: usize, state: usize) -> usize
 }
 
 /// The steps that leave the state.
-pub(crate) fn row(table: &Departures, state: usize) -> &[Step]
+pub(crate) fn row(table: &Departures, state: u32) -> &[Step]
     ensures { (links : List Link) → AreByStart links table.now.steps.items table.now.starts.items →
         result.now ≡ steps_from table.now.steps.items table.now.starts.items state }
 {
-    if state >= table.starts.len() {
+    let place = state as usize;
+    if place >= table.starts.len() {
         return &[];
     }
-    let begin = start_of(table, state);
-    let end = start_of(table, state + 1);
+    let begin = start_of(table, place);
+    let end = start_of(table, place + 1);
     match table.steps.as_slice().get(begin..end) {
         Some(steps) => steps,
         None => &[],
@@ -134,7 +112,7 @@ fn start_of(table: &Departures, state: usize) -> usize
     ensures { result ≡ get_or table.now.starts.items state (length table.now.steps.items) }
 {
     match table.starts.get(state) {
-        Some(start) => *start,
+        Some(start) => *start as usize,
         None => table.steps.len(),
     }
 }

@@ -26,8 +26,8 @@ pub(crate) fn expand<M: Machine>(
     machine: &mut M,
     table: &Departures,
     set: &Set,
-    from: usize,
-    last: usize,
+    from: u32,
+    last: u32,
     waiting: &mut Vec<Waiting>,
     overs: &mut Vec<Over>,
 ) -> Mem<bool>
@@ -70,8 +70,8 @@ fn expand_steps<M: Machine>(
     machine: &mut M,
     steps: &[Step],
     seen: usize,
-    from: usize,
-    last: usize,
+    from: u32,
+    last: u32,
     waiting: &mut Vec<Waiting>,
     overs: &mut Vec<Over>,
 ) -> Mem<bool>
@@ -115,9 +115,9 @@ pub(crate) fn are_both(one: bool, other: bool) -> bool
 /// isn't wanted.
 fn note_over(
     run: &[Step],
-    from: usize,
+    from: u32,
     reading: u32,
-    last: usize,
+    last: u32,
     is_wanted: bool,
     overs: &mut Vec<Over>,
 ) -> Mem<bool>
@@ -140,10 +140,10 @@ fn note_over(
 fn note_waiting(
     alloc: Global,
     run: &[Step],
-    from: usize,
+    from: u32,
     reading: u32,
     next: usize,
-    last: usize,
+    last: u32,
     waiting: &mut Vec<Waiting>,
 ) -> Mem<()>
     requires { 0 < length run.now }
@@ -169,7 +169,7 @@ fn note_waiting(
 }
 
 /// The states to which the steps lead but the first and the last one, each once.
-fn others_of(alloc: Global, run: &[Step], first: usize, last: usize) -> Mem<Vec<usize>>
+fn others_of(alloc: Global, run: &[Step], first: u32, last: u32) -> Mem<Vec<u32>>
     ensures { IfOk result (λ others. IsNonDecreasingBy (λ (e : Step). e.to) run.now →
         first ≢ last → LeadsTo run.now first → ((t : ℕ) → LeadsTo run.now t → first ≤ t) →
         IsStrictlyIncreasing (first ∷ others.items) × ((t : ℕ) →

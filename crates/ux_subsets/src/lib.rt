@@ -15,17 +15,18 @@
 //! and no two but the last have the same lists from the first one. What lies on no path is in
 //! neither pass. `specs/Paths.antt` says it (`IsLeft`), `specs/Machines.antt` what a pass makes.
 //!
-//! Sets are reached round by round, and get places in the order in which they are reached. Their
-//! numbers are those of their least states in order, so that links lead to greater numbers; which of
-//! two sets with the same least state comes first is left open.
+//! Sets are reached by their least states, since links lead to sets with greater ones, and numbered
+//! as they are reached, so that links lead to greater numbers; which of two sets with the same least
+//! state comes first is left open. A set is kept until it has its links. States are numbers of 32
+//! bits, and more sets are want of memory.
 //!
-//! A pass sorts the links, in a step each where they are in order. A set of one state takes a step
-//! for each link that leaves it, a step of the machine and a look-up for each reading, and no memory
-//! of its own; where a set has several states, their links are put into one list and sorted. At the
-//! end the sets are sorted, in a step each where they are in order. Beside the sets and their links
-//! a pass holds 16 bytes a link of the source and 8 a state. There may be exponentially many sets;
-//! there are as many as states, or few more, where the lists nearly tell the state, as in the
-//! automaton of a sentence.
+//! A pass sorts the links, in a step each where they are in order. A set takes a step for each link
+//! that leaves it, and for each reading a step of the machine and a look-up of its least state among
+//! those of the sets that are kept; where a set has several states, their links are put into one
+//! list and sorted. Beside the source's links and its own, 12 bytes each, a pass holds 8 bytes a link
+//! of the source, 4 a state, and the sets that are kept; the second pass takes the first one's links
+//! and turns them in place. There may be exponentially many sets; there are as many as states, or few
+//! more, where the lists nearly tell the state, as in the automaton of a sentence.
 //!
 //! `apply_again` takes an answer of `apply`, as where rules are applied in turn. Where the machine
 //! leaves all of it, that is found in the first pass, and the answer is the automaton itself.
@@ -36,13 +37,13 @@
 //! ```
 #![tactic(auto)]
 
+pub mod agenda;
 pub mod automaton;
 pub mod departures;
 pub mod expanding;
 pub mod machine;
-pub mod numbering;
 pub mod passes;
-pub mod rounds;
+pub mod reaching;
 pub mod rows;
 pub mod runs;
 pub mod sets;

@@ -1,16 +1,15 @@
 //! The two passes that leave what satisfies.
 
-ghost use Rattle.std.specs.Prelude.{ℕ, ◌<◌, List, IfOk, OnOk, IfSome, Some, IfNone};
+ghost use Rattle.std.specs.Prelude.{ℕ, ◌≡◌, ◌<◌, List, IfOk, OnOk, IfSome, Some, IfNone};
 ghost use Rattle.ux_subsets.specs.declared.automaton.Link.{Link};
 ghost use Rattle.ux_subsets.specs.Paths.{IsAscending, Spells, IsLeft, IsNormal};
 ghost use Rattle.ux_subsets.specs.Machines.{Grows};
 ghost use Rattle.ux_subsets.specs.Building.{IsPass};
 ghost use Rattle.ux_subsets.specs.Turning.{HasEnd, IsTurned};
 
-use crate::automaton::{Automaton, Link, has_end, reversed_links};
+use crate::automaton::{Automaton, Link, has_end, narrowed, reversed_links};
 use crate::machine::{AnyList, Machine};
-use crate::numbering::numbered;
-use crate::rounds::reach;
+use crate::reaching::{closed, reach};
 use std::alloc::Global;
 use ux_base::Mem;
 
@@ -29,9 +28,37 @@ pub fn subsets<M: Machine>(
         IsPass (M.stands machine.new) (M.satisfies machine.new) last source.now found.last
         found.links.items) }
 {
-    let reached = reach(alloc, machine, source, last)?;
-    let found = numbered(alloc, reached)?;
+    let links = copy_of(alloc, source)?;
+    let found = subsets_of(alloc, machine, links, last)?;
     Ok(found)
+}
+
+/// The automaton of the sets of states of these links.
+fn subsets_of<M: Machine>(
+    alloc: Global,
+    machine: &mut M,
+    source: Vec<Link>,
+    last: usize,
+) -> Mem<Automaton>
+    requires { 0 < last }
+    ensures grows { OnOk result (Grows (M.stands machine.old) (M.stands machine.new) (M.satisfies
+        machine.old) (M.satisfies machine.new)) }
+    ensures pass { IfOk result (λ found. IsAscending last source.items →
+        IsPass (M.stands machine.new) (M.satisfies machine.new) last source.items found.last
+        found.links.items) }
+{
+    let reached = reach(alloc, machine, source, last)?;
+    let found = closed(reached)?;
+    Ok(found)
+}
+
+/// The links once more.
+fn copy_of(alloc: Global, links: &[Link]) -> Mem<Vec<Link>>
+    ensures { IfOk result (λ copy. copy.items ≡ links.now) }
+{
+    let mut copy = Vec::with_capacity(alloc, links.len())?;
+    copy.extend_from_slice(links)?;
+    Ok(copy)
 }
 
 /// What the machine leaves of the automaton's lists: an automaton with one path for each, which is
@@ -71,11 +98,12 @@ pub fn apply_again<M: Machine>(
     ensures nothing { IfOk result (λ answer. IfNone answer ((readings : List ℕ) →
         Spells source.links.items 0 source.last readings → M.satisfies machine.new readings → ⊥)) }
 {
-    let reached = reach(alloc, machine, source.links.as_slice(), source.last)?;
-    if reached.all {
+    let links = copy_of(alloc, source.links.as_slice())?;
+    let reached = reach(alloc, machine, links, source.last)?;
+    if reached.so_far.all {
         return Ok(Some(source));
     }
-    let forth = numbered(alloc, reached)?;
+    let forth = closed(reached)?;
     let left = turned(alloc, forth)?;
     Ok(left)
 }
@@ -90,13 +118,14 @@ fn turned(alloc: Global, forth: Automaton) -> Mem<Option<Automaton>>
     ensures nothing { IfOk result (λ answer. IfNone answer (HasEnd forth.last
         forth.links.items → ⊥)) }
 {
-    if !has_end(forth.links.as_slice(), forth.last) {
+    let last = narrowed(forth.last)?;
+    if !has_end(forth.links.as_slice(), last) {
         return Ok(None);
     }
-    let turned = reversed_links(alloc, forth.last, forth.links.as_slice())?;
+    let turned = reversed_links(last, forth.links);
     let mut any = AnyList;
-    let again = subsets(alloc, &mut any, turned.as_slice(), forth.last)?;
-    let links = reversed_links(alloc, again.last, again.links.as_slice())?;
+    let again = subsets_of(alloc, &mut any, turned, forth.last)?;
+    let links = reversed_links(narrowed(again.last)?, again.links);
     Ok(Some(Automaton {
         last: again.last,
         links,

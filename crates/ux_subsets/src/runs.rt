@@ -59,7 +59,7 @@ pub(crate) fn run_end(steps: &[Step], begin: usize) -> usize
 }
 
 /// Whether a step leads to the state.
-pub(crate) fn leads_to(steps: &[Step], state: usize) -> bool
+pub(crate) fn leads_to(steps: &[Step], state: u32) -> bool
     ensures { IsTrue result ↔ LeadsTo steps.now state }
 {
     steps.iter().any(|step| step.to == state)

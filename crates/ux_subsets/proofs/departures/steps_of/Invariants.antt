@@ -1,6 +1,6 @@
 use Rattle.std.proofs.Common.{◌≡◌, map, take}
-use Rattle.ux_subsets.specs.declared.departures.Departure.{Departure}
+use Rattle.ux_subsets.specs.Departures.{step_of}
 use Rattle.ux_subsets.proofs.departures.steps_of.Given as goal
 
-abbrev pub invariant-loop-departure : goal.invariant-loop-departure
-invariant-loop-departure l = l.found.items ≡ map (λ (d : Departure). d.step) (take l.departure-index l.sorted)
+abbrev pub invariant-loop-link : goal.invariant-loop-link
+invariant-loop-link l = l.found.items ≡ map step_of (take l.link-index l.sorted)
