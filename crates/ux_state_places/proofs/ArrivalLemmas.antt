@@ -39,6 +39,46 @@ kind_back (kind.Call graph) = refl
 pub kind_same : (k l : Kind) → label_of k ≡ label_of l → k ≡ l
 kind_same k l e = sym (kind_back k) ∙ (ap kind_in e ∙ kind_back l)
 
+-- kinds by numbers, by which two kinds are one or not
+abbrev kind_number : Kind → ℕ
+kind_number kind.Hub = 0
+kind_number kind.Token = 1
+kind_number kind.Positive = 2
+kind_number kind.Negative = 3
+kind_number kind.ContextEnd = 4
+kind_number (kind.Call graph) = suc (suc (suc (suc (suc graph))))
+
+abbrev kind_numbered : ℕ → Kind
+kind_numbered zero = kind.Hub
+kind_numbered (suc zero) = kind.Token
+kind_numbered (suc (suc zero)) = kind.Positive
+kind_numbered (suc (suc (suc zero))) = kind.Negative
+kind_numbered (suc (suc (suc (suc zero)))) = kind.ContextEnd
+kind_numbered (suc (suc (suc (suc (suc graph))))) = kind.Call graph
+
+kind_numbered-number : (k : Kind) → kind_numbered (kind_number k) ≡ k
+kind_numbered-number kind.Hub = refl
+kind_numbered-number kind.Token = refl
+kind_numbered-number kind.Positive = refl
+kind_numbered-number kind.Negative = refl
+kind_numbered-number kind.ContextEnd = refl
+kind_numbered-number (kind.Call graph) = refl
+
+kind_or : (k l : Kind) → (k ≡ l) ⊎ (k ≢ l)
+kind_or k l = elim (same_or (kind_number k) (kind_number l)) [
+  | inl e ↦ inl (sym (kind_numbered-number k)
+      ∙ (ap (λ n. kind_numbered n) e ∙ kind_numbered-number l))
+  | inr other ↦ inr (λ e. other (ap (λ k. kind_number k) e))
+]
+
+-- a way is that into the hub of its state, or another
+pub hub_or : (kinds : List Kind) (x : Arrival) →
+    (x ≡ hub_arrival kinds x.state) ⊎ (x ≢ hub_arrival kinds x.state)
+hub_or kinds x = elim (kind_or x.kind (hub_arrival kinds x.state).kind) [
+  | inl e ↦ inl (ap (λ (k : Kind). let y : Arrival = record { state = x.state; kind = k } in y) e)
+  | inr other ↦ inr (λ same. other (ap (λ (y : Arrival). y.kind) same))
+]
+
 -- where one of the places is, the other is not the end
 pub arrival_place : (arrivals : List Arrival) (p : ℕ) (x : Arrival) →
     arrival_at arrivals p ≡ Some x → (p < length arrivals + 1) × (p ≢ 1)
@@ -72,46 +112,50 @@ place_arrival arrivals (suc (suc n)) some inside other =
     ]
 
 -- two places of one way are one
-pub place_once : (states : List State) (arrivals : List Arrival) → AreArrivals states arrivals →
+pub place_once : (states : List State) (kinds : List Kind) (arrivals : List Arrival) →
+    AreArrivals states kinds arrivals →
     (p q : ℕ) (x : Arrival) → arrival_at arrivals p ≡ Some x → arrival_at arrivals q ≡ Some x →
     p ≡ q
-place_once states arrivals are zero zero x d e = refl
-place_once states arrivals are zero (suc zero) x d e = absurd cc
-place_once states arrivals are zero (suc (suc n)) x d e =
+place_once states kinds arrivals are zero zero x d e = refl
+place_once states kinds arrivals are zero (suc zero) x d e = absurd cc
+place_once states kinds arrivals are zero (suc (suc n)) x d e =
     let same = are.once 0 (suc n) x d e in absurd (omega (arith, same))
-place_once states arrivals are (suc zero) q x d e = absurd cc
-place_once states arrivals are (suc (suc m)) zero x d e =
+place_once states kinds arrivals are (suc zero) q x d e = absurd cc
+place_once states kinds arrivals are (suc (suc m)) zero x d e =
     let same = are.once (suc m) 0 x d e in absurd (omega (arith, same))
-place_once states arrivals are (suc (suc m)) (suc zero) x d e = absurd cc
-place_once states arrivals are (suc (suc m)) (suc (suc n)) x d e =
+place_once states kinds arrivals are (suc (suc m)) (suc zero) x d e = absurd cc
+place_once states kinds arrivals are (suc (suc m)) (suc (suc n)) x d e =
     ap suc (are.once (suc m) (suc n) x d e)
 
 -- places ascend by their states
-pub place_order : (states : List State) (arrivals : List Arrival) → AreArrivals states arrivals →
+pub place_order : (states : List State) (kinds : List Kind) (arrivals : List Arrival) →
+    AreArrivals states kinds arrivals →
     (p q : ℕ) (x y : Arrival) → arrival_at arrivals p ≡ Some x → arrival_at arrivals q ≡ Some y →
     x.state < y.state → p < q
-place_order states arrivals are zero zero x y d e low =
+place_order states kinds arrivals are zero zero x y d e low =
     let less = are.ascend 0 0 x y d e low in absurd (omega (arith, less))
-place_order states arrivals are zero (suc zero) x y d e low = absurd cc
-place_order states arrivals are zero (suc (suc n)) x y d e low = omega arith
-place_order states arrivals are (suc zero) q x y d e low = absurd cc
-place_order states arrivals are (suc (suc m)) zero x y d e low =
+place_order states kinds arrivals are zero (suc zero) x y d e low = absurd cc
+place_order states kinds arrivals are zero (suc (suc n)) x y d e low = omega arith
+place_order states kinds arrivals are (suc zero) q x y d e low = absurd cc
+place_order states kinds arrivals are (suc (suc m)) zero x y d e low =
     let less = are.ascend (suc m) 0 x y d e low in absurd (omega (arith, less))
-place_order states arrivals are (suc (suc m)) (suc zero) x y d e low = absurd cc
-place_order states arrivals are (suc (suc m)) (suc (suc n)) x y d e low =
+place_order states kinds arrivals are (suc (suc m)) (suc zero) x y d e low = absurd cc
+place_order states kinds arrivals are (suc (suc m)) (suc (suc n)) x y d e low =
     let less = are.ascend (suc m) (suc n) x y d e low in omega (arith, less)
 
 -- the state of the way of a place is there
-pub arrival_state : (states : List State) (arrivals : List Arrival) → AreArrivals states arrivals →
+pub arrival_state : (states : List State) (kinds : List Kind) (arrivals : List Arrival) →
+    AreArrivals states kinds arrivals →
     (p : ℕ) (x : Arrival) → arrival_at arrivals p ≡ Some x → x.state < length states
-arrival_state states arrivals are zero x e = are.inside 0 x e
-arrival_state states arrivals are (suc zero) x e = absurd cc
-arrival_state states arrivals are (suc (suc n)) x e = are.inside (suc n) x e
+arrival_state states kinds arrivals are zero x e = are.inside 0 x e
+arrival_state states kinds arrivals are (suc zero) x e = absurd cc
+arrival_state states kinds arrivals are (suc (suc n)) x e = are.inside (suc n) x e
 
-module _ (states : List State) (arrivals : List Arrival) (are : AreArrivals states arrivals)
-    (raw : List Place) (is : AreRawPlaces states arrivals raw) where
+module _ (states : List State) (kinds : List Kind) (arrivals : List Arrival)
+    (are : AreArrivals states kinds arrivals) (raw : List Place)
+    (is : AreRawPlaces states kinds arrivals raw) where
   pub arrivals_some : 0 < length arrivals
-  arrivals_some = slice_get_within arrivals 0 (hub_arrival 0) are.start
+  arrivals_some = slice_get_within arrivals 0 (hub_arrival kinds 0) are.start
 
   -- the way of a place with a line, which is that of its kind
   pub line_arrival : (p : ℕ) (line : List Label) → Contains (label_lines raw p) line →
@@ -145,7 +189,7 @@ module _ (states : List State) (arrivals : List Arrival) (are : AreArrivals stat
     pub from : arrival_at arrivals s.from ≡ Some source
     pub target : Arrival
     pub to : arrival_at arrivals s.to ≡ Some target
-    pub leads : IsTargetOf states arrivals source.state source.kind s.to
+    pub leads : IsTargetOf states kinds arrivals source s.to
     pub line : s.labels ≡ label_of target.kind ∷ []
 
   pub step_of : (s : Step) → IsPlaceStep raw s → (s.from < length raw) → IsStepOf s
@@ -164,55 +208,33 @@ module _ (states : List State) (arrivals : List Arrival) (are : AreArrivals stat
 
   -- What a step of the places is of the states: one along an edge from a hub, or one to a hub.
   abbrev pub IsEdgeOrHub : (s : Step) → IsStepOf s → Type 0
-  IsEdgeOrHub s o = ((o.source ≡ hub_arrival o.source.state)
+  IsEdgeOrHub s o = ((o.source ≡ hub_arrival kinds o.source.state)
       × ((state : State) × (edge : Edge) × (slice_get states o.source.state ≡ Some state)
       × Contains state.edges edge × (o.target ≡ edge_arrival edge)))
-      ⊎ ((o.source ≢ hub_arrival o.source.state) × (o.target ≡ hub_arrival o.source.state))
-
-  to_a_hub : (s : Step) (o : IsStepOf s) (k : Kind) → o.source.kind ≡ k → (k ≡ kind.Hub → ⊥) →
-      arrival_at arrivals s.to ≡ Some (hub_arrival o.source.state) → IsEdgeOrHub s o
-  to_a_hub s o k e apart leads = inr (
-    λ same. apart (sym e ∙ ap (λ (x : Arrival). x.kind) same),
-    same_Some o.target (hub_arrival o.source.state) (sym o.to ∙ leads),
-  )
-
-  leads_so : (s : Step) (o : IsStepOf s) (k : Kind) → o.source.kind ≡ k →
-      IsTargetOf states arrivals o.source.state k s.to
-  leads_so s o k e =
-      subst (λ (k : Kind). IsTargetOf states arrivals o.source.state k s.to) e o.leads
+      ⊎ ((o.source ≢ hub_arrival kinds o.source.state)
+      × (o.target ≡ hub_arrival kinds o.source.state))
 
   -- a step is one of both
   pub edge_or_hub : (s : Step) (o : IsStepOf s) → IsEdgeOrHub s o
-  edge_or_hub s o = by o.source.kind refl
-    where
-      by : (k : Kind) → o.source.kind ≡ k → IsEdgeOrHub s o
-      by kind.Hub e =
-          let leads = leads_so s o kind.Hub e in
-          elim leads.2 [
-            | inl last ↦ absurd ((arrival_place arrivals s.to o.target o.to).1 last.0)
-            | inr edge ↦
-                let whole : o.source ≡ hub_arrival o.source.state =
-                ap (λ (k : Kind). let x : Arrival = record { state = o.source.state; kind = k } in x) e in
-                inl (
-                  whole,
-                  (
-                    leads.0,
-                    edge.0,
-                    leads.1,
-                    edge.1,
-                    same_Some o.target (edge_arrival edge.0) (sym o.to ∙ edge.2),
-                  ),
-                )
-          ]
-      by kind.Token e = to_a_hub s o kind.Token e (λ h. absurd cc) (leads_so s o kind.Token e)
-      by kind.Positive e =
-          to_a_hub s o kind.Positive e (λ h. absurd cc) (leads_so s o kind.Positive e)
-      by kind.Negative e =
-          to_a_hub s o kind.Negative e (λ h. absurd cc) (leads_so s o kind.Negative e)
-      by kind.ContextEnd e =
-          to_a_hub s o kind.ContextEnd e (λ h. absurd cc) (leads_so s o kind.ContextEnd e)
-      by (kind.Call graph) e =
-          to_a_hub s o (kind.Call graph) e (λ h. absurd cc) (leads_so s o (kind.Call graph) e)
+  edge_or_hub s o = elim o.leads [
+    | inl (whole, leads) ↦ elim leads.2 [
+      | inl last ↦ absurd ((arrival_place arrivals s.to o.target o.to).1 last.0)
+      | inr edge ↦ inl (
+        whole,
+        (
+          leads.0,
+          edge.0,
+          leads.1,
+          edge.1,
+          same_Some o.target (edge_arrival edge.0) (sym o.to ∙ edge.2),
+        ),
+      )
+    ]
+    | inr (apart, leads) ↦ inr (
+      apart,
+      same_Some o.target (hub_arrival kinds o.source.state) (sym o.to ∙ leads),
+    )
+  ]
 
   -- a way that is there has a place
   pub way_place : (x : Arrival) → Contains arrivals x → (p : ℕ) × (arrival_at arrivals p ≡ Some x)
@@ -225,88 +247,60 @@ module _ (states : List State) (arrivals : List Arrival) (are : AreArrivals stat
 
   -- the hub leads along each edge of its state
   pub edge_leads : (p n : ℕ) (state : State) (edge : Edge) →
-      arrival_at arrivals p ≡ Some (hub_arrival n) → slice_get states n ≡ Some state →
+      arrival_at arrivals p ≡ Some (hub_arrival kinds n) → slice_get states n ≡ Some state →
       Contains state.edges edge → (q : ℕ) × (arrival_at arrivals q ≡ Some (edge_arrival edge))
       × Contains (place_targets raw p) q
   edge_leads p n state edge at found inside =
       let q = way_place (edge_arrival edge) (are.edges n state edge found inside) in (
         q.0,
         q.1,
-        (is.targets p q.0 (hub_arrival n) at).1 (state, found, inr (edge, inside, q.1)),
+        (is.targets p q.0 (hub_arrival kinds n) at).1
+            (inl (refl, (state, found, inr (edge, inside, q.1)))),
       )
 
   -- and to the end where that is final
-  pub end_leads : (p n : ℕ) (state : State) → arrival_at arrivals p ≡ Some (hub_arrival n) →
+  pub end_leads : (p n : ℕ) (state : State) → arrival_at arrivals p ≡ Some (hub_arrival kinds n) →
       slice_get states n ≡ Some state → IsTrue state.is_final → Contains (place_targets raw p) 1
   end_leads p n state at found final =
-      (is.targets p 1 (hub_arrival n) at).1 (state, found, inl (refl, final))
+      (is.targets p 1 (hub_arrival kinds n) at).1 (inl (refl, (state, found, inl (refl, final))))
 
   -- only hubs of final states lead to the end
   pub end_back : (p : ℕ) (x : Arrival) → arrival_at arrivals p ≡ Some x →
       Contains (place_targets raw p) 1 →
-      (x ≡ hub_arrival x.state) × IsNetEnd states x.state
-  end_back p x at h = by x.kind refl ((is.targets p 1 x at).0 h)
-    where
-      by : (k : Kind) → x.kind ≡ k → IsTargetOf states arrivals x.state x.kind 1 →
-          (x ≡ hub_arrival x.state) × IsNetEnd states x.state
-      by kind.Hub e leads =
-          let so = subst (λ (k : Kind). IsTargetOf states arrivals x.state k 1) e leads in
-          elim so.2 [
-            | inl last ↦ (
-              ap (λ (k : Kind). let y : Arrival = record { state = x.state; kind = k } in y) e,
-              record { state = so.0; found = so.1; final = last.1 },
-            )
-            | inr edge ↦ absurd (let none = edge.2 in cc)
-          ]
-      by kind.Token e leads =
-          absurd (let none = subst (λ (k : Kind). IsTargetOf states arrivals x.state k 1) e leads in cc)
-      by kind.Positive e leads =
-          absurd (let none = subst (λ (k : Kind). IsTargetOf states arrivals x.state k 1) e leads in cc)
-      by kind.Negative e leads =
-          absurd (let none = subst (λ (k : Kind). IsTargetOf states arrivals x.state k 1) e leads in cc)
-      by kind.ContextEnd e leads =
-          absurd (let none = subst (λ (k : Kind). IsTargetOf states arrivals x.state k 1) e leads in cc)
-      by (kind.Call graph) e leads =
-          absurd (let none = subst (λ (k : Kind). IsTargetOf states arrivals x.state k 1) e leads in cc)
+      (x ≡ hub_arrival kinds x.state) × IsNetEnd states x.state
+  end_back p x at h = elim ((is.targets p 1 x at).0 h) [
+    | inl (whole, leads) ↦ elim leads.2 [
+      | inl last ↦ (whole, record { state = leads.0; found = leads.1; final = last.1 })
+      | inr edge ↦ absurd (let none = edge.2 in cc)
+    ]
+    | inr (apart, none) ↦ absurd (cc)
+  ]
 
   -- another place than a hub leads to the hub
   pub hub_leads : (p q : ℕ) (x : Arrival) → arrival_at arrivals p ≡ Some x →
-      x ≢ hub_arrival x.state → arrival_at arrivals q ≡ Some (hub_arrival x.state) →
+      x ≢ hub_arrival kinds x.state → arrival_at arrivals q ≡ Some (hub_arrival kinds x.state) →
       Contains (place_targets raw p) q
-  hub_leads p q x at apart hub = (is.targets p q x at).1 (by x.kind refl)
-    where
-      by : (k : Kind) → x.kind ≡ k → IsTargetOf states arrivals x.state x.kind q
-      by kind.Hub e = absurd (apart
-          (ap (λ (k : Kind). let y : Arrival = record { state = x.state; kind = k } in y) e))
-      by kind.Token e = subst (λ (k : Kind). IsTargetOf states arrivals x.state k q) (sym e) hub
-      by kind.Positive e = subst (λ (k : Kind). IsTargetOf states arrivals x.state k q) (sym e) hub
-      by kind.Negative e = subst (λ (k : Kind). IsTargetOf states arrivals x.state k q) (sym e) hub
-      by kind.ContextEnd e = subst (λ (k : Kind). IsTargetOf states arrivals x.state k q) (sym e) hub
-      by (kind.Call graph) e =
-          subst (λ (k : Kind). IsTargetOf states arrivals x.state k q) (sym e) hub
+  hub_leads p q x at apart hub = (is.targets p q x at).1 (inr (apart, hub))
 
   -- what a way leads to is a place
-  target_so : (n : ℕ) (k : Kind) (q : ℕ) → IsTargetOf states arrivals n k q → q < length raw
-  target_so n k q h = by k h
+  target_so : (x : Arrival) (q : ℕ) → IsTargetOf states kinds arrivals x q → q < length raw
+  target_so x q h = elim h [
+    | inl (whole, leads) ↦ elim leads.2 [
+      | inl last ↦
+          let one = last.0 in
+          let len = is.len in
+          let there = arrivals_some in
+          omega (arith, one, len, there)
+      | inr edge ↦ at_place (edge_arrival edge.0) edge.2
+    ]
+    | inr (apart, e) ↦ at_place (hub_arrival kinds x.state) e
+  ]
     where
       at_place : (x : Arrival) → arrival_at arrivals q ≡ Some x → q < length raw
       at_place x e =
           let low = (arrival_place arrivals q x e).0 in
           let len = is.len in
           omega (arith, low, len)
-
-      by : (k : Kind) → IsTargetOf states arrivals n k q → q < length raw
-      by kind.Hub (state, found, inl last) =
-          let one = last.0 in
-          let len = is.len in
-          let there = arrivals_some in
-          omega (arith, one, len, there)
-      by kind.Hub (state, found, inr edge) = at_place (edge_arrival edge.0) edge.2
-      by kind.Token e = at_place (hub_arrival n) e
-      by kind.Positive e = at_place (hub_arrival n) e
-      by kind.Negative e = at_place (hub_arrival n) e
-      by kind.ContextEnd e = at_place (hub_arrival n) e
-      by (kind.Call graph) e = at_place (hub_arrival n) e
 
   -- targets are places
   pub target_inside : (p q : ℕ) → Contains (place_targets raw p) q → q < length raw
@@ -317,5 +311,5 @@ module _ (states : List State) (arrivals : List Arrival) (are : AreArrivals stat
         let inside = target_from raw p q h in
         let len = is.len in
         let x = place_arrival arrivals p arrivals_some (omega (arith, inside, len)) other in
-        target_so x.0.state x.0.kind q ((is.targets p q x.0 x.1).0 h)
+        target_so x.0 q ((is.targets p q x.0 x.1).0 h)
   ]

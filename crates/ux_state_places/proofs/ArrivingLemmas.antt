@@ -1,8 +1,8 @@
 -- The ways into states are added one after another, state after state.
-use Rattle.std.proofs.Common.{arith, ◌≡◌, ◌⊎◌, inl, inr, ◌↔◌, ℕ, zero, suc, ◌+◌, ◌<◌, ◌≤◌, Bool, true, false, List, [], ◌∷◌, ◌++◌, length, refl, sym, ap, subst, ◌∙◌, cond, set}
+use Rattle.std.proofs.Common.{arith, ◌≡◌, ◌≢◌, ◌⊎◌, inl, inr, ◌↔◌, ℕ, zero, suc, ◌+◌, ◌<◌, ◌≤◌, Bool, true, false, List, [], ◌∷◌, ◌++◌, length, refl, sym, ap, subst, ◌∙◌, cond, get_or, set}
 use Rattle.std.specs.Prelude.{Contains, Some, slice_get}
 use Rattle.std.specs.List.{list_any}
-use Rattle.std.proofs.lemmas.List.{get_or-set_same, get_or-set_other}
+use Rattle.std.proofs.lemmas.List.{get_or-set_same, get_or-set_other, length_push, get_or_append_left, get_or_push}
 use Rattle.std.proofs.lemmas.List.Elements.{Contains-append_left, Contains-push, Contains-push_cases}
 use Rattle.std.proofs.lemmas.List.Folds.{list_any-from_Any}
 use Rattle.std.proofs.lemmas.Map.Views.{Contains-from_any}
@@ -15,8 +15,9 @@ use Rattle.ux_net.specs.declared.state.Edge.{Edge}
 use Rattle.ux_net.specs.declared.state.State.{State}
 use Rattle.ux_state_places.specs.declared.arrival.Arrival.{Arrival}
 use Rattle.ux_state_places.specs.declared.arrival.Kind.{Kind}
-use Rattle.ux_state_places.specs.Arrivals.{arriving, hub_arrival, edge_arrival, AreArrivals, HaveInsideTargets}
-use Rattle.ux_state_places.specs.Arriving.{kinds_at, IsLedInto, IsOfOne, AreKindsInto, way_into, IsWayInto, IsOneMore, AreInOrder, AreAdded, AreWaysBelow}
+use Rattle.ux_state_places.specs.declared.arrival.Kind.TheVariants as kind
+use Rattle.ux_state_places.specs.Arrivals.{arriving, hub_arrival, edge_arrival, AreArrivals, AreFirsts, HaveInsideTargets, IsPlain}
+use Rattle.ux_state_places.specs.Arriving.{kinds_at, IsLedInto, IsOfOne, AreKindsInto, way_into, IsHubKind, IsWayInto, IsOneMore, AreInOrder, AreAdded, AreWaysBelow}
 
 -- one of the elements before this place is so
 abbrev pub IsOfOneBelow : {A : Type 0} → List A → (A → Type 0) → ℕ → Type 0
@@ -189,7 +190,7 @@ pub added_one : (top : ℕ) (kind : Kind) (old new : List Arrival) → AreInOrde
     AreAdded top old new (λ x. way_into top kind ≡ x)
 added_one top kind old new order (inl (same, there)) = record {
   order = subst (λ (xs : List Arrival). AreInOrder top xs) (sym same) order;
-  kept = λ x h. subst (λ (xs : List Arrival). slice_get xs 0 ≡ Some x) (sym same) h;
+  kept = λ i x h. subst (λ (xs : List Arrival). slice_get xs i ≡ Some x) (sym same) h;
   gains = λ x. (
     λ h. inl (subst (λ (xs : List Arrival). Contains xs x) same h),
     λ h. subst (λ (xs : List Arrival). Contains xs x) (sym same) (elim h [
@@ -201,8 +202,8 @@ added_one top kind old new order (inl (same, there)) = record {
 added_one top kind old new order (inr (is, apart)) = record {
   order = subst (λ (xs : List Arrival). AreInOrder top xs) (sym is)
       (order_pushed top old (way_into top kind) refl order apart);
-  kept = λ x h. subst (λ (xs : List Arrival). slice_get xs 0 ≡ Some x) (sym is)
-      (slice_get-append old (way_into top kind ∷ []) 0 x h);
+  kept = λ i x h. subst (λ (xs : List Arrival). slice_get xs i ≡ Some x) (sym is)
+      (slice_get-append old (way_into top kind ∷ []) i x h);
   gains = λ x. (
     λ h. Contains-push_cases old (way_into top kind) x
         (subst (λ (xs : List Arrival). Contains xs x) is h),
@@ -214,14 +215,33 @@ added_one top kind old new order (inr (is, apart)) = record {
   );
 }
 
--- to no others it is the first
-pub first_one : (old new : List Arrival) (x : Arrival) → IsOneMore old x new → old ≡ [] →
-    slice_get new 0 ≡ Some x
-first_one old new x (inl (same, there)) none =
-    absurd (nothing_in {x = x} (subst (λ (xs : List Arrival). Contains xs x) none there))
-first_one old new x (inr (is, apart)) none =
-    subst (λ (xs : List Arrival). slice_get xs 0 ≡ Some x)
-    (sym (is ∙ ap (λ (xs : List Arrival). xs ++ x ∷ []) none)) refl
+-- what was put behind others stands there
+pub put_behind : (old new : List Arrival) (x : Arrival) → IsOneMore old x new →
+    (Contains old x → ⊥) → slice_get new (length old) ≡ Some x
+put_behind old new x (inl (same, there)) apart = absurd (apart there)
+put_behind old new x (inr (is, new_one)) apart =
+    subst (λ (xs : List Arrival). slice_get xs (length old) ≡ Some x) (sym is) (last old)
+  where
+    last : (xs : List Arrival) → slice_get (xs ++ x ∷ []) (length xs) ≡ Some x
+    last [] = refl
+    last (y ∷ ys) = last ys
+
+-- what is there needn't be added
+pub added_there : (top : ℕ) (kind hub : Kind) (arrivals : List Arrival) → AreInOrder top arrivals →
+    Contains arrivals (way_into top hub) → kind ≡ hub →
+    AreAdded top arrivals arrivals (λ x. way_into top kind ≡ x)
+added_there top kind hub arrivals order there is = record {
+  order = order;
+  kept = λ i x h. h;
+  gains = λ x. (
+    λ h. inl h,
+    λ h. elim h [
+      | inl o ↦ o
+      | inr e ↦ subst (λ (w : Arrival). Contains arrivals w)
+          (ap (λ k. way_into top k) (sym is) ∙ e) there
+    ],
+  );
+}
 
 -- that of the next kind is added
 pub added_next : (top : ℕ) (old now after : List Arrival) (kinds : List Kind) (k : ℕ) (kind : Kind) →
@@ -231,19 +251,19 @@ pub added_next : (top : ℕ) (old now after : List Arrival) (kinds : List Kind) 
     AreAdded top old after (λ x. IsOfOneBelow kinds (λ kind. way_into top kind ≡ x) (k + 1))
 added_next top old now after kinds k kind at before next = record {
   order = next.order;
-  kept = λ x h. next.kept x (before.kept x h);
+  kept = λ i x h. next.kept i x (before.kept i x h);
   gains = λ x. below_next kinds (λ kind. way_into top kind ≡ x) (Contains old x) (Contains now x)
       (Contains after x) k kind at (before.gains x) (next.gains x);
 }
 
 -- the hub and those of all kinds were added
-pub added_done : (top : ℕ) (old now after : List Arrival) (kinds : List Kind) (k : ℕ) →
-    length kinds ≤ k → AreAdded top old now (λ x. hub_arrival top ≡ x) →
+pub added_done : (top : ℕ) (hub_kind : Kind) (old now after : List Arrival) (kinds : List Kind)
+    (k : ℕ) → length kinds ≤ k → AreAdded top old now (λ x. way_into top hub_kind ≡ x) →
     AreAdded top now after (λ x. IsOfOneBelow kinds (λ kind. way_into top kind ≡ x) k) →
-    AreAdded top old after (IsWayInto kinds top)
-added_done top old now after kinds k most hub others = record {
+    AreAdded top old after (IsWayInto hub_kind kinds top)
+added_done top hub_kind old now after kinds k most hub others = record {
   order = others.order;
-  kept = λ x h. others.kept x (hub.kept x h);
+  kept = λ i x h. others.kept i x (hub.kept i x h);
   gains = λ x.
       let all = below_done kinds (λ kind. way_into top kind ≡ x) (Contains now x)
       (Contains after x) k most (others.gains x) in (
@@ -264,80 +284,224 @@ added_done top old now after kinds k most hub others = record {
       );
 }
 
--- those into the next state were added
-pub ways_next : (rows : List (List Kind)) (n : ℕ) (old new : List Arrival) (kinds : List Kind) →
-    kinds ≡ kinds_at rows n → AreWaysBelow rows n old → AreAdded n old new (IsWayInto kinds n) →
-    (old ≡ [] → slice_get new 0 ≡ Some (hub_arrival n)) → AreWaysBelow rows (n + 1) new
-ways_next rows n old new kinds row before added first = record {
-  begins = inr (elim before.begins [
-    | inl s ↦ subst (λ m. slice_get new 0 ≡ Some (hub_arrival m)) s.0 (first s.1)
-    | inr at ↦ added.kept (hub_arrival 0) at
-  ]);
+-- a way into a state has its number
+way_state : (hub : Kind) (kinds : List Kind) (n : ℕ) (x : Arrival) → IsWayInto hub kinds n x →
+    n ≡ x.state
+way_state hub kinds n x (inl e) = ap (λ (w : Arrival). w.state) e
+way_state hub kinds n x (inr (kind, among, e)) = ap (λ (w : Arrival). w.state) e
+
+-- there are no ways yet
+pub ways_none : (rows : List (List Kind)) → AreWaysBelow rows 0 [] [] []
+ways_none rows = record {
+  hubs_len = refl;
+  firsts_len = refl;
+  hub_kinds = λ n low. absurd (omega (arith, low));
+  at = λ n low. absurd (omega (arith, low));
+  begins = inl (refl, refl);
   order = record {
-    once = added.order.once;
-    ascend = added.order.ascend;
-    upto = λ i x a. let most = added.order.upto i x a in omega (arith, most);
+    once = λ i j x a b. absurd (none-some x a);
+    ascend = λ i j x y a b low. absurd (none-some x a);
+    upto = λ i x a. absurd (none-some x a);
   };
-  gains = λ x. (
-    λ h. elim ((added.gains x).0 h) [
-      | inl o ↦
-          let s = (before.gains x).0 o in
-          let low = s.1 in
-          (s.0, omega (arith, low), s.2)
-      | inr w ↦ (n, omega arith, subst (λ (ks : List Kind). IsWayInto ks n x) row w)
-    ],
-    λ s. elim (same_or s.0 n) [
-      | inl e ↦ (added.gains x).1 (inr
-          (subst (λ (ks : List Kind). IsWayInto ks n x) (sym row)
-          (subst (λ m. IsWayInto (kinds_at rows m) m x) e s.2)))
-      | inr other ↦
-          let low = s.1 in
-          (added.gains x).1 (inl ((before.gains x).1 (s.0, omega (arith, low, other), s.2)))
-    ],
-  );
+  gains = λ x. (λ h. absurd (nothing_in {x = x} h), λ s. let low = s.1 in absurd (omega (arith, low)));
 }
 
--- the ways into all states are those of the graph
-module _ (states : List State) (rows : List (List Kind)) (arrivals : List Arrival)
-    (into : AreKindsInto states rows) (ways : AreWaysBelow rows (length states) arrivals) where
-  -- a way into a state has its number
-  of_state : (kinds : List Kind) (n : ℕ) (x : Arrival) → IsWayInto kinds n x → n ≡ x.state
-  of_state kinds n x (inl e) = ap (λ (w : Arrival). w.state) e
-  of_state kinds n x (inr (kind, among, e)) = ap (λ (w : Arrival). w.state) e
+-- those into the next state were added
+pub ways_next : (rows : List (List Kind)) (n : ℕ) (hubs more_hubs : List Kind)
+    (firsts more_firsts : List ℕ) (old new : List Arrival) (kinds : List Kind) (hub : Kind) →
+    kinds ≡ kinds_at rows n → more_hubs ≡ hubs ++ hub ∷ [] →
+    more_firsts ≡ firsts ++ length old ∷ [] → AreWaysBelow rows n hubs firsts old →
+    IsHubKind n kinds hub → AreAdded n old new (IsWayInto hub kinds n) →
+    ((Contains old (way_into n hub) → ⊥) →
+    slice_get new (length old) ≡ Some (way_into n hub)) →
+    AreWaysBelow rows (n + 1) more_hubs more_firsts new
+ways_next rows n hubs more_hubs firsts more_firsts old new kinds hub row hubs_are firsts_are before
+    is added put = record {
+      hubs_len = ap (λ (l : List Kind). length l) hubs_are ∙ (length_push hubs hub
+          ∙ ap (λ m. m + 1) before.hubs_len);
+      firsts_len = ap (λ (l : List ℕ). length l) firsts_are ∙ (length_push firsts (length old)
+          ∙ ap (λ m. m + 1) before.firsts_len);
+      hub_kinds = λ m low. elim (same_or m n) [
+        | inl e ↦ subst (λ k. IsHubKind k (kinds_at rows k) (get_or more_hubs k kind.Hub)) (sym e)
+            (subst (λ (k : Kind). IsHubKind n (kinds_at rows n) k) (sym last_hub)
+            (subst (λ (ks : List Kind). IsHubKind n ks hub) row is))
+        | inr other ↦
+            let less : m < n = omega (arith, low, other) in
+            subst (λ (k : Kind). IsHubKind m (kinds_at rows m) k) (sym (hub_stays m less))
+            (before.hub_kinds m less)
+      ];
+      at = λ m low. elim (same_or m n) [
+        | inl e ↦ subst (λ k. slice_get new (get_or more_firsts k 0)
+            ≡ Some (hub_arrival more_hubs k)) (sym e)
+            (ap (λ k. slice_get new k) last_first ∙ (put apart ∙ sym last_way))
+        | inr other ↦
+            let less : m < n = omega (arith, low, other) in
+            ap (λ k. slice_get new k) (first_stays m less)
+            ∙ (added.kept (get_or firsts m 0) (hub_arrival hubs m) (before.at m less)
+            ∙ sym (way_stays m less))
+      ];
+      begins = inr (elim before.begins [
+        | inl s ↦
+            let none : length old ≡ 0 = ap (λ (l : List Arrival). length l) s.1 in
+            subst (λ m. slice_get new 0 ≡ Some (hub_arrival more_hubs m)) s.0
+            (ap (λ k. slice_get new k) (sym none) ∙ (put apart ∙ sym last_way))
+        | inr at ↦ elim (same_or n 0) [
+          | inl e ↦ absurd (
+              let there = Contains-at old (hub_arrival hubs 0) 0 at in
+              let s = (before.gains (hub_arrival hubs 0)).0 there in
+              let low = s.1 in
+              omega (arith, low, e))
+          | inr other ↦ added.kept 0 (hub_arrival hubs 0) at
+              ∙ sym (way_stays 0 (omega (arith, other)))
+        ]
+      ]);
+      order = record {
+        once = added.order.once;
+        ascend = added.order.ascend;
+        upto = λ i x a. let most = added.order.upto i x a in omega (arith, most);
+      };
+      gains = λ x. (
+        λ h. elim ((added.gains x).0 h) [
+          | inl o ↦
+              let s = (before.gains x).0 o in
+              let low = s.1 in (
+                s.0,
+                omega (arith, low),
+                subst (λ (k : Kind). IsWayInto k (kinds_at rows s.0) s.0 x)
+                    (sym (hub_stays s.0 low)) s.2,
+              )
+          | inr w ↦ (
+            n,
+            omega arith,
+            subst (λ (k : Kind). IsWayInto k (kinds_at rows n) n x) (sym last_hub)
+                (subst (λ (ks : List Kind). IsWayInto hub ks n x) row w),
+          )
+        ],
+        λ s. elim (same_or s.0 n) [
+          | inl e ↦ (added.gains x).1 (inr
+              (subst (λ (ks : List Kind). IsWayInto hub ks n x) (sym row)
+              (subst (λ (k : Kind). IsWayInto k (kinds_at rows n) n x) last_hub
+              (subst (λ m. IsWayInto (get_or more_hubs m kind.Hub) (kinds_at rows m) m x) e s.2))))
+          | inr other ↦
+              let low = s.1 in
+              let less : s.0 < n = omega (arith, low, other) in
+              (added.gains x).1 (inl ((before.gains x).1 (
+                s.0,
+                less,
+                subst (λ (k : Kind). IsWayInto k (kinds_at rows s.0) s.0 x) (hub_stays s.0 less) s.2,
+              )))
+        ],
+      );
+    }
+  where
+    hub_stays : (m : ℕ) → m < n → get_or more_hubs m kind.Hub ≡ get_or hubs m kind.Hub
+    hub_stays m low =
+        let len = before.hubs_len in
+        ap (λ (l : List Kind). get_or l m kind.Hub) hubs_are
+        ∙ get_or_append_left hubs (hub ∷ []) kind.Hub m (omega (arith, low, len))
 
-  -- it is that into the hub, or along an edge
-  made_so : (n : ℕ) (x : Arrival) → IsWayInto (kinds_at rows n) n x → (x ≡ hub_arrival x.state)
-      ⊎ ((n : ℕ) × (state : State) × (edge : Edge) × (slice_get states n ≡ Some state)
-      × Contains state.edges edge × (x ≡ edge_arrival edge))
-  made_so n x (inl e) =
-      inl (sym e ∙ ap hub_arrival (ap (λ (w : Arrival). w.state) e))
-  made_so n x (inr (kind, among, e)) =
-      let (state, there, (edge, inside, (target, label))) = (into n kind).0 among in
-      let at = place_of states state there in
-      inr (
+    way_stays : (m : ℕ) → m < n → Some (hub_arrival more_hubs m) ≡ Some (hub_arrival hubs m)
+    way_stays m low = ap (λ k. Some (way_into m k)) (hub_stays m low)
+
+    last_hub : get_or more_hubs n kind.Hub ≡ hub
+    last_hub = ap (λ (l : List Kind). get_or l n kind.Hub) hubs_are
+        ∙ get_or_push hubs hub kind.Hub n before.hubs_len
+
+    last_way : Some (hub_arrival more_hubs n) ≡ Some (way_into n hub)
+    last_way = ap (λ k. Some (way_into n k)) last_hub
+
+    first_stays : (m : ℕ) → m < n → get_or more_firsts m 0 ≡ get_or firsts m 0
+    first_stays m low =
+        let len = before.firsts_len in
+        ap (λ (l : List ℕ). get_or l m 0) firsts_are
+        ∙ get_or_append_left firsts (length old ∷ []) 0 m (omega (arith, low, len))
+
+    last_first : get_or more_firsts n 0 ≡ length old
+    last_first = ap (λ (l : List ℕ). get_or l n 0) firsts_are
+        ∙ get_or_push firsts (length old) 0 n before.firsts_len
+
+    -- no way so far leads into this state
+    apart : Contains old (way_into n hub) → ⊥
+    apart h =
+        let s = (before.gains (way_into n hub)).0 h in
+        let low = s.1 in
+        let same = way_state (get_or hubs s.0 kind.Hub) (kinds_at rows s.0) s.0 (way_into n hub) s.2 in
+        absurd (omega (arith, low, same))
+
+-- the ways into all states are those of the graph
+module _ (states : List State) (rows : List (List Kind)) (hubs : List Kind) (firsts : List ℕ)
+    (arrivals : List Arrival) (into : AreKindsInto states rows)
+    (ways : AreWaysBelow rows (length states) hubs firsts arrivals) where
+  -- the kinds of edges into a state are those of its row
+  edge_so : (n : ℕ) (k : Kind) (x : Arrival) → Contains (kinds_at rows n) k → way_into n k ≡ x →
+      (m : ℕ) × (state : State) × (edge : Edge) × (slice_get states m ≡ Some state)
+      × Contains state.edges edge × (x ≡ edge_arrival edge)
+  edge_so n k x among e =
+      let (state, there, (edge, inside, (target, label))) = (into n k).0 among in
+      let at = place_of states state there in (
         at.0,
         state,
         edge,
         at.1,
         inside,
-        sym e ∙ (ap (λ m. way_into m kind) (sym target)
+        sym e ∙ (ap (λ m. way_into m k) (sym target)
             ∙ ap (λ k. way_into edge.target k) (sym label)),
       )
 
-  pub are_arrivals : 0 < length states → HaveInsideTargets states → AreArrivals states arrivals
+  -- a way into a state takes nothing, or leads along an edge
+  made_so : (n : ℕ) (hub : Kind) (x : Arrival) → IsHubKind n (kinds_at rows n) hub →
+      IsWayInto hub (kinds_at rows n) n x → (x.kind ≡ kind.Hub)
+      ⊎ ((m : ℕ) × (state : State) × (edge : Edge) × (slice_get states m ≡ Some state)
+      × Contains state.edges edge × (x ≡ edge_arrival edge))
+  made_so n hub x is (inl e) = elim is [
+    | inl none ↦ inl (sym (ap (λ (w : Arrival). w.kind) e) ∙ none)
+    | inr only ↦ inr (edge_so n hub x only.among e)
+  ]
+  made_so n hub x is (inr (k, among, e)) = inr (edge_so n k x among e)
+
+  -- the kind of a hub neither opens nor closes a context
+  plain_so : (n : ℕ) (hub : Kind) → IsHubKind n (kinds_at rows n) hub → IsPlain hub
+  plain_so n hub (inl e) = subst IsPlain (sym e) refl
+  plain_so n hub (inr only) = only.plain
+
+  -- where there is another way than that into the hub, the latter takes nothing
+  alone_so : (n : ℕ) (hub : Kind) (x : Arrival) → IsHubKind n (kinds_at rows n) hub →
+      IsWayInto hub (kinds_at rows n) n x → x ≢ way_into n hub → hub ≡ kind.Hub
+  alone_so n hub x (inl e) w other = e
+  alone_so n hub x (inr only) (inl e) other = absurd (other (sym e))
+  alone_so n hub x (inr only) (inr (k, among, e)) other =
+      absurd (other (sym e ∙ ap (λ k. way_into n k) (only.only k among)))
+
+  -- the way into the state of a way
+  way_so : (x : Arrival) → Contains arrivals x → (x.state < length states)
+      × IsWayInto (get_or hubs x.state kind.Hub) (kinds_at rows x.state) x.state x
+  way_so x h =
+      let s = (ways.gains x).0 h in
+      let same = way_state (get_or hubs s.0 kind.Hub) (kinds_at rows s.0) s.0 x s.2 in (
+        subst (λ n. n < length states) same s.1,
+        subst (λ n. IsWayInto (get_or hubs n kind.Hub) (kinds_at rows n) n x) same s.2,
+      )
+
+  pub are_arrivals : 0 < length states → HaveInsideTargets states →
+      AreArrivals states hubs arrivals
   are_arrivals some targets = record {
+    count = ways.hubs_len;
     start = elim ways.begins [
       | inl s ↦ let none = s.0 in absurd (omega (arith, none, some))
       | inr at ↦ at
     ];
+    first = elim (ways.hub_kinds 0 some) [
+      | inl e ↦ e
+      | inr only ↦ absurd (only.later refl)
+    ];
+    plain = λ n low. plain_so n (get_or hubs n kind.Hub) (ways.hub_kinds n low);
+    alone = λ i x a other.
+        let w = way_so x (Contains-at arrivals x i a) in
+        alone_so x.state (get_or hubs x.state kind.Hub) x (ways.hub_kinds x.state w.0) w.1 other;
     once = ways.order.once;
-    inside = λ i x a.
-        let s = (ways.gains x).0 (Contains-at arrivals x i a) in
-        let low = s.1 in
-        let same = of_state (kinds_at rows s.0) s.0 x s.2 in
-        omega (arith, low, same);
+    inside = λ i x a. (way_so x (Contains-at arrivals x i a)).0;
     ascend = ways.order.ascend;
-    hubs = λ n low. (ways.gains (hub_arrival n)).1 (n, low, inl refl);
+    hubs = λ n low. (ways.gains (hub_arrival hubs n)).1 (n, low, inl refl);
     edges = λ n state edge found among. (ways.gains (edge_arrival edge)).1 (
       edge.target,
       targets n state edge found among,
@@ -349,6 +513,12 @@ module _ (states : List State) (rows : List (List Kind)) (arrivals : List Arriva
       ),
     );
     made = λ i x a.
-        let s = (ways.gains x).0 (Contains-at arrivals x i a) in
-        made_so s.0 x s.2;
+        let w = way_so x (Contains-at arrivals x i a) in
+        made_so x.state (get_or hubs x.state kind.Hub) x (ways.hub_kinds x.state w.0) w.1;
+  }
+
+  pub are_firsts : AreFirsts hubs arrivals firsts
+  are_firsts = record {
+    len = ways.firsts_len ∙ sym ways.hubs_len;
+    at = λ n low. let len = ways.hubs_len in ways.at n (omega (arith, low, len));
   }

@@ -1,5 +1,5 @@
 -- Places that are kept one after another are kept.
-use Rattle.std.proofs.Common.{arith, ◌≡◌, ◌≢◌, ◌↔◌, ◌⊎◌, inl, inr, ℕ, ◌+◌, ◌<◌, ◌≤◌, List, [], length, refl, sym, ap, subst, ◌∙◌, get_or, true, false, Bool}
+use Rattle.std.proofs.Common.{arith, ◌≡◌, ◌≢◌, ◌↔◌, ◌⊎◌, inl, inr, ℕ, ◌+◌, ◌<◌, ◌≤◌, List, length, refl, sym, subst, ◌∙◌, get_or, true, false, Bool}
 use Rattle.std.specs.Prelude.{Contains}
 use Rattle.ux_base.proofs.Lists.{same_or, less_or}
 use Rattle.ux_boxes.specs.declared.place.Place.{Place}
@@ -7,8 +7,20 @@ use Rattle.ux_boxes.specs.Places.{label_lines, place_output, place_targets, is_r
 use Rattle.ux_boxes.proofs.StepsLemmas.{target_from}
 use Rattle.ux_admission.specs.Gains.{SoOfOne}
 use Rattle.ux_state_places.specs.Arrivals.{AreKept, IsOpened}
-use Rattle.ux_state_places.specs.Keeping.{AreSet, IsKeptTarget}
-use Rattle.ux_state_places.specs.Meeting.{HasOpening}
+use Rattle.ux_state_places.specs.Keeping.{AreSet, IsKeptAt, IsKeptTarget}
+
+-- all targets of a place with a mark are kept
+pub kept_marked : (old new : List Place) (n : ℕ) (is_met : Bool) → is_met ≡ true →
+    AreSet old n true (place_targets old n) new → IsKeptAt old n is_met new
+kept_marked old new n is_met is set = record {
+  targets = place_targets old n;
+  exact = λ q. (
+    λ has. (q, has, (refl, inl is)),
+    λ (t, has, (same, why)).
+        subst (λ k. Contains (place_targets old n) k) same has,
+  );
+  set = subst (λ b. AreSet old n b (place_targets old n) new) (sym is) set;
+}
 
 module _ (marks : List Bool) (raw : List Place) where
   -- the places up to one are kept

@@ -23,7 +23,7 @@ use Rattle.ux_state_places.specs.declared.arrival.Kind.TheVariants as kind
 use Rattle.ux_state_places.specs.Arrivals.{label_of, arriving, hub_arrival, edge_arrival, arrival_at, IsOpened, ArePlacesOf}
 use Rattle.ux_state_places.specs.Kinds.{kind_of}
 use Rattle.ux_state_places.specs.Standing.{IsSameStep, IsToHub, hub_of, state_for}
-use Rattle.ux_state_places.proofs.ArrivalLemmas.{label_arriving, kind_same, arrival_place, place_arrival, place_once, place_order, arrival_state, arrivals_some, line_arrival, arrival_line, IsStepOf, step_of, edge_or_hub, edge_leads, end_leads, end_back, hub_leads}
+use Rattle.ux_state_places.proofs.ArrivalLemmas.{label_arriving, kind_same, hub_or, arrival_place, arrival_among, place_arrival, place_once, place_order, arrival_state, arrivals_some, line_arrival, arrival_line, IsStepOf, step_of, edge_or_hub, edge_leads, end_leads, end_back, hub_leads}
 use Rattle.ux_state_places.proofs.KindLemmas.{mark_kind}
 
 -- a place that is marked as reached is there
@@ -34,15 +34,6 @@ reached_inside places p e = elim (less_or p (length places)) [
   | inr past ↦ absurd (let none : false ≡ true =
       sym (ap reached_in (slice_get_past places p past)) ∙ e in cc)
 ]
-
--- a kind is the hub's or another
-hub_or : (k : Kind) → (k ≡ kind.Hub) ⊎ (k ≡ kind.Hub → ⊥)
-hub_or kind.Hub = inl refl
-hub_or kind.Token = inr (λ e. absurd cc)
-hub_or kind.Positive = inr (λ e. absurd cc)
-hub_or kind.Negative = inr (λ e. absurd cc)
-hub_or kind.ContextEnd = inr (λ e. absurd cc)
-hub_or (kind.Call graph) = inr (λ e. absurd cc)
 
 module _ (graphs : List StateGraph) (places raws : List (List Place)) (stands hubs : List (List ℕ))
     (g : ℕ) (of : ArePlacesOf raws g (told_states graphs g) (places_of places g) (row_at stands g)
@@ -64,10 +55,10 @@ module _ (graphs : List StateGraph) (places raws : List (List Place)) (stands hu
 
   -- there is a state
   pub states_there : 0 < length states
-  states_there = of.are.inside 0 (hub_arrival 0) of.are.start
+  states_there = of.are.inside 0 (hub_arrival of.kinds 0) of.are.start
 
   some : 0 < length of.arrivals
-  some = arrivals_some states of.arrivals of.are raw of.raw
+  some = arrivals_some states of.kinds of.arrivals of.are raw of.raw
 
   pub kept_len : length kept ≡ length of.arrivals + 1
   kept_len = of.kept.len ∙ of.raw.len
@@ -80,35 +71,39 @@ module _ (graphs : List StateGraph) (places raws : List (List Place)) (stands hu
 
   -- the hub of a state is the place of its way
   pub hub_there : (n : ℕ) → n < length states →
-      arrival_at of.arrivals (hub n) ≡ Some (hub_arrival n)
-  hub_there n inside = of.have_hubs.hub n inside
+      arrival_at of.arrivals (hub n) ≡ Some (hub_arrival of.kinds n)
+  hub_there n inside =
+      let count = of.are.count in
+      of.have_hubs.hub n (omega (arith, inside, count))
+
+  -- where a state has another way than that into its hub, the latter takes nothing
+  own_hub : (p : ℕ) (x : Arrival) → arrival_at of.arrivals p ≡ Some x →
+      x ≢ hub_arrival of.kinds x.state → get_or of.kinds x.state kind.Hub ≡ kind.Hub
+  own_hub p x at apart =
+      let among = arrival_among of.arrivals p x at in
+      of.are.alone among.0 x among.1 apart
 
   -- the place of the hub's way is the hub
-  is_hub : (p n : ℕ) → n < length states → arrival_at of.arrivals p ≡ Some (hub_arrival n) →
-      p ≡ hub n
+  is_hub : (p n : ℕ) → n < length states →
+      arrival_at of.arrivals p ≡ Some (hub_arrival of.kinds n) → p ≡ hub n
   is_hub p n inside at =
-      place_once states of.arrivals of.are p (hub n) (hub_arrival n) at (hub_there n inside)
+      place_once states of.kinds of.arrivals of.are p (hub n) (hub_arrival of.kinds n) at
+      (hub_there n inside)
 
   pub hub_start : hub 0 ≡ 0
   hub_start = sym (is_hub 0 0 states_there of.are.start)
 
   pub state_start : state 0 ≡ 0
-  state_start = of.standing.state 0 (hub_arrival 0) of.are.start
+  state_start = of.standing.state 0 (hub_arrival of.kinds 0) of.are.start
 
   pub hub_facts : (n : ℕ) → n < length states →
       (hub n < length kept) × (hub n ≢ 1) × (state (hub n) ≡ n)
   hub_facts n inside =
       let at = hub_there n inside in
-      let there = arrival_place of.arrivals (hub n) (hub_arrival n) at in
+      let there = arrival_place of.arrivals (hub n) (hub_arrival of.kinds n) at in
       let low = there.0 in
       let len = kept_len in
-      (omega (arith, low, len), there.1, of.standing.state (hub n) (hub_arrival n) at)
-
-  pub hub_lined : (n : ℕ) → n < length states → Contains (label_lines kept (hub n)) (Empty ∷ [])
-  hub_lined n inside =
-      subst (λ (l : List (List Label)). Contains l (Empty ∷ [])) (sym (of.kept.lines (hub n)))
-      (arrival_line states of.arrivals of.are raw of.raw (hub n) (hub_arrival n)
-      (hub_there n inside))
+      (omega (arith, low, len), there.1, of.standing.state (hub n) (hub_arrival of.kinds n) at)
 
   pub state_inside : (p : ℕ) → p < length kept → state p < length states
   state_inside p inside = elim (same_or p 1) [
@@ -119,7 +114,7 @@ module _ (graphs : List StateGraph) (places raws : List (List Place)) (stands hu
     | inr other ↦
         let x = arrival_of p inside other in
         subst (λ n. n < length states) (sym (of.standing.state p x.0 x.1))
-        (arrival_state states of.arrivals of.are p x.0 x.1)
+        (arrival_state states of.kinds of.arrivals of.are p x.0 x.1)
   ]
 
   -- a step that is kept is one of the raw places
@@ -141,10 +136,10 @@ module _ (graphs : List StateGraph) (places raws : List (List Place)) (stands hu
   }
 
   pub step_here : (s : Step) → IsPlaceStep kept s →
-      IsStepOf states of.arrivals of.are raw of.raw s
+      IsStepOf states of.kinds of.arrivals of.are raw of.raw s
   step_here s i =
       let r = raw_step s i in
-      step_of states of.arrivals of.are raw of.raw s r (step_inside raw s r).0
+      step_of states of.kinds of.arrivals of.are raw of.raw s r (step_inside raw s r).0
 
   -- why a step isn't dropped
   pub step_why : (s : Step) → IsPlaceStep kept s →
@@ -157,14 +152,15 @@ module _ (graphs : List StateGraph) (places raws : List (List Place)) (stands hu
       ⊎ ((t : Step) × IsSameStep graphs places stands hubs g s t)
   steps_are s i = by (step_here s i)
     where
-      by : IsStepOf states of.arrivals of.are raw of.raw s → IsToHub graphs places stands hubs g s
+      by : IsStepOf states of.kinds of.arrivals of.are raw of.raw s →
+          IsToHub graphs places stands hubs g s
           ⊎ ((t : Step) × IsSameStep graphs places stands hubs g s t)
       by o =
           let n = o.source.state in
-          let inside = arrival_state states of.arrivals of.are s.from o.source o.from in
+          let inside = arrival_state states of.kinds of.arrivals of.are s.from o.source o.from in
           let from_is = of.standing.state s.from o.source o.from in
           let to_is = of.standing.state s.to o.target o.to in
-          elim (edge_or_hub states of.arrivals of.are raw of.raw s o) [
+          elim (edge_or_hub states of.kinds of.arrivals of.are raw of.raw s o) [
             | inl e ↦
                 let edge : Edge = e.1.1 in
                 let t : Step = record {
@@ -196,11 +192,12 @@ module _ (graphs : List StateGraph) (places raws : List (List Place)) (stands hu
                 let to_hub = is_hub s.to n inside (o.to ∙ ap (λ x. Some x) e.1) in
                 inl (record {
                   of_places = i;
-                  apart = λ same. e.0 (same_Some o.source (hub_arrival n) (sym o.from
+                  apart = λ same. e.0 (same_Some o.source (hub_arrival of.kinds n) (sym o.from
                       ∙ (ap (λ p. arrival_at of.arrivals p) (same ∙ ap (λ m. hub m) from_is)
                       ∙ hub_there n inside)));
                   to = to_hub ∙ ap (λ m. hub m) (sym from_is);
-                  silent = o.line ∙ ap (λ (x : Arrival). label_of x.kind ∷ []) e.1;
+                  silent = o.line ∙ (ap (λ (x : Arrival). label_of x.kind ∷ []) e.1
+                      ∙ ap (λ (k : Kind). label_of k ∷ []) (own_hub s.from o.source o.from e.0));
                 })
           ]
 
@@ -217,11 +214,12 @@ module _ (graphs : List StateGraph) (places raws : List (List Place)) (stands hu
   steps_lift t i why =
       let inside = slice_get_within states t.from i.state i.found in
       let at = hub_there t.from inside in
-      let q = edge_leads states of.arrivals of.are raw of.raw (hub t.from) t.from i.state i.edge at
-      i.found i.inside in
+      let q = edge_leads states of.kinds of.arrivals of.are raw of.raw (hub t.from) t.from i.state
+      i.edge at i.found i.inside in
       let label : Label = label_of (arriving i.edge.label) in
       let s : Step = record { from = hub t.from; to = q.0; output = []; labels = label ∷ [] } in
-      let line = arrival_line states of.arrivals of.are raw of.raw q.0 (edge_arrival i.edge) q.1 in
+      let line = arrival_line states of.kinds of.arrivals of.are raw of.raw q.0
+      (edge_arrival i.edge) q.1 in
       let raw_is : IsPlaceStep raw s = record {
         before_end = (hub_facts t.from inside).1;
         leads = q.2;
@@ -253,28 +251,29 @@ module _ (graphs : List StateGraph) (places raws : List (List Place)) (stands hu
   place_enters p other e =
       let x = arrival_of p (reached_inside kept p e) other in
       let n = x.0.state in
-      let inside = arrival_state states of.arrivals of.are p x.0 x.1 in
+      let inside = arrival_state states of.kinds of.arrivals of.are p x.0 x.1 in
       let state_is = of.standing.state p x.0 x.1 in
-      elim (hub_or x.0.kind) [
-        | inl k ↦
-            let whole : x.0 ≡ hub_arrival n =
-            ap (λ (k : Kind). let y : Arrival = record { state = n; kind = k } in y) k in
+      elim (hub_or of.kinds x.0) [
+        | inl whole ↦
             inl (is_hub p n inside (x.1 ∙ ap (λ y. Some y) whole) ∙ ap (λ m. hub m) (sym state_is))
-        | inr k ↦
-            let apart : x.0 ≢ hub_arrival n = λ same. k (ap (λ (y : Arrival). y.kind) same) in
+        | inr apart ↦
             let at = hub_there n inside in
             let s : Step = record { from = p; to = hub n; output = []; labels = Empty ∷ [] } in
             let raw_is : IsPlaceStep raw s = record {
               before_end = other;
-              leads = hub_leads states of.arrivals of.are raw of.raw p (hub n) x.0 x.1 apart at;
-              line = arrival_line states of.arrivals of.are raw of.raw (hub n) (hub_arrival n) at;
+              leads = hub_leads states of.kinds of.arrivals of.are raw of.raw p (hub n) x.0 x.1
+                  apart at;
+              line = subst (λ (k : Kind). Contains (label_lines raw (hub n)) (label_of k ∷ []))
+                  (own_hub p x.0 x.1 apart)
+                  (arrival_line states of.kinds of.arrivals of.are raw of.raw (hub n)
+                  (hub_arrival of.kinds n) at);
               puts = sym (of.raw.quiet (hub n));
             } in
             inr (
               s,
               record {
                 of_places = kept_step s raw_is (inl (reached_mark p e));
-                apart = λ same. apart (same_Some x.0 (hub_arrival n) (sym x.1
+                apart = λ same. apart (same_Some x.0 (hub_arrival of.kinds n) (sym x.1
                     ∙ (ap (λ q. arrival_at of.arrivals q) (same ∙ ap (λ m. hub m) state_is) ∙ at)));
                 to = ap (λ m. hub m) (sym state_is);
                 silent = refl;
@@ -290,9 +289,9 @@ module _ (graphs : List StateGraph) (places raws : List (List Place)) (stands hu
       let raw_inside = target_from raw p 1 leads in
       let len = of.kept.len in
       let x = arrival_of p (omega (arith, raw_inside, len)) e.0 in
-      let back = end_back states of.arrivals of.are raw of.raw p x.0 x.1 leads in
+      let back = end_back states of.kinds of.arrivals of.are raw of.raw p x.0 x.1 leads in
       let state_is = of.standing.state p x.0 x.1 in
-      let inside = arrival_state states of.arrivals of.are p x.0 x.1 in (
+      let inside = arrival_state states of.kinds of.arrivals of.are p x.0 x.1 in (
         is_hub p x.0.state inside (x.1 ∙ ap (λ y. Some y) back.0) ∙ ap (λ m. hub m) (sym state_is),
         subst (λ n. IsNetEnd states n) (sym state_is) back.1,
       )
@@ -305,8 +304,8 @@ module _ (graphs : List StateGraph) (places raws : List (List Place)) (stands hu
       let at = hub_there n inside in (
         (hub_facts n inside).1,
         (of.kept.targets (hub n) 1).1 (
-          end_leads states of.arrivals of.are raw of.raw (hub n) n final.state at final.found
-              final.final,
+          end_leads states of.kinds of.arrivals of.are raw of.raw (hub n) n final.state at
+              final.found final.final,
           inl (reached_mark (hub n) e),
         ),
       )
@@ -315,9 +314,9 @@ module _ (graphs : List StateGraph) (places raws : List (List Place)) (stands hu
   pub lines_apart : (p q : ℕ) (line : List Label) → Contains (label_lines kept p) line →
       Contains (label_lines kept q) line → state p ≡ state q → p ≡ q
   lines_apart p q line h k same =
-      let x = line_arrival states of.arrivals of.are raw of.raw p line
+      let x = line_arrival states of.kinds of.arrivals of.are raw of.raw p line
       (subst (λ (l : List (List Label)). Contains l line) (of.kept.lines p) h) in
-      let y = line_arrival states of.arrivals of.are raw of.raw q line
+      let y = line_arrival states of.kinds of.arrivals of.are raw of.raw q line
       (subst (λ (l : List (List Label)). Contains l line) (of.kept.lines q) k) in
       let labels : label_of x.0.kind ∷ [] ≡ label_of y.0.kind ∷ [] = sym x.2 ∙ y.2 in
       let kinds = kind_same x.0.kind y.0.kind (first_one labels) in
@@ -326,7 +325,7 @@ module _ (graphs : List StateGraph) (places raws : List (List Place)) (stands hu
       let both : x.0 ≡ y.0 =
       ap (λ (k : Kind). let z : Arrival = record { state = x.0.state; kind = k } in z) kinds
       ∙ ap (λ n. let z : Arrival = record { state = n; kind = y.0.kind } in z) numbers in
-      place_once states of.arrivals of.are p q y.0 (x.1 ∙ ap (λ z. Some z) both) y.1
+      place_once states of.kinds of.arrivals of.are p q y.0 (x.1 ∙ ap (λ z. Some z) both) y.1
     where
       first_one : {a b : Label} → a ∷ [] ≡ b ∷ [] → a ≡ b
       first_one e = cc
@@ -349,7 +348,7 @@ module _ (graphs : List StateGraph) (places raws : List (List Place)) (stands hu
           let y = arrival_of q there other in
           let left = of.standing.state p x.0 x.1 in
           let right = of.standing.state q y.0 y.1 in
-          place_order states of.arrivals of.are p q x.0 y.0 x.1 y.1
+          place_order states of.kinds of.arrivals of.are p q x.0 y.0 x.1 y.1
           (omega (arith, low, left, right))
     ]
   ]

@@ -5,7 +5,7 @@ use Rattle.std.proofs.lemmas.List.Elements.{All-nil, All-cons, All-weaker, All-c
 use Rattle.std.proofs.lemmas.Option.{same_Some, slice_get_past, slice_get_within}
 use Rattle.ux_base.proofs.Lists.{less_or}
 use Rattle.ux_net.specs.declared.label.Label.{Label}
-use Rattle.ux_net.specs.declared.label.Label.TheVariants.{Empty, Call}
+use Rattle.ux_net.specs.declared.label.Label.TheVariants.{Call}
 use Rattle.ux_net.specs.declared.state.State.{State}
 use Rattle.ux_net.specs.declared.state_graph.StateGraph.{StateGraph}
 use Rattle.ux_net.specs.Closers.{ClosesInto}
@@ -22,10 +22,11 @@ use Rattle.ux_admission.specs.Admission.{row_at}
 use Rattle.ux_admission.specs.Cycles.{AreLoopsMet}
 use Rattle.ux_admission.proofs.FreeLemmas.{free_ordinary}
 use Rattle.ux_state_places.specs.declared.arrival.Arrival.{Arrival}
+use Rattle.ux_state_places.specs.declared.arrival.Kind.{Kind}
 use Rattle.ux_state_places.specs.Arrivals.{label_of, arriving, hub_arrival, AreArrivals, AreRawPlaces, ArePlacesOf, ArePlaced}
 use Rattle.ux_state_places.specs.Standing.{Stand}
-use Rattle.ux_state_places.proofs.ArrivalLemmas.{arrival_among, arrivals_some, line_arrival, IsStepOf, edge_or_hub, target_inside}
-use Rattle.ux_state_places.proofs.KeptLemmas.{hub_start, state_start, hub_facts, hub_lined, state_inside, steps_are, steps_lift, place_enters, ends_are, finals_are, lines_apart, places_ascend, reached_met, raw_step, step_here, step_why, met_kept, led, reached_inside, kept_len}
+use Rattle.ux_state_places.proofs.ArrivalLemmas.{arrival_among, arrival_state, arrivals_some, line_arrival, IsStepOf, edge_or_hub, target_inside}
+use Rattle.ux_state_places.proofs.KeptLemmas.{hub_start, state_start, hub_facts, state_inside, steps_are, steps_lift, place_enters, ends_are, finals_are, lines_apart, places_ascend, reached_met, raw_step, step_here, step_why, met_kept, led, reached_inside, kept_len}
 
 -- a run to a place begins there, or a step leads to it
 run_into : (g : ℕ) (graph : StepGraph) {a b : ℕ} {w : List Letter} → Run g graph a b w →
@@ -58,14 +59,15 @@ one_fit count x c = record {
 }
 
 module _ (graphs : List StateGraph) (inside : AreInsideStates graphs) (g : ℕ)
-    (arrivals : List Arrival) (are : AreArrivals (told_states graphs g) arrivals)
-    (raw : List Place) (is : AreRawPlaces (told_states graphs g) arrivals raw) where
+    (kinds : List Kind) (arrivals : List Arrival)
+    (are : AreArrivals (told_states graphs g) kinds arrivals) (raw : List Place)
+    (is : AreRawPlaces (told_states graphs g) kinds arrivals raw) where
   -- what the kind of a way calls is there
   arrival_called : (i : ℕ) (x : Arrival) → slice_get arrivals i ≡ Some x →
       IsCalled (length graphs) (label_of x.kind)
   arrival_called i x e = elim (are.made i x e) [
     | inl is_hub ↦
-        subst (λ (y : Arrival). IsCalled (length graphs) (label_of y.kind)) (sym is_hub) tt
+        subst (λ (k : Kind). IsCalled (length graphs) (label_of k)) (sym is_hub) tt
     | inr (n, state, edge, found, has, is_edge) ↦
         subst (λ (y : Arrival). IsCalled (length graphs) (label_of y.kind)) (sym is_edge)
         (called_arriving (length graphs) edge.label (inside.edges g n state edge found has).called)
@@ -75,7 +77,7 @@ module _ (graphs : List StateGraph) (inside : AreInsideStates graphs) (g : ℕ)
   pub raw_line_fit : (n : ℕ) (line : List Label) → Contains (label_lines raw n) line →
       IsFitLine (length graphs) line
   raw_line_fit n line h =
-      let x = line_arrival (told_states graphs g) arrivals are raw is n line h in
+      let x = line_arrival (told_states graphs g) kinds arrivals are raw is n line h in
       let among = arrival_among arrivals n x.0 x.1 in
       subst (IsFitLine (length graphs)) (sym x.2)
       (one_fit (length graphs) (label_of x.0.kind) (arrival_called among.0 x.0 among.1))
@@ -96,8 +98,8 @@ module _ (graphs : List StateGraph) (places raws : List (List Place)) (stands hu
   one_line : (p : ℕ) (a b : List Label) → Contains (label_lines raw p) a →
       Contains (label_lines raw p) b → a ≡ b
   one_line p a b h k =
-      let x = line_arrival states of.arrivals of.are raw of.raw p a h in
-      let y = line_arrival states of.arrivals of.are raw of.raw p b k in
+      let x = line_arrival states of.kinds of.arrivals of.are raw of.raw p a h in
+      let y = line_arrival states of.kinds of.arrivals of.are raw of.raw p b k in
       x.2 ∙ (ap (λ (z : Arrival). label_of z.kind ∷ []) (same_Some x.0 y.0 (sym x.1 ∙ y.1)) ∙ sym y.2)
 
   -- the line of a step, among the raw places
@@ -110,26 +112,29 @@ module _ (graphs : List StateGraph) (places raws : List (List Place)) (stands hu
       mark_of s.labels ≡ opens sign → ClosesInto (place_grammar places) g s.to b →
       Run g (place_graph kept) b s.from w → IsMet (place_grammar places) g s.from
   opening_met s sign b i m ends r =
-      elim (edge_or_hub states of.arrivals of.are raw of.raw s o) [
+      elim (edge_or_hub states of.kinds of.arrivals of.are raw of.raw s o) [
         | inl e ↦ by e.0 (run_into g (place_graph kept) r)
         | inr e ↦ absurd (
-            let line : s.labels ≡ Empty ∷ [] =
-            o.line ∙ ap (λ (x : Arrival). label_of x.kind ∷ []) e.1 in
-            let both : opens sign ≡ ordinary = sym m ∙ ap mark_of line in cc)
+            let line = o.line ∙ ap (λ (x : Arrival). label_of x.kind ∷ []) e.1 in
+            let both : opens sign ≡ ordinary = sym m ∙ (ap mark_of line ∙ hub_plain) in cc)
       ]
     where
-      o : IsStepOf states of.arrivals of.are raw of.raw s
+      o : IsStepOf states of.kinds of.arrivals of.are raw of.raw s
       o = step_here graphs places raws stands hubs g of s i
 
-      -- the line of the hub
-      hub_line : (line : List Label) → o.source ≡ hub_arrival o.source.state →
-          Contains (label_lines raw s.from) line → line ≡ Empty ∷ []
-      hub_line line is h =
-          let x = line_arrival states of.arrivals of.are raw of.raw s.from line h in
-          x.2 ∙ ap (λ (z : Arrival). label_of z.kind ∷ [])
-          (same_Some x.0 o.source (sym x.1 ∙ o.from) ∙ is)
+      -- the line of the hub neither opens nor closes a context
+      hub_plain : mark_of (label_of (hub_arrival of.kinds o.source.state).kind ∷ []) ≡ ordinary
+      hub_plain = of.are.plain o.source.state
+          (arrival_state states of.kinds of.arrivals of.are s.from o.source o.from)
 
-      by : o.source ≡ hub_arrival o.source.state →
+      hub_line : (line : List Label) → o.source ≡ hub_arrival of.kinds o.source.state →
+          Contains (label_lines raw s.from) line → mark_of line ≡ ordinary
+      hub_line line is h =
+          let x = line_arrival states of.kinds of.arrivals of.are raw of.raw s.from line h in
+          ap mark_of (x.2 ∙ ap (λ (z : Arrival). label_of z.kind ∷ [])
+          (same_Some x.0 o.source (sym x.1 ∙ o.from) ∙ is)) ∙ hub_plain
+
+      by : o.source ≡ hub_arrival of.kinds o.source.state →
           (b ≡ s.from) ⊎ ((u : Step) × IsPlaceStep kept u × (u.to ≡ s.from)) →
           IsMet (place_grammar places) g s.from
       by is (inl e) =
@@ -137,7 +142,7 @@ module _ (graphs : List StateGraph) (places raws : List (List Place)) (stands hu
           let line = hub_line body.step.labels is
           (subst (λ n. Contains (label_lines raw n) body.step.labels) (body.after ∙ e)
           (raw_line body.step body.inside)) in
-          absurd (let both : closes ≡ ordinary = sym body.closed ∙ ap mark_of line in cc)
+          absurd (let both : closes ≡ ordinary = sym body.closed ∙ line in cc)
       by is (inr (u, j, to)) =
           let line = hub_line u.labels is
           (subst (λ n. Contains (label_lines raw n) u.labels) to (raw_line u j)) in
@@ -146,11 +151,11 @@ module _ (graphs : List StateGraph) (places raws : List (List Place)) (stands hu
             | inl mark ↦ subst (λ n. IsMet (place_grammar places) g n) to
                 (met_kept graphs places raws stands hubs g of u.to
                 (led graphs places raws stands hubs g of ((of.marked u.from inside).0 mark)
-                (along u (raw_step graphs places raws stands hubs g of u j) (ap mark_of line) stop)))
+                (along u (raw_step graphs places raws stands hubs g of u j) line stop)))
             | inr (other, sign, has, opening) ↦
                 let same = one_line u.to u.labels other (raw_line u j) has in
                 absurd (let both : ordinary ≡ opens sign =
-                sym (ap mark_of line) ∙ (ap mark_of same ∙ opening) in cc)
+                sym line ∙ (ap mark_of same ∙ opening) in cc)
           ]
 
   -- where what takes nothing leads back to its beginning, a run from some unit leads to it
@@ -175,19 +180,20 @@ module _ (graphs : List StateGraph) (places raws : List (List Place)) (stands hu
     two =
         let len = kept_len graphs places raws stands hubs g of in
         let some = some_arrivals in omega (arith, len, some);
-    start = of.kept.lines 0 ∙ of.raw.lines 0 (hub_arrival 0) of.are.start;
+    start = of.kept.lines 0 ∙ (of.raw.lines 0 (hub_arrival of.kinds 0) of.are.start
+        ∙ ap (λ (k : Kind). (label_of k ∷ []) ∷ []) of.are.first);
     lines = λ n. All-weaker (Contains (label_lines kept n)) (IsFitLine (length graphs))
-        (λ line h. raw_line_fit graphs inside g of.arrivals of.are raw of.raw n line
+        (λ line h. raw_line_fit graphs inside g of.kinds of.arrivals of.are raw of.raw n line
         (subst (λ (l : List (List Label)). Contains l line) (of.kept.lines n) h))
         (label_lines kept n) (All-contains_itself (label_lines kept n));
     inside = λ a b h.
         let r = ((of.kept.targets a b).0 h).0 in
-        let low = target_inside states of.arrivals of.are raw of.raw a b r in
+        let low = target_inside states of.kinds of.arrivals of.are raw of.raw a b r in
         let len = of.kept.len in omega (arith, low, len);
   }
     where
       some_arrivals : 0 < length of.arrivals
-      some_arrivals = arrivals_some states of.arrivals of.are raw of.raw
+      some_arrivals = arrivals_some states of.kinds of.arrivals of.are raw of.raw
 
 -- a graph of this number is there, or it has no states, places and rows
 record IsAbsent (graphs : List StateGraph) (places : List (List Place))
@@ -271,7 +277,7 @@ module _ (graphs : List StateGraph) (places : List (List Place)) (stands hubs : 
     have_hubs = record {
       len = all.hubs_count;
       row = λ g. elim (there_or g) [
-        | inl there ↦ (At g there).have_hubs.len
+        | inl there ↦ let of = At g there in of.have_hubs.len ∙ of.are.count
         | inr none ↦ ap (λ (l : List ℕ). length l) none.no_hubs
             ∙ sym (ap (λ (l : List State). length l) none.no_states)
       ];
@@ -294,8 +300,6 @@ module _ (graphs : List StateGraph) (places : List (List Place)) (stands hubs : 
       | inr none ↦ ap (λ (l : List ℕ). get_or l 0 0) none.no_stands
     ];
     hub = λ g n inside. hub_facts graphs places all.raws stands hubs g
-        (At g (state_graph g n inside)) n inside;
-    lined = λ g n inside. hub_lined graphs places all.raws stands hubs g
         (At g (state_graph g n inside)) n inside;
     inside = λ g p inside. state_inside graphs places all.raws stands hubs g
         (At g (place_here g p inside)) p inside;

@@ -21,6 +21,7 @@ use Rattle.ux_boxes.proofs.NumbersLemmas.{graph_inside, places_at}
 use Rattle.ux_boxes.proofs.StepsLemmas.{line_from}
 use Rattle.ux_admission.specs.Admission.{row_at}
 use Rattle.ux_state_places.specs.declared.arrival.Arrival.{Arrival}
+use Rattle.ux_state_places.specs.declared.arrival.Kind.{Kind}
 use Rattle.ux_state_places.specs.Arrivals.{label_of, hub_arrival, edge_arrival, arrival_at, HaveInsideTargets, AreKept, ArePlaced}
 use Rattle.ux_state_places.specs.Meeting.{AreMetMarks, AreOpenedInto}
 use Rattle.ux_state_places.specs.Placing.{AreRawRows, AreRawTo, marks_of, AreKeptRows}
@@ -175,6 +176,7 @@ module _ (graphs : List StateGraph) (raws : List (List Place)) (stands hubs : Li
         let count = are.count in
         let rows = are.each g from to in
         record {
+          kinds = rows.kinds;
           arrivals = rows.arrivals;
           are = rows.are;
           raw = rows.raw;
@@ -194,12 +196,14 @@ module _ (graphs : List StateGraph) (raws : List (List Place)) (stands hubs : Li
       IsFit (length graphs) (places_of raws g)
   graph_fit inside g from to = record {
     two = let len = rows.raw.len in let some = some_arrivals in omega (arith, len, some);
-    start = rows.raw.lines 0 (hub_arrival 0) rows.are.start;
+    start = rows.raw.lines 0 (hub_arrival rows.kinds 0) rows.are.start
+        ∙ ap (λ (k : Kind). (label_of k ∷ []) ∷ []) rows.are.first;
     lines = λ n. All-weaker (Contains (label_lines raw n)) (IsFitLine (length graphs))
-        (λ line h. raw_line_fit graphs inside g rows.arrivals rows.are raw rows.raw n line h)
+        (λ line h. raw_line_fit graphs inside g rows.kinds rows.arrivals rows.are raw rows.raw n
+        line h)
         (label_lines raw n)
         (All-contains_itself (label_lines raw n));
-    inside = λ a b h. target_inside states rows.arrivals rows.are raw rows.raw a b h;
+    inside = λ a b h. target_inside states rows.kinds rows.arrivals rows.are raw rows.raw a b h;
   }
     where
       states : List State
@@ -212,7 +216,7 @@ module _ (graphs : List StateGraph) (raws : List (List Place)) (stands hubs : Li
       rows = are.each g from to
 
       some_arrivals : 0 < length rows.arrivals
-      some_arrivals = arrivals_some states rows.arrivals rows.are raw rows.raw
+      some_arrivals = arrivals_some states rows.kinds rows.arrivals rows.are raw rows.raw
 
   -- the raw places are fit
   pub raw_fit : AreInsideStates graphs → All (IsFit (length raws)) raws
@@ -248,22 +252,24 @@ module _ (graphs : List StateGraph) (raws : List (List Place)) (stands hubs : Li
           rows = are.each g from to
 
           x : (x : Arrival) × (arrival_at rows.arrivals p ≡ Some x) × (line ≡ label_of x.kind ∷ [])
-          x = line_arrival states rows.arrivals rows.are raw rows.raw p line has
+          x = line_arrival states rows.kinds rows.arrivals rows.are raw rows.raw p line has
 
           from_hub : (n : ℕ) (state : State) (edge : Edge) → slice_get states n ≡ Some state →
               Contains state.edges edge → x.0 ≡ edge_arrival edge →
               OpensInto (place_grammar raws) g sign p
           from_hub n state edge found inside is =
-              let hub = way_place states rows.arrivals rows.are raw rows.raw (hub_arrival n)
+              let hub = way_place states rows.kinds rows.arrivals rows.are raw rows.raw
+              (hub_arrival rows.kinds n)
               (rows.are.hubs n (slice_get_within states n state found)) in
-              let q = edge_leads states rows.arrivals rows.are raw rows.raw hub.0 n state edge hub.1
-              found inside in
-              let same : q.0 ≡ p = place_once states rows.arrivals rows.are q.0 p (edge_arrival edge)
-              q.1 (x.1 ∙ ap (λ (y : Arrival). Some y) is) in
+              let q = edge_leads states rows.kinds rows.arrivals rows.are raw rows.raw hub.0 n state
+              edge hub.1 found inside in
+              let same : q.0 ≡ p = place_once states rows.kinds rows.arrivals rows.are q.0 p
+              (edge_arrival edge) q.1 (x.1 ∙ ap (λ (y : Arrival). Some y) is) in
               record {
                 step = record { from = hub.0; to = p; output = []; labels = line };
                 of_graph = record {
-                  before_end = (arrival_place rows.arrivals hub.0 (hub_arrival n) hub.1).1;
+                  before_end =
+                      (arrival_place rows.arrivals hub.0 (hub_arrival rows.kinds n) hub.1).1;
                   leads = subst (λ k. Contains (place_targets raw hub.0) k) same q.2;
                   line = has;
                   puts = sym (rows.raw.quiet p);
@@ -277,7 +283,7 @@ module _ (graphs : List StateGraph) (raws : List (List Place)) (stands hubs : Li
           by (i, e) = elim (rows.are.made i x.0 e) [
             | inl is ↦ absurd (
                 let plain : line ≡ Empty ∷ [] =
-                x.2 ∙ ap (λ (y : Arrival). label_of y.kind ∷ []) is in
+                x.2 ∙ ap (λ (k : Kind). label_of k ∷ []) is in
                 let both : opens sign ≡ ordinary = sym m ∙ ap mark_of plain in cc)
             | inr (n, state, edge, found, inside, is) ↦ from_hub n state edge found inside is
           ]

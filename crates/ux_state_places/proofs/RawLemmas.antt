@@ -1,26 +1,23 @@
 -- Places that are made one after another are those of the ways.
-use Rattle.std.proofs.Common.{arith, ◌≡◌, ◌↔◌, ◌⊎◌, inl, inr, ℕ, zero, suc, ◌+◌, ◌<◌, ◌≤◌, List, [], ◌∷◌, ◌++◌, length, take, drop, refl, sym, ap, subst, ◌∙◌, get_or, true, Bool}
+use Rattle.std.proofs.Common.{arith, ◌≡◌, ◌≢◌, ◌↔◌, ◌⊎◌, inl, inr, ℕ, zero, suc, ◌+◌, ◌<◌, ◌≤◌, List, [], ◌∷◌, ◌++◌, length, refl, sym, ap, subst, ◌∙◌, get_or, true, Bool}
 use Rattle.std.specs.Prelude.{Contains, Some, slice_get, position}
 use Rattle.std.specs.List.{list_any}
+use Rattle.std.proofs.lemmas.List.{get_or_default}
 use Rattle.std.proofs.lemmas.List.Folds.{list_any_at}
 use Rattle.std.proofs.lemmas.List.Quantifiers.{position-Some}
-use Rattle.std.proofs.lemmas.List.Elements.{Contains-push_cases}
 use Rattle.std.proofs.lemmas.Option.{slice_get_cases, slice_get_within, slice_get_read, slice_get-get_or, get_or_from_slice_get}
-use Rattle.ux_base.proofs.Lists.{nothing_in, less_or}
+use Rattle.ux_base.proofs.Lists.{less_or}
 use Rattle.ux_base.proofs.OrderedLists.{place_of, slice_get-append_left}
-use Rattle.ux_net.specs.declared.label.Label.{Label}
 use Rattle.ux_net.specs.declared.state.Edge.{Edge}
 use Rattle.ux_net.specs.declared.state.State.{State}
 use Rattle.ux_boxes.specs.declared.place.Place.{Place}
-use Rattle.ux_boxes.specs.Places.{label_lines, place_output, place_targets, lines_in, targets_in, output_in_place}
+use Rattle.ux_boxes.specs.Places.{lines_in, targets_in, output_in_place}
 use Rattle.ux_admission.specs.Gains.{Gains, SoOfOne}
-use Rattle.ux_admission.proofs.GainsLemmas.{gains_one, gains_then, gains_all}
+use Rattle.ux_admission.proofs.GainsLemmas.{gains_then, gains_all}
 use Rattle.ux_state_places.specs.declared.arrival.Arrival.{Arrival}
 use Rattle.ux_state_places.specs.declared.arrival.Kind.{Kind}
-use Rattle.ux_state_places.specs.declared.arrival.Kind.TheVariants as kind
-use Rattle.ux_state_places.specs.Arrivals.{label_of, hub_arrival, edge_arrival, arrival_at, place_number, AreArrivals, AreRawPlaces, AreStandingFor, AreHubs, IsTargetOf}
-use Rattle.ux_state_places.specs.RawPlaces.{with_second, HavePlacesOnce, HaveEdges, IsHubPlace, IsEdgePlace, IsFinalPlace, IsLedTo, IsPlaceFor, AreMade, IsPlaceAt, IsStateAt}
-use Rattle.ux_state_places.proofs.ArrivalLemmas.{place_once}
+use Rattle.ux_state_places.specs.Arrivals.{hub_arrival, arrival_at, place_number, AreArrivals, AreFirsts, AreRawPlaces, AreStandingFor, AreHubs, IsTargetOf}
+use Rattle.ux_state_places.specs.RawPlaces.{with_second, HaveEdges, IsHubPlace, IsEdgePlace, IsFinalPlace, IsLedTo, IsPlaceFor, AreMade, IsPlaceAt, IsStateAt}
 
 -- there is one more
 pub length-second : {A : Type 0} (xs : List A) (x : A) → length (with_second x xs) ≡ length xs + 1
@@ -106,13 +103,14 @@ second_there [] second some = absurd (omega (arith, some))
 second_there (y ∷ ys) second some = refl
 
 -- the places of the ways, with the end between
-pub raw_made : (states : List State) (arrivals : List Arrival) (made : List Place) (end : Place) →
-    AreArrivals states arrivals → AreMade (IsPlaceAt states arrivals) (length arrivals) made →
+pub raw_made : (states : List State) (kinds : List Kind) (arrivals : List Arrival)
+    (made : List Place) (end : Place) → AreArrivals states kinds arrivals →
+    AreMade (IsPlaceAt states kinds arrivals) (length arrivals) made →
     end.output ≡ [] → end.lines ≡ [] → end.targets ≡ [] →
-    AreRawPlaces states arrivals (with_second end made)
-raw_made states arrivals made end are of no_output no_lines no_targets =
+    AreRawPlaces states kinds arrivals (with_second end made)
+raw_made states kinds arrivals made end are of no_output no_lines no_targets =
     let places : List Place = with_second end made in
-    let first = slice_get_within arrivals 0 (hub_arrival 0) are.start in
+    let first = slice_get_within arrivals 0 (hub_arrival kinds 0) are.start in
     let len = of.len in
     let there = second_there made end (omega (arith, first, len)) in
     record {
@@ -128,7 +126,7 @@ raw_made states arrivals made end are of no_output no_lines no_targets =
           ap lines_in s.4 ∙ (of.each s.0 s.1 s.3 x s.2).lines;
       targets = λ p q x at.
           let s = second_at arrivals made end p x of.len at in
-          subst (λ (l : List ℕ). Contains l q ↔ IsTargetOf states arrivals x.state x.kind q)
+          subst (λ (l : List ℕ). Contains l q ↔ IsTargetOf states kinds arrivals x q)
           (sym (ap targets_in s.4)) ((of.each s.0 s.1 s.3 x s.2).targets q);
     }
   where
@@ -138,8 +136,8 @@ raw_made states arrivals made end are of no_output no_lines no_targets =
       | inr (k, there) ↦
           let low = slice_get_within made k y there in
           let len = of.len in
-          let x = get_or arrivals k (hub_arrival 0) in
-          (of.each k y there x (slice_get-get_or arrivals k (hub_arrival 0)
+          let x = get_or arrivals k (hub_arrival kinds 0) in
+          (of.each k y there x (slice_get-get_or arrivals k (hub_arrival kinds 0)
           (omega (arith, low, len)))).quiet
     ]
 
@@ -160,9 +158,9 @@ standing_made arrivals made of = record {
     second_zero (n ∷ ns) = refl
 
 -- the hubs of the states
-pub hubs_made : (states : List State) (arrivals : List Arrival) (row : List ℕ) →
-    AreMade (IsHubPlace arrivals) (length states) row → AreHubs states arrivals row
-hubs_made states arrivals row of = record {
+pub hubs_made : (kinds : List Kind) (arrivals : List Arrival) (row : List ℕ) →
+    AreMade (IsHubPlace kinds arrivals) (length kinds) row → AreHubs kinds arrivals row
+hubs_made kinds arrivals row of = record {
   len = of.len;
   hub = λ n low.
       let len = of.len in
@@ -175,15 +173,50 @@ pub numbered : (arrivals : List Arrival) (k : ℕ) (x : Arrival) → slice_get a
 numbered arrivals zero x at = at
 numbered arrivals (suc n) x at = at
 
--- a place of another kind leads to the hub
-pub other_target : (states : List State) (arrivals : List Arrival) (n : ℕ) (k : Kind) (q : ℕ) →
-    ((k ≡ kind.Hub) → ⊥) → IsTargetOf states arrivals n k q ↔ IsHubPlace arrivals n q
-other_target states arrivals n kind.Hub q other = absurd (other refl)
-other_target states arrivals n kind.Token q other = (λ h. h, λ h. h)
-other_target states arrivals n kind.Positive q other = (λ h. h, λ h. h)
-other_target states arrivals n kind.Negative q other = (λ h. h, λ h. h)
-other_target states arrivals n kind.ContextEnd q other = (λ h. h, λ h. h)
-other_target states arrivals n (kind.Call graph) q other = (λ h. h, λ h. h)
+-- another way than that into the hub leads to the hub
+pub other_targets : (states : List State) (kinds : List Kind) (arrivals : List Arrival)
+    (x : Arrival) (q : ℕ) → x ≢ hub_arrival kinds x.state →
+    IsHubPlace kinds arrivals x.state q ↔ IsTargetOf states kinds arrivals x q
+other_targets states kinds arrivals x q apart = (
+  λ h. inr (apart, h),
+  λ h. elim h [
+    | inl hub ↦ absurd (apart hub.0)
+    | inr leads ↦ leads.1
+  ],
+)
+
+-- the number of the way into a hub is that of the hub
+pub hub_numbered : (kinds : List Kind) (arrivals : List Arrival) (firsts : List ℕ)
+    (n first place : ℕ) → AreFirsts kinds arrivals firsts → n < length firsts →
+    first ≡ get_or firsts n first → place ≡ place_number first →
+    IsHubPlace kinds arrivals n place
+hub_numbered kinds arrivals firsts n first place are low at is =
+    let len = are.len in
+    subst (λ p. IsHubPlace kinds arrivals n p) (sym is)
+    (subst (λ k. IsHubPlace kinds arrivals n (place_number k))
+    (sym (at ∙ get_or_default firsts n first 0 low))
+    (numbered arrivals (get_or firsts n 0) (hub_arrival kinds n)
+    (are.at n (omega (arith, low, len)))))
+
+-- it is that of a way
+pub first_below : (kinds : List Kind) (arrivals : List Arrival) (firsts : List ℕ) (n first : ℕ) →
+    AreFirsts kinds arrivals firsts → n < length firsts → first ≡ get_or firsts n first →
+    first < length arrivals
+first_below kinds arrivals firsts n first are low at =
+    let len = are.len in
+    let within = slice_get_within arrivals (get_or firsts n 0) (hub_arrival kinds n)
+    (are.at n (omega (arith, low, len))) in
+    subst (λ k. k < length arrivals) (sym (at ∙ get_or_default firsts n first 0 low)) within
+
+-- the number of the hub of a way's state is that of the way, where it is that into the hub
+pub first_found : (kinds : List Kind) (arrivals : List Arrival) (firsts : List ℕ) (x : Arrival)
+    (first : ℕ) → AreFirsts kinds arrivals firsts → x ≡ hub_arrival kinds x.state →
+    slice_get firsts x.state ≡ Some first → slice_get arrivals first ≡ Some x
+first_found kinds arrivals firsts x first are is at =
+    let low = slice_get_within firsts x.state first at in
+    let len = are.len in
+    subst (λ k. slice_get arrivals k ≡ Some x) (get_or_from_slice_get firsts x.state first 0 at)
+    (are.at x.state (omega (arith, low, len)) ∙ ap (λ (y : Arrival). Some y) (sym is))
 
 -- an item that is there is found at its number
 module _ {T : Type 0} (eq : T → T → Bool) (exact : (a b : T) → (eq a b ≡ true) ↔ (a ≡ b)) where
@@ -210,36 +243,41 @@ led_to arrivals state edges none now after is same first then =
     (subst (λ (xs : List Edge). Gains now after (SoOfOne xs (IsEdgePlace arrivals))) same then))
 
 -- the places to which the hub of a state leads are its targets
-pub hub_targets : (states : List State) (arrivals : List Arrival) (n : ℕ) (k : Kind) (state : State)
-    (q : ℕ) → k ≡ kind.Hub → n < length states → state ≡ get_or states n state →
-    IsLedTo arrivals state q ↔ IsTargetOf states arrivals n k q
-hub_targets states arrivals n k state q is low at =
-    let there = slice_get_read states (length states) n state refl low at in
-    subst (λ (j : Kind). IsLedTo arrivals state q ↔ IsTargetOf states arrivals n j q) (sym is) (
-      λ h. (state, there, h),
-      λ h. let same : Some h.0 ≡ Some state = sym h.1 ∙ there in
-          let e : h.0 ≡ state = cc in
-          subst (λ (s : State). IsLedTo arrivals s q) e h.2,
+pub hub_targets : (states : List State) (kinds : List Kind) (arrivals : List Arrival)
+    (x : Arrival) (state : State) (q : ℕ) → x ≡ hub_arrival kinds x.state →
+    x.state < length states → state ≡ get_or states x.state state →
+    IsLedTo arrivals state q ↔ IsTargetOf states kinds arrivals x q
+hub_targets states kinds arrivals x state q is low at =
+    let there = slice_get_read states (length states) x.state state refl low at in (
+      λ h. inl (is, (state, there, h)),
+      λ h. elim h [
+        | inl (hub, leads) ↦
+            let same : Some leads.0 ≡ Some state = sym leads.1 ∙ there in
+            let e : leads.0 ≡ state = cc in
+            subst (λ (s : State). IsLedTo arrivals s q) e leads.2
+        | inr other ↦ absurd (other.0 is)
+      ],
     )
 
 -- a way that is there leads into a state
-pub way_inside : (states : List State) (arrivals : List Arrival) (x : Arrival) →
-    AreArrivals states arrivals → Contains arrivals x → x.state < length states
-way_inside states arrivals x are there =
+pub way_inside : (states : List State) (kinds : List Kind) (arrivals : List Arrival) (x : Arrival) →
+    AreArrivals states kinds arrivals → Contains arrivals x → x.state < length states
+way_inside states kinds arrivals x are there =
     let at = place_of arrivals x there in are.inside at.0 x at.1
 
 -- the ways along the edges of a state are there
-pub have_edges : (states : List State) (arrivals : List Arrival) (n : ℕ) (state : State) →
-    AreArrivals states arrivals → n < length states → state ≡ get_or states n state →
-    HaveEdges arrivals state.edges
-have_edges states arrivals n state are low at edge has =
+pub have_edges : (states : List State) (kinds : List Kind) (arrivals : List Arrival) (n : ℕ)
+    (state : State) → AreArrivals states kinds arrivals → n < length states →
+    state ≡ get_or states n state → HaveEdges arrivals state.edges
+have_edges states kinds arrivals n state are low at edge has =
     are.edges n state edge (slice_get_read states (length states) n state refl low at) has
 
 -- the place of the way that stands here
-pub place_here : (states : List State) (arrivals items : List Arrival) (k : ℕ) (d : Arrival)
-    (place : Place) → items ≡ arrivals → IsPlaceFor states arrivals (get_or items k d) place →
-    IsPlaceAt states arrivals k place
-place_here states arrivals items k d place same is x at =
+pub place_here : (states : List State) (kinds : List Kind) (arrivals items : List Arrival) (k : ℕ)
+    (d : Arrival) (place : Place) → items ≡ arrivals →
+    IsPlaceFor states kinds arrivals (get_or items k d) place →
+    IsPlaceAt states kinds arrivals k place
+place_here states kinds arrivals items k d place same is x at =
     let e : get_or items k d ≡ x = ap (λ (xs : List Arrival). get_or xs k d) same
     ∙ get_or_from_slice_get arrivals k x d at in
-    subst (λ (y : Arrival). IsPlaceFor states arrivals y place) e is
+    subst (λ (y : Arrival). IsPlaceFor states kinds arrivals y place) e is

@@ -1,8 +1,9 @@
 -- What is kept of the places of a graph, one after another. Inner: the crate's own functions alone
 -- speak of it.
-use Rattle.std.specs.Prelude.{◌≡◌, ◌≢◌, ◌⊎◌, ℕ, List, Bool, true, length}
+use Rattle.std.specs.Prelude.{◌≡◌, ◌≢◌, ◌↔◌, ◌⊎◌, ℕ, List, Bool, true, length, Contains}
 use Rattle.ux_boxes.specs.declared.place.Place.{Place}
 use Rattle.ux_boxes.specs.Places.{label_lines, place_output, place_targets, is_reached}
+use Rattle.ux_admission.specs.Gains.{SoOfOne}
 use Rattle.ux_state_places.specs.Meeting.{HasOpening}
 
 -- the target of a place with a mark is kept, and of another one where a context opens into it
@@ -20,3 +21,10 @@ pub record AreSet (old : List Place) (n : ℕ) (is_met : Bool) (targets : List �
   pub leads : place_targets new n ≡ targets
   pub others_reached : (p : ℕ) → p ≢ n → is_reached new p ≡ is_reached old p
   pub others_targets : (p : ℕ) → p ≢ n → place_targets new p ≡ place_targets old p
+
+-- the same, with the targets that are kept
+pub record IsKeptAt (old : List Place) (n : ℕ) (is_met : Bool) (new : List Place) : Type 0 where
+  pub targets : List ℕ
+  pub exact : (q : ℕ) → Contains targets q ↔
+      SoOfOne (place_targets old n) (IsKeptTarget old is_met) q
+  pub set : AreSet old n is_met targets new

@@ -9,17 +9,19 @@ use Rattle.ux_boxes.specs.Numbers.{places_before}
 use Rattle.ux_boxes.specs.Places.{places_of}
 use Rattle.ux_admission.specs.Admission.{row_at}
 use Rattle.ux_state_places.specs.declared.arrival.Arrival.{Arrival}
+use Rattle.ux_state_places.specs.declared.arrival.Kind.{Kind}
 use Rattle.ux_state_places.specs.Arrivals.{AreArrivals, AreRawPlaces, AreKept, AreStandingFor, AreHubs}
 
 -- The rows of a graph before anything is dropped: the places of the ways into its states, the states
 -- for which they stand, and the hubs.
 pub record AreRawRows (states : List State) (places : List Place) (stands hubs : List ℕ) :
     Type 0 where
+  pub kinds : List Kind
   pub arrivals : List Arrival
-  pub are : AreArrivals states arrivals
-  pub raw : AreRawPlaces states arrivals places
+  pub are : AreArrivals states kinds arrivals
+  pub raw : AreRawPlaces states kinds arrivals places
   pub standing : AreStandingFor arrivals stands
-  pub have_hubs : AreHubs states arrivals hubs
+  pub have_hubs : AreHubs kinds arrivals hubs
 
 -- so many graphs have their rows
 pub record AreRawTo (graphs : List StateGraph) (n : ℕ) (raws : List (List Place))

@@ -1,6 +1,6 @@
--- Places that stand for states. A state has a hub, the place from which its edges lead. An edge that
--- takes nothing leads to the hub of its target; another one to the place for its target and its kind,
--- which leads to the hub. So two closing edges into one state are one place, and into two states two.
+-- Places that stand for states. A state has a hub, the place from which its edges lead. Each edge leads
+-- to the place for its target and its kind, which is the hub or leads to it by a step that takes
+-- nothing. So two closing edges into one state are one place, and into two states two.
 -- Public: the crate's public contracts speak of it.
 use Rattle.std.specs.Prelude.{◌≡◌, ◌≢◌, ◌↔◌, ◌⊎◌, ℕ, ◌<◌, List, [], ◌∷◌, length, map, get_or, Contains, true}
 use Rattle.ux_net.specs.declared.label.Label.{Label}
@@ -62,8 +62,6 @@ module _ (graphs : List StateGraph) (places : List (List Place)) (stands hubs : 
     pub first : (g : ℕ) → state_for g 0 ≡ 0
     pub hub : (g n : ℕ) → n < length (told_states graphs g) →
         (hub_of g n < length (places_of places g)) × (hub_of g n ≢ 1) × (state_for g (hub_of g n) ≡ n)
-    pub lined : (g n : ℕ) → n < length (told_states graphs g) →
-        Contains (label_lines (places_of places g) (hub_of g n)) (Empty ∷ [])
     pub inside : (g place : ℕ) → place < length (places_of places g) →
         state_for g place < length (told_states graphs g)
     -- each step of the places is one to a hub, or one of the states

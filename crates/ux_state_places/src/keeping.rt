@@ -4,7 +4,7 @@ ghost use Rattle.std.specs.Prelude.{◌≡◌, ◌↔◌, ◌⊎◌, ℕ, ◌<�
 ghost use Rattle.ux_boxes.specs.Places.{place_targets};
 ghost use Rattle.ux_admission.specs.Gains.{Gains, SoOfOne};
 ghost use Rattle.ux_state_places.specs.Arrivals.{AreKept};
-ghost use Rattle.ux_state_places.specs.Keeping.{AreSet, IsKeptTarget};
+ghost use Rattle.ux_state_places.specs.Keeping.{AreSet, IsKeptAt, IsKeptTarget};
 
 use crate::meeting::{has_opening, lines_at};
 use std::alloc::{AllocError, Global};
@@ -19,11 +19,32 @@ pub fn kept_places(alloc: Global, places: Lst<Place>, marks: &[bool]) -> Mem<Vec
 {
     let mut kept = places.into_vec();
     for n in 0..marks.len() {
-        let is_met = marks[n];
-        let targets = kept_targets(alloc, &kept, n, is_met)?;
-        set(&mut kept, n, is_met, targets);
+        keep(alloc, &mut kept, n, marks[n])?;
     }
     Ok(kept)
+}
+
+/// Gives the place its mark, and takes off the targets that aren't kept.
+fn keep(alloc: Global, places: &mut Vec<Place>, n: usize, is_met: bool) -> Mem<()>
+    requires inside { n < length places.now.items }
+    ensures { OnOk result (IsKeptAt places.old.items n is_met places.new.items) }
+{
+    if is_met {
+        mark(places, n);
+        return Ok(());
+    }
+    let targets = kept_targets(alloc, places, n, is_met)?;
+    set(places, n, is_met, targets);
+    Ok(())
+}
+
+/// Marks a place, all of whose targets are kept.
+fn mark(places: &mut Vec<Place>, n: usize)
+    requires inside { n < length places.now.items }
+    ensures { AreSet places.old.items n true (place_targets places.old.items n) places.new.items }
+{
+    let place = &mut places[n];
+    place.reached = true;
 }
 
 /// Gives the place its mark and its targets.

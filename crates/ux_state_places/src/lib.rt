@@ -6,8 +6,9 @@
 //!
 //! Which grammars are refused is found by places, each with the lines by which a step comes into it.
 //! Edges of states aren't so: their labels stand between two states. So `place_states` makes a place of
-//! each state and kind of label that leads into it, and a hub for each state, from which its edges
-//! lead. `admit_states` refuses the graphs, or gives what it found of the places. Begin with
+//! each state and kind of label that leads into it. One place of a state is its hub, from which its
+//! edges lead: its only one, as most states have, or one more, into which a step takes nothing.
+//! `admit_states` refuses the graphs, or gives what it found of the places. Begin with
 //! `specs/Standing.antt`, which says what holds between places and states;
 //! `specs/RefusingStates.antt` says why graphs are refused.
 #![tactic(auto)]

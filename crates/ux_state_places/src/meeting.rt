@@ -37,7 +37,7 @@ pub fn met_marks(alloc: Global, graphs: &[Lst<Place>]) -> Mem<Vec<bool>>
 fn rules_of(alloc: Global, links: &[Link]) -> Result<Vec<Rule>, AllocError>
     ensures { IfOk result (λ rules. AreLinkRules links.now rules.items) }
 {
-    let mut rules = Vec::new(alloc);
+    let mut rules = Vec::with_capacity(alloc, links.len())?;
     push_rules(&mut rules, links)?;
     Ok(rules)
 }

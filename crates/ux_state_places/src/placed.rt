@@ -9,7 +9,7 @@ ghost use Rattle.ux_state_places.specs.Arrivals.{HaveInsideTargets};
 ghost use Rattle.ux_state_places.specs.Placing.{AreKeptRows, AreRawRows, AreRawTo};
 ghost use Rattle.ux_state_places.specs.Standing.{Stand};
 
-use crate::arrivals::arrivals_of;
+use crate::arrivals::ways_into;
 use crate::keeping::kept_places;
 use crate::meeting::met_marks;
 use crate::raw::{hubs_of, raw_places, refuse_many, states_of};
@@ -89,12 +89,12 @@ fn raw_graph(alloc: Global, states: &[State]) -> Mem<Row>
     ensures { IfOk result (λ row.
         AreRawRows states.now row.places.items row.states.items row.hubs.items) }
 {
-    let arrivals = arrivals_of(alloc, states)?;
-    refuse_many(&arrivals)?;
+    let ways = ways_into(alloc, states)?;
+    refuse_many(&ways.arrivals)?;
     Ok(Row {
-        places: raw_places(alloc, states, &arrivals)?,
-        states: states_of(alloc, &arrivals)?,
-        hubs: hubs_of(alloc, states, &arrivals)?,
+        places: raw_places(alloc, states, &ways)?,
+        states: states_of(alloc, &ways.arrivals)?,
+        hubs: hubs_of(alloc, &ways)?,
     })
 }
 

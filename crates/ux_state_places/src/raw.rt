@@ -1,11 +1,12 @@
 //! The places of the ways into the states of a graph.
 
-ghost use Rattle.std.specs.Prelude.{◌≡◌, ◌↔◌, ◌<◌, ℕ, true, List, [], ◌∷◌, Some, slice_get, Contains, length, IfOk, OnOk};
+ghost use Rattle.std.specs.Prelude.{◌≡◌, ◌↔◌, ◌<◌, ℕ, true, List, [], ◌∷◌, Some, slice_get, Contains, length, IfOk, IfSome, IsTrue, OnOk};
 ghost use Rattle.ux_admission.specs.Gains.{Gains, SoOfOne};
-ghost use Rattle.ux_state_places.specs.Arrivals.{arrival_at, edge_arrival, hub_arrival, label_of, place_number, AreArrivals, AreHubs, AreRawPlaces, AreStandingFor, IsTargetOf};
+ghost use Rattle.ux_state_places.specs.Arrivals.{arrival_at, edge_arrival, hub_arrival, label_of, place_number, AreArrivals, AreFirsts, AreHubs, AreRawPlaces, AreStandingFor, IsTargetOf};
 ghost use Rattle.ux_state_places.specs.RawPlaces.{with_second, AreMade, HaveEdges, HavePlacesOnce, IsEdgePlace, IsFinalPlace, IsHubPlace, IsLedTo, IsPlaceAt, IsPlaceFor, IsStateAt};
 
 use crate::arrival::{Arrival, Kind, kind_of_label, label_of_kind};
+use crate::arrivals::Ways;
 use indexmap::IndexSet;
 use std::alloc::{AllocError, Global};
 use std::hash::Hash;
@@ -14,12 +15,15 @@ use ux_boxes::Place;
 use ux_net::{Edge, Label, State};
 
 /// The places of the ways, the end behind the first one.
-pub fn raw_places(alloc: Global, states: &[State], arrivals: &IndexSet<Arrival>) -> Mem<Vec<Place>>
-    requires are { AreArrivals states.now arrivals.now.keys }
-    requires few { length arrivals.now.keys < 4294967295 }
-    ensures { IfOk result (λ places. AreRawPlaces states.now arrivals.now.keys places.items) }
+pub fn raw_places(alloc: Global, states: &[State], ways: &Ways) -> Mem<Vec<Place>>
+    requires are { AreArrivals states.now ways.now.kinds.items ways.now.arrivals.keys }
+    requires firsts { AreFirsts ways.now.kinds.items ways.now.arrivals.keys
+        ways.now.firsts.items }
+    requires few { length ways.now.arrivals.keys < 4294967295 }
+    ensures { IfOk result (λ places. AreRawPlaces states.now ways.now.kinds.items
+        ways.now.arrivals.keys places.items) }
 {
-    let mut places = places_of(alloc, states, arrivals)?;
+    let mut places = places_of(alloc, states, ways)?;
     put_second(&mut places, end_place(alloc))?;
     Ok(places)
 }
@@ -48,36 +52,38 @@ fn put_second<T: Drop>(items: &mut Vec<T>, item: T) -> Mem<()>
 }
 
 /// The places of the ways, one after another.
-fn places_of(alloc: Global, states: &[State], arrivals: &IndexSet<Arrival>) -> Mem<Vec<Place>>
-    requires are { AreArrivals states.now arrivals.now.keys }
-    requires few { length arrivals.now.keys < 4294967295 }
+fn places_of(alloc: Global, states: &[State], ways: &Ways) -> Mem<Vec<Place>>
+    requires are { AreArrivals states.now ways.now.kinds.items ways.now.arrivals.keys }
+    requires firsts { AreFirsts ways.now.kinds.items ways.now.arrivals.keys
+        ways.now.firsts.items }
+    requires few { length ways.now.arrivals.keys < 4294967295 }
     ensures { IfOk result (λ places.
-        AreMade (IsPlaceAt states.now arrivals.now.keys) (length arrivals.now.keys) places.items) }
+        AreMade (IsPlaceAt states.now ways.now.kinds.items ways.now.arrivals.keys)
+        (length ways.now.arrivals.keys) places.items) }
 {
-    let mut places = Vec::new(alloc);
-    for arrival in arrivals.as_slice() {
-        places.push(place_of(alloc, states, arrivals, *arrival)?)?;
+    // One more, for the end.
+    let mut places = Vec::with_capacity(alloc, ways.arrivals.len().saturating_add(1))?;
+    for arrival in ways.arrivals.as_slice() {
+        places.push(place_of(alloc, states, ways, *arrival)?)?;
     }
     Ok(places)
 }
 
 /// The place of a way.
-fn place_of(
-    alloc: Global,
-    states: &[State],
-    arrivals: &IndexSet<Arrival>,
-    arrival: Arrival,
-) -> Mem<Place>
-    requires are { AreArrivals states.now arrivals.now.keys }
-    requires few { length arrivals.now.keys < 4294967295 }
-    requires there { Contains arrivals.now.keys arrival }
-    ensures { IfOk result (IsPlaceFor states.now arrivals.now.keys arrival) }
+fn place_of(alloc: Global, states: &[State], ways: &Ways, arrival: Arrival) -> Mem<Place>
+    requires are { AreArrivals states.now ways.now.kinds.items ways.now.arrivals.keys }
+    requires firsts { AreFirsts ways.now.kinds.items ways.now.arrivals.keys
+        ways.now.firsts.items }
+    requires few { length ways.now.arrivals.keys < 4294967295 }
+    requires there { Contains ways.now.arrivals.keys arrival }
+    ensures { IfOk result
+        (IsPlaceFor states.now ways.now.kinds.items ways.now.arrivals.keys arrival) }
 {
     Ok(Place {
         reached: false,
         output: Lst::new(Vec::new(alloc)),
         lines: Lst::new(one_line(alloc, arrival.kind)?),
-        targets: Lst::new(targets_of(alloc, states, arrivals, arrival)?),
+        targets: Lst::new(targets_of(alloc, states, ways, arrival)?),
     })
 }
 
@@ -85,58 +91,75 @@ fn place_of(
 fn one_line(alloc: Global, kind: Kind) -> Result<Vec<Lst<Label>>, AllocError>
     ensures { IfOk result (λ lines. lines.items ≡ (label_of kind ∷ []) ∷ []) }
 {
-    let mut labels = Vec::new(alloc);
+    // Room for four, which a list of its own takes, would be most of the memory of a place.
+    let mut labels = Vec::with_capacity(alloc, 1)?;
     labels.push(label_of_kind(kind))?;
-    let mut lines = Vec::new(alloc);
+    let mut lines = Vec::with_capacity(alloc, 1)?;
     lines.push(Lst::new(labels))?;
     Ok(lines)
 }
 
 /// The targets of a place: of a hub the places of the edges, of another place the hub.
-fn targets_of(
-    alloc: Global,
-    states: &[State],
-    arrivals: &IndexSet<Arrival>,
-    arrival: Arrival,
-) -> Mem<Vec<u32>>
-    requires are { AreArrivals states.now arrivals.now.keys }
-    requires few { length arrivals.now.keys < 4294967295 }
-    requires there { Contains arrivals.now.keys arrival }
+fn targets_of(alloc: Global, states: &[State], ways: &Ways, arrival: Arrival) -> Mem<Vec<u32>>
+    requires are { AreArrivals states.now ways.now.kinds.items ways.now.arrivals.keys }
+    requires firsts { AreFirsts ways.now.kinds.items ways.now.arrivals.keys
+        ways.now.firsts.items }
+    requires few { length ways.now.arrivals.keys < 4294967295 }
+    requires there { Contains ways.now.arrivals.keys arrival }
     ensures { IfOk result (λ targets. (q : ℕ) → Contains targets.items q ↔
-        IsTargetOf states.now arrivals.now.keys arrival.state arrival.kind q) }
+        IsTargetOf states.now ways.now.kinds.items ways.now.arrivals.keys arrival q) }
 {
-    match arrival.kind {
-        Kind::Hub => edge_targets(alloc, &states[arrival.state as usize], arrivals),
-        Kind::Token | Kind::Positive | Kind::Negative | Kind::ContextEnd | Kind::Call(_) => {
-            hub_target(alloc, arrivals, arrival.state)
-        }
+    if is_hub(ways, arrival) {
+        return edge_targets(alloc, &states[arrival.state as usize], ways);
+    }
+    hub_target(alloc, ways, arrival.state)
+}
+
+/// Whether the way is that into the hub of its state.
+fn is_hub(ways: &Ways, arrival: Arrival) -> bool
+    ensures { IsTrue result ↔ (arrival ≡ hub_arrival ways.now.kinds.items arrival.state) }
+{
+    arrival.kind == hub_kind(ways, arrival.state)
+}
+
+/// The kind of the way into the hub of a state.
+fn hub_kind(ways: &Ways, state: u32) -> Kind
+    ensures { result ≡ (hub_arrival ways.now.kinds.items state).kind }
+{
+    match ways.kinds.get(state as usize) {
+        Some(kind) => *kind,
+        None => Kind::Hub,
     }
 }
 
 /// The place of the hub of a state.
-fn hub_target(alloc: Global, arrivals: &IndexSet<Arrival>, state: u32) -> Mem<Vec<u32>>
-    requires few { length arrivals.now.keys < 4294967295 }
-    requires once { HavePlacesOnce arrivals.now.keys }
-    requires there { Contains arrivals.now.keys (hub_arrival state) }
+fn hub_target(alloc: Global, ways: &Ways, state: u32) -> Mem<Vec<u32>>
+    requires firsts { AreFirsts ways.now.kinds.items ways.now.arrivals.keys
+        ways.now.firsts.items }
+    requires few { length ways.now.arrivals.keys < 4294967295 }
+    requires once { HavePlacesOnce ways.now.arrivals.keys }
+    requires there { Contains ways.now.arrivals.keys (hub_arrival ways.now.kinds.items state) }
     ensures { IfOk result (λ targets. (q : ℕ) → Contains targets.items q ↔
-        IsHubPlace arrivals.now.keys state q) }
+        IsHubPlace ways.now.kinds.items ways.now.arrivals.keys state q) }
 {
-    let mut targets = Vec::new(alloc);
-    targets.push(number_of(arrivals, hub_of(state)))?;
+    let mut targets = Vec::with_capacity(alloc, 1)?;
+    targets.push(number_of(ways, hub_of(ways, state)))?;
     Ok(targets)
 }
 
 /// The places of the edges of a state, and the end where it is final.
-fn edge_targets(alloc: Global, state: &State, arrivals: &IndexSet<Arrival>) -> Mem<Vec<u32>>
-    requires few { length arrivals.now.keys < 4294967295 }
-    requires once { HavePlacesOnce arrivals.now.keys }
-    requires edges { HaveEdges arrivals.now.keys state.now.edges }
+fn edge_targets(alloc: Global, state: &State, ways: &Ways) -> Mem<Vec<u32>>
+    requires firsts { AreFirsts ways.now.kinds.items ways.now.arrivals.keys
+        ways.now.firsts.items }
+    requires few { length ways.now.arrivals.keys < 4294967295 }
+    requires once { HavePlacesOnce ways.now.arrivals.keys }
+    requires edges { HaveEdges ways.now.arrivals.keys state.now.edges }
     ensures { IfOk result (λ targets. (q : ℕ) → Contains targets.items q ↔
-        IsLedTo arrivals.now.keys state.now q) }
+        IsLedTo ways.now.arrivals.keys state.now q) }
 {
-    let mut targets = Vec::new(alloc);
+    let mut targets = Vec::with_capacity(alloc, state.edges.as_slice().len())?;
     push_end(&mut targets, state.is_final)?;
-    push_edges(&mut targets, state.edges.as_slice(), arrivals)?;
+    push_edges(&mut targets, state.edges.as_slice(), ways)?;
     Ok(targets)
 }
 
@@ -152,52 +175,76 @@ fn push_end(targets: &mut Vec<u32>, is_final: bool) -> Mem<()>
 }
 
 /// Adds the places of the edges.
-fn push_edges(targets: &mut Vec<u32>, edges: &[Edge], arrivals: &IndexSet<Arrival>) -> Mem<()>
-    requires few { length arrivals.now.keys < 4294967295 }
-    requires once { HavePlacesOnce arrivals.now.keys }
-    requires edges { HaveEdges arrivals.now.keys edges.now }
+fn push_edges(targets: &mut Vec<u32>, edges: &[Edge], ways: &Ways) -> Mem<()>
+    requires firsts { AreFirsts ways.now.kinds.items ways.now.arrivals.keys
+        ways.now.firsts.items }
+    requires few { length ways.now.arrivals.keys < 4294967295 }
+    requires once { HavePlacesOnce ways.now.arrivals.keys }
+    requires edges { HaveEdges ways.now.arrivals.keys edges.now }
     ensures { OnOk result (Gains targets.old.items targets.new.items
-        (SoOfOne edges.now (IsEdgePlace arrivals.now.keys))) }
+        (SoOfOne edges.now (IsEdgePlace ways.now.arrivals.keys))) }
 {
     for edge in edges {
-        push_edge(targets, edge, arrivals)?;
+        push_edge(targets, edge, ways)?;
     }
     Ok(())
 }
 
 /// Adds the place of the edge.
-fn push_edge(targets: &mut Vec<u32>, edge: &Edge, arrivals: &IndexSet<Arrival>) -> Mem<()>
-    requires few { length arrivals.now.keys < 4294967295 }
-    requires once { HavePlacesOnce arrivals.now.keys }
-    requires there { Contains arrivals.now.keys (edge_arrival edge.now) }
+fn push_edge(targets: &mut Vec<u32>, edge: &Edge, ways: &Ways) -> Mem<()>
+    requires firsts { AreFirsts ways.now.kinds.items ways.now.arrivals.keys
+        ways.now.firsts.items }
+    requires few { length ways.now.arrivals.keys < 4294967295 }
+    requires once { HavePlacesOnce ways.now.arrivals.keys }
+    requires there { Contains ways.now.arrivals.keys (edge_arrival edge.now) }
     ensures { OnOk result
-        (Gains targets.old.items targets.new.items (IsEdgePlace arrivals.now.keys edge.now)) }
+        (Gains targets.old.items targets.new.items (IsEdgePlace ways.now.arrivals.keys edge.now)) }
 {
     let arrival = Arrival {
         state: edge.target,
         kind: kind_of_label(&edge.label),
     };
-    targets.push(number_of(arrivals, arrival))?;
+    targets.push(number_of(ways, arrival))?;
     Ok(())
 }
 
 /// The way into the hub of a state.
-fn hub_of(state: u32) -> Arrival
-    ensures { result ≡ hub_arrival state }
+fn hub_of(ways: &Ways, state: u32) -> Arrival
+    ensures { result ≡ hub_arrival ways.now.kinds.items state }
 {
     Arrival {
         state,
-        kind: Kind::Hub,
+        kind: hub_kind(ways, state),
     }
 }
 
 /// The place of a way.
-fn number_of(arrivals: &IndexSet<Arrival>, arrival: Arrival) -> u32
-    requires few { length arrivals.now.keys < 4294967295 }
-    requires there { Contains arrivals.now.keys arrival }
-    ensures { arrival_at arrivals.now.keys result ≡ Some arrival }
+fn number_of(ways: &Ways, arrival: Arrival) -> u32
+    requires firsts { AreFirsts ways.now.kinds.items ways.now.arrivals.keys
+        ways.now.firsts.items }
+    requires few { length ways.now.arrivals.keys < 4294967295 }
+    requires there { Contains ways.now.arrivals.keys arrival }
+    ensures { arrival_at ways.now.arrivals.keys result ≡ Some arrival }
 {
-    place_number(index_of(arrivals, arrival))
+    match first_of(ways, arrival) {
+        Some(first) => place_number(first),
+        None => place_number(index_of(&ways.arrivals, arrival)),
+    }
+}
+
+/// The number of a way into a hub. Most are, and need no search.
+fn first_of(ways: &Ways, arrival: Arrival) -> Option<usize>
+    requires firsts { AreFirsts ways.now.kinds.items ways.now.arrivals.keys
+        ways.now.firsts.items }
+    ensures { IfSome result (λ first. slice_get ways.now.arrivals.keys first ≡ Some arrival) }
+{
+    if !is_hub(ways, arrival) {
+        return None;
+    }
+    match ways.firsts.get(arrival.state as usize) {
+        Some(first) => Some(*first),
+        None => None,
+    }
 }
 
 /// The place of the way of this number, behind the end but for the first.
@@ -237,7 +284,8 @@ fn states_in(alloc: Global, arrivals: &[Arrival]) -> Mem<Vec<u32>>
     ensures { IfOk result (λ row.
         AreMade (IsStateAt arrivals.now) (length arrivals.now) row.items) }
 {
-    let mut row = Vec::new(alloc);
+    // One more, for the end.
+    let mut row = Vec::with_capacity(alloc, arrivals.len().saturating_add(1))?;
     for arrival in arrivals {
         row.push(arrival.state)?;
     }
@@ -245,15 +293,16 @@ fn states_in(alloc: Global, arrivals: &[Arrival]) -> Mem<Vec<u32>>
 }
 
 /// For each state its hub.
-pub fn hubs_of(alloc: Global, states: &[State], arrivals: &IndexSet<Arrival>) -> Mem<Vec<u32>>
-    requires are { AreArrivals states.now arrivals.now.keys }
-    requires few { length arrivals.now.keys < 4294967295 }
-    requires numbered { length states.now < 4294967296 }
-    ensures { IfOk result (λ row. AreHubs states.now arrivals.now.keys row.items) }
+pub fn hubs_of(alloc: Global, ways: &Ways) -> Mem<Vec<u32>>
+    requires firsts { AreFirsts ways.now.kinds.items ways.now.arrivals.keys
+        ways.now.firsts.items }
+    requires few { length ways.now.arrivals.keys < 4294967295 }
+    ensures { IfOk result (λ row.
+        AreHubs ways.now.kinds.items ways.now.arrivals.keys row.items) }
 {
-    let mut row = Vec::new(alloc);
-    for state in 0..states.len() {
-        row.push(number_of(arrivals, hub_of(state as u32)))?;
+    let mut row = Vec::with_capacity(alloc, ways.firsts.len())?;
+    for state in 0..ways.firsts.len() {
+        row.push(place_number(ways.firsts[state]))?;
     }
     Ok(row)
 }

@@ -97,7 +97,7 @@ fn graph_of(
 fn ranks(alloc: Global, hubs: &[u32], row: &[usize]) -> Mem<Vec<Rank>>
     ensures { IfOk result (λ ranks. ranks.items ≡ map (hub_rank row.now) hubs.now) }
 {
-    let mut ranks = Vec::new(alloc);
+    let mut ranks = Vec::with_capacity(alloc, hubs.len())?;
     for hub in hubs {
         ranks.push(Rank {
             major: rank_at(row, *hub),
@@ -121,7 +121,7 @@ fn rank_at(row: &[usize], hub: u32) -> usize
 fn frees(alloc: Global, hubs: &[u32], row: &[bool]) -> Mem<Vec<bool>>
     ensures { IfOk result (λ frees. frees.items ≡ map (hub_free row.now) hubs.now) }
 {
-    let mut frees = Vec::new(alloc);
+    let mut frees = Vec::with_capacity(alloc, hubs.len())?;
     for hub in hubs {
         frees.push(is_free_at(row, *hub))?;
     }

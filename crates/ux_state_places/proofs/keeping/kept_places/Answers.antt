@@ -1,9 +1,4 @@
-use Rattle.std.proofs.Common.{arith, ◌↔◌, List, ℕ, refl, subst, get_or, false}
-use Rattle.std.specs.Prelude.{Contains}
-use Rattle.ux_boxes.specs.declared.place.Place.{Place}
-use Rattle.ux_boxes.specs.Places.{place_targets}
-use Rattle.ux_admission.specs.Gains.{SoOfOne}
-use Rattle.ux_state_places.specs.Keeping.{IsKeptTarget}
+use Rattle.std.proofs.Common.{arith, refl, get_or, false}
 use Rattle.ux_state_places.proofs.KeepingLemmas.{kept_next, kept_all}
 use Rattle.ux_state_places.proofs.keeping.kept_places.Goals as goal
 
@@ -11,11 +6,9 @@ pub loop-n-preserved : goal.loop-n-preserved
 loop-n-preserved c =
     let n = c.loop-n.n in
     let is_met = get_or c.args.marks.now n false in
-    kept_next c.args.marks.now c.args.places n c.loop-n.kept.items c.set.new.places.items is_met
-    c.in_ok-targets.targets.items c.loop-n.invariant refl
-    (subst (λ (places : List Place). (q : ℕ) → Contains c.in_ok-targets.targets.items q ↔
-    SoOfOne (place_targets places n) (IsKeptTarget places is_met) q) c.deref.ensures.value
-    c.in_ok-targets.ensures) c.set.ensures
+    let at = c.in_ok-keep.ensures in
+    kept_next c.args.marks.now c.args.places n c.loop-n.kept.items c.keep.new.places.items is_met
+    at.targets c.loop-n.invariant refl at.exact at.set
 
 pub returns : goal.returns
 returns c =

@@ -1,5 +1,4 @@
 use Rattle.std.proofs.Common.{List, ℕ, subst, sym}
-use Rattle.std.specs.Prelude.{Contains}
 use Rattle.std.proofs.lemmas.Result.{IfOk-weaker}
 use Rattle.ux_digraph.specs.Rules.{AreRulesInside}
 use Rattle.ux_digraph.specs.declared.closing.Rule.{Rule}

@@ -1,6 +1,5 @@
-use Rattle.std.proofs.Common.{arith, suc, get_or, length, ◌≡◌, subst, sym, List}
+use Rattle.std.proofs.Common.{arith, get_or, length, ◌≡◌, subst, sym, List}
 use Rattle.ux_boxes.specs.declared.place.Place.{Place}
-use Rattle.ux_boxes.specs.Numbers.{places_before}
 use Rattle.ux_admission.proofs.GainsLemmas.{gains_next, gains_done}
 use Rattle.ux_state_places.specs.Meeting.{IsUnitIn}
 use Rattle.ux_state_places.proofs.MeetingLemmas.{room_next, units_next}

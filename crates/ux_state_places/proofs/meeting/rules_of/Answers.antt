@@ -9,4 +9,4 @@ pub returns : goal.returns
 returns c =
     gains_all c.push_rules.new.rules.items (SoOfOne c.args.links.now IsRuleOf)
     (subst (λ (rules : List Rule). Gains rules c.push_rules.new.rules.items
-    (SoOfOne c.args.links.now IsRuleOf)) c.new-rules.ensures.items c.in_ok-push_rules.ensures)
+    (SoOfOne c.args.links.now IsRuleOf)) c.in_ok-rules.ensures.items c.in_ok-push_rules.ensures)

@@ -1,24 +1,38 @@
-use Rattle.std.proofs.Common.{length, sym, ap, subst, ◌∙◌}
-use Rattle.std.specs.Prelude.{Contains, Some}
-use Rattle.ux_state_places.specs.declared.arrival.Arrival.{Arrival}
+use Rattle.std.proofs.Common.{arith, ◌<◌, ◌≤◌, length}
 use Rattle.ux_state_places.specs.RawPlaces.{IsHubPlace}
-use Rattle.ux_state_places.proofs.RawLemmas.{made_next, made_done, hubs_made}
+use Rattle.ux_state_places.proofs.RawLemmas.{made_next, made_done, hub_numbered, first_below, hubs_made}
 use Rattle.ux_state_places.proofs.raw.hubs_of.Goals as goal
 
-pub number_of-requires-clause-there : goal.number_of-requires-clause-there
-number_of-requires-clause-there c =
-    subst (λ (x : Arrival). Contains c.args.arrivals.now.keys x) (sym c.hub_of.ensures)
-    (c.requires.are.hubs c.loop-state.state c.loop-state-test.true)
+pub place_number-requires : goal.place_number-requires
+place_number-requires c =
+    let ways = c.args.ways.now in
+    let inside : c.loop-state.state < length ways.firsts.items =
+    omega (arith, c.loop-state-test.true, c.len-state-end.ensures, ways.firsts.ok.0) in
+    let low = first_below ways.kinds.items ways.arrivals.keys ways.firsts.items c.loop-state.state
+    c.index.result.now c.requires.firsts inside c.index.ensures in
+    let few = c.requires.few in
+    omega (arith, low, few)
 
 pub loop-state-preserved : goal.loop-state-preserved
 loop-state-preserved c =
-    made_next (IsHubPlace c.args.arrivals.now.keys) c.loop-state.state c.loop-state.row.items
-    c.push.new.self.items c.number_of.result c.loop-state.invariant c.in_ok-push.ensures.items
-    (c.number_of.ensures ∙ ap (λ (x : Arrival). Some x) c.hub_of.ensures)
+    let ways = c.args.ways.now in
+    let inside : c.loop-state.state < length ways.firsts.items =
+    omega (arith, c.loop-state-test.true, c.len-state-end.ensures, ways.firsts.ok.0) in
+    made_next (IsHubPlace ways.kinds.items ways.arrivals.keys) c.loop-state.state
+    c.loop-state.row.items c.push.new.self.items c.place_number.result c.loop-state.invariant
+    c.in_ok-push.ensures.items
+    (hub_numbered ways.kinds.items ways.arrivals.keys ways.firsts.items c.loop-state.state
+    c.index.result.now c.place_number.result c.requires.firsts inside c.index.ensures
+    c.place_number.ensures)
 
 pub returns : goal.returns
 returns c =
-    hubs_made c.args.states.now c.args.arrivals.now.keys c.loop-state.row.items
-    (made_done (IsHubPlace c.args.arrivals.now.keys) c.loop-state.state
-    (length c.args.states.now) c.loop-state.row.items c.loop-state.auto.state-end
-    c.loop-state-test.false c.loop-state.invariant)
+    let ways = c.args.ways.now in
+    let len = c.requires.firsts.len in
+    let most : c.loop-state.state ≤ length ways.kinds.items =
+    omega (arith, c.loop-state.auto.state-end, c.len-state-end.ensures, ways.firsts.ok.0, len) in
+    let least : length ways.kinds.items ≤ c.loop-state.state =
+    omega (arith, c.loop-state-test.false, c.len-state-end.ensures, ways.firsts.ok.0, len) in
+    hubs_made ways.kinds.items ways.arrivals.keys c.loop-state.row.items
+    (made_done (IsHubPlace ways.kinds.items ways.arrivals.keys) c.loop-state.state
+    (length ways.kinds.items) c.loop-state.row.items most least c.loop-state.invariant)

@@ -3,4 +3,5 @@ use Rattle.ux_state_places.proofs.raw.hubs_of.Given as goal
 
 -- the places so far are those of the hubs
 abbrev pub invariant-loop-state : goal.invariant-loop-state
-invariant-loop-state l = AreMade (IsHubPlace l.arrivals.keys) l.state l.row.items
+invariant-loop-state l =
+    AreMade (IsHubPlace l.ways.kinds.items l.ways.arrivals.keys) l.state l.row.items
