@@ -34,6 +34,7 @@ LEAST_SECONDS, LEAST_MEMORY = 0.05, 24 << 20
 SEARCH = "a search that costs no more than its answer"
 IMAGES = "images and entries that cost no more than their bytes"
 RULES = "rules that cost no more than their automata"
+CALLS = "words of called graphs that cost no more than their calls"
 STATES = "none: the answer itself may have 2^n states"
 CASES = []
 
@@ -467,6 +468,98 @@ def contexts_closed_in_all_states(n):
     """a negative context that is closed into n states"""
     return compiled([[": 1 1", ": " + " ".join(f"3 {k + 2}" for k in range(n))] + [": 2 %d" % (k + 2 + n) for k in range(n)]
                      + ["t"] * n], ["%$![", "%$]", "%a"])
+
+
+# Grammars flattened.
+
+
+@case("flatten", 5_000)
+def calls_of_one_graph(n):
+    """n calls of a graph of ten states"""
+    return printed(compiled([[f": -2 {k + 1}" for k in range(n)] + ["t"], [f": 1 {k + 1}" for k in range(9)] + ["t"]], ["%a"]))
+
+
+@case("flatten", 25)
+def graphs_that_call_the_next_at_a_depth(n):
+    """n graphs, each of which calls the next, to depth 100"""
+    return ("--depth", "100", *printed(compiled([[": 1 1", f": -{k + 2} 2", "t"] for k in range(n - 1)] + [[": 1 1", "t"]], ["%a"])))
+
+
+@case("flatten", 20, 0, 0, status=3)
+def calls_that_double(n):
+    """n graphs, each of which calls the next twice, to depth 100"""
+    return ("--depth", "100", *printed(compiled([[f": -{k + 2} 1", f": -{k + 2} 2", "t"] for k in range(n - 1)] + [[": 1 1", "t"]], ["%a"])))
+
+
+@case("flatten", 10_000)
+def edges_between_a_call_and_the_next(n):
+    """n edges without a call, and then a call"""
+    return printed(compiled([[": " + "1 1 " * n, ": -2 2", "t"], [": 1 1", "t"]], ["%a"]))
+
+
+# Lemmas and the graphs of their classes.
+
+
+def lemmas(*lines):
+    return (put("lemmas.dic", "".join(f"{line}\n" for line in lines)),)
+
+
+@case("inflect", 20_000)
+def lemmas_of_one_class(n):
+    """n lemmas of one class"""
+    put("N1.grf", stages(["<E>/:s", "s/:p"]))
+    return lemmas(*(f"{word},N1" for word in words(n)))
+
+
+@case("inflect", 500)
+def classes_of_one_lemma(n):
+    """n classes of one lemma"""
+    for number in range(n):
+        put(f"N{number}.grf", stages(["s/:p"]))
+    return lemmas(*(f"a,N{number}" for number in range(n)))
+
+
+@case("inflect", 100_000)
+def letters_of_a_lemma(n):
+    """a lemma of n letters, of which the last is doubled"""
+    put("N1.grf", stages(["LCR/:p"]))
+    return lemmas("a" * n + ",N1")
+
+
+@case("inflect", 2_000, 2)
+def letters_gone_back_over(n):
+    """a way of n letters back in a lemma of as many"""
+    put("N1.grf", stages(["L" * n], ["s/:p"]))
+    return lemmas("a" * n + ",N1")
+
+
+@case("inflect", 500, 2)
+def stages_of_two_equal_boxes(n):
+    """n stages of two equal boxes"""
+    put("N1.grf", stages(*[["a", "a"]] * n, ["<E>/:p"]))
+    return lemmas("a,N1")
+
+
+@case("inflect", 500, 2, status=3)
+def stages_before_a_refusal(n):
+    """n stages of two boxes, and a last box that is refused"""
+    put("N1.grf", stages(*[["LR", "<E>"]] * n, ["R/:p"]))
+    return lemmas("aa,N1")
+
+
+@case("inflect", 5_000)
+def endings_of_a_class(n):
+    """n endings of a class"""
+    put("N1.grf", stages([f"{word}/:p" for word in words(n)]))
+    return lemmas("a,N1")
+
+
+@case("inflect", 1_000, known=CALLS)
+def class_graphs_in_a_chain_of_calls(n):
+    """n graphs of a class, each of which calls the next"""
+    for number in range(n):
+        put(f"N{number + 1}.grf", stages(["s/:p"] if number == n - 1 else [f":N{number + 2}"]))
+    return lemmas("a,N1")
 
 
 @case("fst2", 10_000)

@@ -70,6 +70,13 @@ FILES = {
     "t.txt": "The cat sat. The cats sat.",
     "d.dic": "cat,.N:s\ncats,cat.N:p\n",
     "g.grf": graph([("<E>", [2]), ("", []), ("the", [3]), ("<N>/[N]", [1])]),
+    "call.grf": graph([("<E>", [2]), ("", []), ("a", [3, 1]), (":call", [1])]),
+    "twice.grf": graph([("<E>", [2, 5]), ("", []), ("a", [3]), (":twice", [4]), (":twice", [1]), ("a", [1])]),
+    "bad.dic": "a,N1\n,N2\n",
+    "s.dic": "cat,N1\npony,N2\n",
+    "N1.grf": graph([("<E>", [2, 3]), ("", []), ("<E>/:s", [1]), ("s/:p", [1])]),
+    "N2.grf": graph([("<E>", [2]), ("", []), ("D", [3]), (":ies", [1])]),
+    "ies.grf": graph([("<E>", [2]), ("", []), ("ies/:p", [1])]),
     "run.txt": "the run",
     "run.dic": "the,.DET\nrun,.N:s\nrun,.V:W\n",
     "run.tfst": "#TFST 1\nS 1 3 3\n0 1 {the,.DET}\n1 2 {run,.N:s}\n1 2 {run,.V:W}\n",
@@ -94,10 +101,14 @@ ROWS = [
     ("elag", "run.tfst", "r.grf"),
     ("fst2", "g.grf", "a.txt"),
     ("fst2", "g.fst2", "a.txt"),
+    ("flatten", "--depth", "3", "call.grf", "a.txt"),
+    ("inflect", "s.dic"),
     ("bench", "5"),
     # These end otherwise: a dictionary that is none, a file that isn't there, words that are no request.
     ("check", "t.txt"),
     ("check", "nothing.dic"),
+    ("flatten", "--depth", "100", "twice.grf", "a.txt"),
+    ("inflect", "bad.dic"),
     ("check",),
 ]
 

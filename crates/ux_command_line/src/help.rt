@@ -48,6 +48,12 @@ usage: unitex COMMAND ARGUMENTS
   fst2 GRAPH ALPHABET          reads a grammar and its letters, writes the
                                grammar compiled
     --chars                    each letter is a token of its own
+  flatten GRAPH ALPHABET       reads the same, writes the main graph compiled,
+                               with called graphs in place of their calls
+    --depth N                  how deep, at most 100 (default 10); a deeper call
+                               takes nothing
+  inflect DELAS                reads lemmas with their classes, and the graph of
+                               each class, writes their forms
   bench N                      searches a text of N words that is made up, at
                                most 200000, writes how many words, tokens and
                                hits there are, and the longest hit's tokens

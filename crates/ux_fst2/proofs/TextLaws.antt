@@ -29,7 +29,7 @@ use Rattle.ux_fst2.specs.declared.error.Fst2Error.{Fst2Error}
 use Rattle.ux_fst2.specs.declared.error.Fst2Error.TheVariants.{BadCount, BadLine, BadTag, BadLabel, NoMemory}
 
 -- lists of what each item of a list tells, where it tells one thing, are one
-each_once : {A B : Type 0} (R : A → B → Type 0) →
+pub each_once : {A B : Type 0} (R : A → B → Type 0) →
     ((x : A) (y z : B) → R x y → R x z → y ≡ z) → (xs : List A) (ys zs : List B) →
     AllZip R xs ys → AllZip R xs zs → ys ≡ zs
 each_once R one [] [] [] is also = refl
@@ -55,7 +55,7 @@ same_state a b final edges =
     let S : Bool → List Edge → State = λ f es. record { is_final = f; edges = es } in
     ap (λ (f : Bool). S f a.edges) final ∙ ap (S b.is_final) edges
 
-same_graph : (a b : StateGraph) → a.name ≡ b.name → a.states ≡ b.states → a ≡ b
+pub same_graph : (a b : StateGraph) → a.name ≡ b.name → a.states ≡ b.states → a ≡ b
 same_graph a b name states =
     let G : List ℕ → List State → StateGraph = λ n ss. record { name = n; states = ss } in
     ap (λ (n : List ℕ). G n a.states) name ∙ ap (G b.name) states

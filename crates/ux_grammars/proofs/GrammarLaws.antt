@@ -16,7 +16,7 @@ use Rattle.ux_admission.specs.SoundGrammar.{IsSoundGrammar}
 use Rattle.ux_fst2.specs.Reading.{SaysGraphs}
 use Rattle.ux_compile.specs.Refusing.{IsCompilable}
 use Rattle.ux_compile.proofs.RefusingLemmas.{compilable_not_refused}
-use Rattle.ux_grammars.specs.Graphs.{IsNoFst2, IsNoGraph, MOST_GRAPHS, MOST_READS, RefusesCompiled, RefusesGrammar, boxes_plan, drawing_format, fst2_format, grammar_plan, graph_format, graphs_plan, plan_by, states_plan}
+use Rattle.ux_grammars.specs.Graphs.{IsNoFst2, IsNoGraph, MOST_GRAPHS, MOST_READS, RefusesCompiled, RefusesGrammar, boxes_plan, drawing_format, drawn_plan, fst2_format, grammar_plan, graph_format, graphs_plan, plan_by, states_plan}
 use Rattle.ux_alphabet.specs.Letters.{Letters}
 use Rattle.ux_grammars.specs.Naming.{file_of, is_compiled, next_name}
 use Rattle.ux_grammars.specs.Sources.{of_boxes}
@@ -100,11 +100,16 @@ grammar_test word letters graphs =
     refusing_sound (IsCompilable letters graphs) (RefusesGrammar word letters graphs)
     (meaning word letters graphs) (one_cause word letters graphs)
 
+pub drawn_laws : (word : List ℕ) (letters : Letters) → Laws (drawn_plan word letters)
+drawn_laws word letters =
+    laws_then (λ graphs. tests (IsCompilable letters graphs)
+    (refusing (RefusesGrammar word letters graphs)) (gives graphs))
+    (λ graphs. (grammar_test word letters graphs, tt)) (graphs_plan word) (graphs_laws word)
+
 boxes_laws : (word : List ℕ) (letters : Letters) → Laws (boxes_plan word letters)
 boxes_laws word letters =
-    laws_then (λ graphs. tests (IsCompilable letters graphs)
-    (refusing (RefusesGrammar word letters graphs)) (gives (of_boxes graphs)))
-    (λ graphs. (grammar_test word letters graphs, tt)) (graphs_plan word) (graphs_laws word)
+    laws_then (λ graphs. gives (of_boxes graphs)) (λ graphs. tt) (drawn_plan word letters)
+    (drawn_laws word letters)
 
 -- a text says one compiled grammar, and is then not refused; one that is refused is so for one cause
 fst2_sound : IsSound fst2_format

@@ -41,8 +41,8 @@ one_name names zero name other at also = absurd at
 one_name names (suc n) name other at also = same_Some name other (sym at ∙ also)
 
 -- so the first graph has one name, and the same node is named with it
-pub first_named : (names : List (List ℕ)) (IsSo : (g node : ℕ) → Type 0) (kind : List ℕ → ℕ → NetError)
-    (name other : List ℕ) (node place : ℕ) → IsFirstAmong names IsSo name node →
+pub first_named : {E : Type 0} (names : List (List ℕ)) (IsSo : (g node : ℕ) → Type 0)
+    (kind : List ℕ → ℕ → E) (name other : List ℕ) (node place : ℕ) → IsFirstAmong names IsSo name node →
     IsFirstAmong names IsSo other place → kind name node ≡ kind other place
 first_named names IsSo kind name other node place one also =
     let graphs = first_graph IsSo one.0 node also.0 place one.2 also.2 in

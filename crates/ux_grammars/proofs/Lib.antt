@@ -7,5 +7,6 @@ pub mod GraphRefusedOnce
 mod MaskRefusedOnce
 mod NamingExamples
 pub mod ReadingLemmas
+pub mod SameStates
 pub mod StatesRefusedOnce
 pub mod TableLemmas

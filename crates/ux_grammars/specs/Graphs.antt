@@ -76,12 +76,18 @@ abbrev pub RefusesGrammar : (word : List ℕ) → Letters → List Drawn → (fi
 RefusesGrammar word letters graphs file reason =
     Tells Net (λ error. net.Refuses letters graphs error × NamesFile word error file) reason
 
--- the graphs of a grammar of boxes that has a meaning
-abbrev pub boxes_plan : (word : List ℕ) → Letters → Plan Reason Source
-boxes_plan word letters =
+-- the drawn graphs of a grammar that has a meaning
+abbrev pub drawn_plan : (word : List ℕ) → Letters → Plan Reason (List Drawn)
+drawn_plan word letters =
     then (graphs_plan word) (λ graphs.
     tests (IsCompilable letters graphs) (refusing (RefusesGrammar word letters graphs))
-    (gives (of_boxes graphs)))
+    (gives graphs))
+
+-- the same as a grammar of boxes
+abbrev pub boxes_plan : (word : List ℕ) → Letters → Plan Reason Source
+boxes_plan word letters =
+    then (drawn_plan word letters) (λ graphs.
+    gives (of_boxes graphs))
 
 -- the text says no graphs of states
 abbrev pub IsNoFst2 : (text : List ℕ) → Fst2Error → Type 0

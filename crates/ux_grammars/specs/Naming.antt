@@ -34,6 +34,10 @@ file_of word (suc k) name = callee_file word name
 abbrev pub named_file : (word name : List ℕ) → List ℕ
 named_file word name = if bytes_eq name (main_name word) then word else callee_file word name
 
+-- the file in which a graph of the grammar stands: a compiled grammar is one file
+abbrev pub graph_file : (word name : List ℕ) → List ℕ
+graph_file word name = if is_compiled word then word else named_file word name
+
 -- the main graph's name and those that the graphs call, in order, each once
 abbrev pub names_after : List ℕ → List Drawn → List (List ℕ)
 names_after word graphs = each_once (main_name word ∷ flat_map calls_of graphs)

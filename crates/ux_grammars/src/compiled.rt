@@ -12,7 +12,7 @@ ghost use Rattle.ux_net.specs.Words.{SayTheSame};
 ghost use Rattle.ux_states.specs.Met.{met_grammar};
 ghost use Rattle.ux_plan.specs.Plans.{Halts, Reads, StopsFile, StopsTest, refusing};
 ghost use Rattle.ux_grammars.specs.Graphs.{RefusesCompiled, fst2_format, states_plan};
-ghost use Rattle.ux_grammars.specs.Reading.{HasNet};
+ghost use Rattle.ux_grammars.specs.Reading.{HasNet, IsSoundNet};
 
 use std::alloc::Global;
 use ux_base::Folder;
@@ -33,6 +33,7 @@ pub fn read_states_net<F: Folder>(
     ensures later { IsLater (F.seen folder.old) (F.seen folder.new) }
     ensures ok { IfOk result (λ net. (letters : Letters) →
         HasNet (states_plan word.now) (F.seen folder.old).files letters net) }
+    ensures sound { IfOk result IsSoundNet }
     ensures err { IfErr result
         (Halts (states_plan word.now) (F.seen folder.old) (F.seen folder.new)) }
 {

@@ -5,9 +5,9 @@ ghost use Rattle.ux_base.specs.Outside.{IsLater};
 ghost use Rattle.ux_plan.specs.Plans.{Halts, StopsTest, refusing};
 ghost use Rattle.ux_boxes.specs.Refusing.{drawn};
 ghost use Rattle.ux_compile.specs.Refusing.{IsCompilable};
-ghost use Rattle.ux_grammars.specs.Graphs.{NamesFile, RefusesGrammar, boxes_plan, grammar_plan};
+ghost use Rattle.ux_grammars.specs.Graphs.{NamesFile, RefusesGrammar, boxes_plan, drawn_plan, grammar_plan};
 ghost use Rattle.ux_grammars.specs.Sources.{of_boxes};
-ghost use Rattle.ux_grammars.specs.Reading.{AreWholeGraphs, Compiles, HasNet, IsPlaced};
+ghost use Rattle.ux_grammars.specs.Reading.{AreWholeGraphs, Compiles, HasDrawnNet, HasNet, IsPlaced, IsSoundNet};
 
 use crate::compiled::read_states_net;
 use crate::graphs::read_graphs;
@@ -33,6 +33,7 @@ pub fn read_net<F: Folder>(
     ensures ok { IfOk result
         (HasNet (grammar_plan word.now alphabet.now)
         (F.seen folder.old).files alphabet.now) }
+    ensures sound { IfOk result IsSoundNet }
     ensures err { IfErr result
         (Halts (grammar_plan word.now alphabet.now)
         (F.seen folder.old) (F.seen folder.new)) }
@@ -43,7 +44,7 @@ pub fn read_net<F: Folder>(
     read_boxes_net(alloc, word, alphabet, folder)
 }
 
-/// Reads the graphs of the grammar whose main graph's file the word names, and compiles them.
+/// The same where the grammar is drawn, as a grammar of either kind.
 #[tactic(auto, using(ux_plan::proofs::PlanSteps::plan_steps))]
 fn read_boxes_net<F: Folder>(
     alloc: Global,
@@ -55,8 +56,30 @@ fn read_boxes_net<F: Folder>(
     ensures ok { IfOk result
         (HasNet (boxes_plan word.now alphabet.now)
         (F.seen folder.old).files alphabet.now) }
+    ensures sound { IfOk result IsSoundNet }
     ensures err { IfErr result
         (Halts (boxes_plan word.now alphabet.now)
+        (F.seen folder.old) (F.seen folder.new)) }
+{
+    let net = read_drawn_net(alloc, word, alphabet, folder)?;
+    Ok(net)
+}
+
+/// Reads the graphs of the grammar whose main graph's file the word names, and compiles them.
+#[tactic(auto, using(ux_plan::proofs::PlanSteps::plan_steps))]
+pub fn read_drawn_net<F: Folder>(
+    alloc: Global,
+    word: &str,
+    alphabet: &Alphabet,
+    folder: &mut F,
+) -> Result<Net, Stop<Reason>>
+    ensures later { IsLater (F.seen folder.old) (F.seen folder.new) }
+    ensures ok { IfOk result
+        (HasDrawnNet (drawn_plan word.now alphabet.now)
+        (F.seen folder.old).files alphabet.now) }
+    ensures sound { IfOk result IsSoundNet }
+    ensures err { IfErr result
+        (Halts (drawn_plan word.now alphabet.now)
         (F.seen folder.old) (F.seen folder.new)) }
 {
     let graphs = read_graphs(alloc, word, folder)?;
@@ -75,6 +98,7 @@ fn compile(
     ensures compilable { OnOk result (IsCompilable alphabet.now (drawn graphs.items)) }
     ensures compiles { IfOk result (λ net.
         Compiles alphabet.now (of_boxes (drawn graphs.items)) net) }
+    ensures sound { IfOk result IsSoundNet }
     ensures err { IfErr result (StopsTest (refusing
         (RefusesGrammar word.now alphabet.now (drawn graphs.items)))) }
 {

@@ -2,7 +2,8 @@
 //!
 //! A word names the file of the main graph. The graphs that it calls stand beside it, as NAME.grf,
 //! and are read in the order in which they are called, each once. `read_graphs` gives them all, and
-//! `read_net` the net of a grammar that has a meaning. `drawn_graph` reads one graph that calls none.
+//! `read_net` the net of a grammar that has a meaning; `read_drawn_net` does so where it is drawn.
+//! `drawn_graph` reads one graph that calls none.
 //!
 //! Begin with `specs/Graphs.antt`: which files are read in which order, and what each must be. A
 //! grammar is `grammar_plan` there, which a command's plan takes in.
@@ -14,9 +15,10 @@
 #![tactic(auto)]
 
 mod compiled;
-mod compiling;
+pub mod compiling;
 pub mod graphs;
-mod naming;
+pub mod naming;
 
-pub use compiling::read_net;
+pub use compiling::{read_drawn_net, read_net};
 pub use graphs::{drawn_graph, read_graphs};
+pub use naming::{callee_file, graph_file, named_file};

@@ -1,7 +1,7 @@
 //! The names of graphs, and their files.
 
 ghost use Rattle.std.specs.Prelude.{◌≡◌, IfOk, string_bytes};
-ghost use Rattle.ux_grammars.specs.Naming.{callee_file as file_of_callee, file_of as file_of_graph, is_compiled as is_compiled_of, main_name as main_name_of, named_file as file_of_named, without_ending as without_ending_of};
+ghost use Rattle.ux_grammars.specs.Naming.{callee_file as file_of_callee, file_of as file_of_graph, graph_file as file_of_graph_named, is_compiled as is_compiled_of, main_name as main_name_of, named_file as file_of_named, without_ending as without_ending_of};
 
 use std::alloc::Global;
 use ux_base::Mem;
@@ -32,7 +32,7 @@ pub(crate) fn file_of(alloc: Global, word: &str, place: usize, name: &str) -> Me
 }
 
 /// The file of a graph by its name.
-pub(crate) fn named_file(alloc: Global, word: &str, name: &str) -> Mem<String>
+pub fn named_file(alloc: Global, word: &str, name: &str) -> Mem<String>
     ensures { IfOk result (λ file. string_bytes file ≡ file_of_named word.now name.now) }
 {
     if name == main_name(word) {
@@ -41,8 +41,18 @@ pub(crate) fn named_file(alloc: Global, word: &str, name: &str) -> Mem<String>
     callee_file(alloc, word, name)
 }
 
+/// The file in which a graph of the grammar stands: a compiled grammar is one file.
+pub fn graph_file(alloc: Global, word: &str, name: &str) -> Mem<String>
+    ensures { IfOk result (λ file. string_bytes file ≡ file_of_graph_named word.now name.now) }
+{
+    if is_compiled(word) {
+        return Ok(String::from_str(alloc, word)?);
+    }
+    named_file(alloc, word, name)
+}
+
 /// The file of a graph that is called: in the folder of the main graph's file.
-fn callee_file(alloc: Global, word: &str, name: &str) -> Mem<String>
+pub fn callee_file(alloc: Global, word: &str, name: &str) -> Mem<String>
     ensures { IfOk result (λ file. string_bytes file ≡ file_of_callee word.now name.now) }
 {
     let mut file = String::from_str(alloc, folder_of(word))?;

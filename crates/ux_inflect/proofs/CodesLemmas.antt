@@ -1,14 +1,13 @@
 -- An output read byte by byte has codes exactly where it ends before a code or in one.
-use Rattle.std.proofs.Common.{arith, ◌≡◌, ◌≢◌, ℕ, zero, suc, ◌+◌, ◌<◌, List, [], ◌∷◌, ◌++◌, refl, sym, ◌∙◌, ap, subst, ◌⊎◌, inl, inr, Bool, true, false, cond, get_or, length}
+use Rattle.std.proofs.Common.{arith, ◌≡◌, ◌≢◌, ℕ, zero, suc, ◌<◌, List, [], ◌∷◌, ◌++◌, refl, sym, ◌∙◌, ap, subst, inl, inr, Bool, false, cond, get_or, length}
 use Rattle.std.specs.Prelude.{Contains, All, nat_eq}
 use Rattle.std.proofs.lemmas.Bool.{cases_Bool, false≢true, eqb-true, eq-eqb}
 use Rattle.ux_base.proofs.Lists.{nothing_in, first_or_later, contains_first, contains_later}
 use Rattle.ux_dela.specs.Signs.{COLON}
-use Rattle.ux_inflect.specs.declared.codes.CodeState.{CodeState}
 use Rattle.ux_inflect.specs.declared.codes.CodeState.TheVariants.{Nothing, AtColon, InCode, Broken}
 use Rattle.ux_inflect.specs.Faults.{IsUncodedAt}
 use Rattle.ux_inflect.specs.Inflected.{behind_colons, IsCode, HasCodes}
-use Rattle.ux_inflect.specs.Places.{after_byte, after_text}
+use Rattle.ux_inflect.specs.Places.{after_text}
 
 -- codes that each have characters and no colon, as a list without indices
 abbrev pub EachCode : List (List ℕ) → Type 0

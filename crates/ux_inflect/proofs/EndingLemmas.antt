@@ -1,6 +1,6 @@
 -- From what the searches through calls and states tell it follows whether the words of a net end.
-use Rattle.std.proofs.Common.{arith, ◌≡◌, ◌≢◌, ◌↔◌, ℕ, zero, suc, ◌+◌, ◌<◌, ◌≤◌, List, [], ◌∷◌, ◌++◌, length-append, refl, sym, ◌∙◌, ap, subst, map, length, get_or, ◌⊎◌, inl, inr, Bool, true, false, Some, None}
-use Rattle.std.specs.Prelude.{Contains, Option, slice_get}
+use Rattle.std.proofs.Common.{arith, ◌≡◌, ℕ, zero, suc, ◌+◌, ◌<◌, ◌≤◌, List, [], ◌∷◌, ◌++◌, length-append, refl, sym, ◌∙◌, ap, subst, map, length, get_or, inl, inr, Bool, true, false}
+use Rattle.std.specs.Prelude.{Contains, slice_get}
 use Rattle.std.specs.List.{list_any}
 use Rattle.std.proofs.lemmas.Bool.{false≢true}
 use Rattle.std.proofs.lemmas.List.{get_or_past}
@@ -11,15 +11,15 @@ use Rattle.ux_digraph.specs.Rules.{is_marked_at}
 use Rattle.ux_digraph.proofs.PathsLemmas.{edge_from}
 use Rattle.ux_net.specs.declared.net_graph.NetGraph.{NetGraph}
 use Rattle.ux_net.specs.declared.state.State.{State}
-use Rattle.ux_net.specs.Nets.{states_of, states_in, graph_at}
+use Rattle.ux_net.specs.Nets.{states_of, states_in}
 use Rattle.ux_inflect.specs.declared.classes.Ranks.{Ranks}
-use Rattle.ux_inflect.specs.Cyclic.{targets_of, state_rows, calls_of, call_rows, HasCycle, IsCyclic}
+use Rattle.ux_inflect.specs.Cyclic.{state_rows, calls_of, call_rows, IsCyclic}
 use Rattle.ux_inflect.specs.Endings.{level_in, call_level, state_level, IsMet, AreRanks, AreRanksOf}
 use Rattle.ux_inflect.specs.Refusing.{IsAcyclic}
 use Rattle.ux_inflect.specs.Rows.{inner_rows}
 use Rattle.ux_inflect.specs.Surveys.{IsSurveyOf}
 use Rattle.ux_inflect.proofs.ListLemmas.{no_mark, some_mark}
-use Rattle.ux_inflect.proofs.RowsLemmas.{inner_edge, edge_inner, path_outer, cycle_inner, reaches_outer, reaches_inner, path_from, length_inner}
+use Rattle.ux_inflect.proofs.RowsLemmas.{edge_inner, path_outer, cycle_inner, reaches_outer, reaches_inner, path_from, length_inner}
 
 length_mapped : {A B : Type 0} (f : A → B) (xs : List A) → length (map f xs) ≡ length xs
 length_mapped f [] = refl

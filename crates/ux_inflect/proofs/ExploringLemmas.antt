@@ -1,13 +1,12 @@
 -- One turn of a search keeps what is known, and leaves less work.
-use Rattle.std.proofs.Common.{arith, ◌≡◌, ℕ, zero, suc, ◌+◌, ◌*◌, ◌^◌, ◌<◌, ◌≤◌, List, [], ◌∷◌, ◌++◌, refl, sym, ◌∙◌, ap, subst, map, length, get_or, take, drop, ◌⊎◌, inl, inr, Bool, true, false, Some, None, append_assoc, append-nil, length-append}
+use Rattle.std.proofs.Common.{arith, ◌≡◌, ℕ, zero, suc, ◌+◌, ◌*◌, ◌^◌, ◌<◌, ◌≤◌, List, [], ◌∷◌, ◌++◌, refl, sym, ◌∙◌, ap, subst, map, length, drop, ◌⊎◌, inl, inr, Bool, true, false, Some, None, append_assoc, append-nil, length-append}
 use Rattle.std.specs.Prelude.{Contains, Option, slice_get}
 use Rattle.std.proofs.Math.Nat.{mul-le-mul_left, mul-le-mul_right, pow-suc}
 use Rattle.std.proofs.lemmas.Option.{slice_get_within}
-use Rattle.ux_base.proofs.Lists.{nothing_in, first_or_later, contains_first, contains_later, less_or}
+use Rattle.ux_base.proofs.Lists.{contains_first, contains_later, less_or}
 use Rattle.ux_base.proofs.OrderedLists.{slice_get-append_left}
 use Rattle.ux_base.proofs.DistinctLemmas.{slice_get-append}
 use Rattle.ux_net.specs.declared.net_graph.NetGraph.{NetGraph}
-use Rattle.ux_net.specs.declared.state.Edge.{Edge}
 use Rattle.ux_net.specs.declared.state.State.{State}
 use Rattle.ux_net.specs.Nets.{states_of}
 use Rattle.ux_inflect.specs.declared.classes.Ranks.{Ranks}
@@ -20,7 +19,6 @@ use Rattle.ux_inflect.specs.Places.{Place, next, along_edge, returning, from_sta
 use Rattle.ux_inflect.specs.Searches.{Walk, here, step, AreMet, IsAt, AreLinks, IsLinked, IsExploring, IsExplored, IsNoted}
 use Rattle.ux_inflect.specs.Weights.{total, weight, fan_of, work_from, work_left}
 use Rattle.ux_inflect.proofs.WeightLemmas.{lower_step, power_some, power_more}
-use Rattle.ux_inflect.proofs.WordsLemmas.{frame_of}
 
 total_append : {A : Type 0} (f : A → ℕ) (xs ys : List A) → total f (xs ++ ys) ≡ total f xs + total f ys
 total_append f [] ys = omega arith

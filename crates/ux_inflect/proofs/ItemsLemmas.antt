@@ -1,6 +1,6 @@
 -- Bad states, one state after another.
-use Rattle.std.proofs.Common.{arith, ◌≡◌, ◌∙◌, ℕ, ◌+◌, ◌<◌, ◌≤◌, List, ap, subst, sym, Some, None, ◌⊎◌, inl, inr}
-use Rattle.std.specs.Prelude.{Contains, Option, slice_get, IsSomeAnd}
+use Rattle.std.proofs.Common.{arith, ◌≡◌, ◌∙◌, ℕ, ◌+◌, ◌<◌, List, ap, subst, sym, inl, inr}
+use Rattle.std.specs.Prelude.{Contains, slice_get, IsSomeAnd}
 use Rattle.ux_base.proofs.Lists.{less_or}
 use Rattle.ux_net.specs.declared.net_graph.NetGraph.{NetGraph}
 use Rattle.ux_net.specs.declared.state.Edge.{Edge}

@@ -1,3 +1,5 @@
+pub mod RefusalLaws
+pub mod SameNets
 pub mod PlacesLemmas
 pub mod ListLemmas
 pub mod WordsLemmas
@@ -16,3 +18,6 @@ pub mod RefusingLemmas
 pub mod EndingLemmas
 pub mod TurnsLemmas
 pub mod ItemsLemmas
+pub mod OutcomeLemmas
+pub mod ListedLemmas
+pub mod InflectedLemmas

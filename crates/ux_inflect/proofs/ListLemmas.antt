@@ -1,6 +1,6 @@
 -- Lists that grow by one member, for loops.
-use Rattle.std.proofs.Common.{arith, ◌≡◌, ℕ, zero, suc, ◌+◌, ◌-◌, ◌<◌, ◌≤◌, List, [], ◌∷◌, ◌++◌, refl, sym, ◌∙◌, ap, subst, map, length, get_or, take, append_assoc, append-nil, Some, None, filter, Bool, true, false, cond, ◌↔◌, ◌⊎◌, inl, inr, length-append, reverse}
-use Rattle.std.specs.Prelude.{Contains, Option, option_to_list, slice_get, nat_lt, IsSomeAnd}
+use Rattle.std.proofs.Common.{arith, ◌≡◌, ℕ, zero, suc, ◌+◌, ◌-◌, ◌<◌, ◌≤◌, List, [], ◌∷◌, ◌++◌, refl, sym, ◌∙◌, ap, subst, map, length, get_or, take, append-nil, Some, None, filter, Bool, true, false, cond, ◌↔◌, inl, inr, length-append, reverse}
+use Rattle.std.specs.Prelude.{Contains, Option, option_to_list, slice_get, IsSomeAnd}
 use Rattle.std.specs.List.{flat_map, list_any}
 use Rattle.std.proofs.lemmas.Bool.{false≢true}
 use Rattle.std.proofs.lemmas.List.Elements.{Contains-push_cases}
@@ -15,7 +15,7 @@ use Rattle.ux_net.specs.declared.net_graph.NetGraph.{NetGraph}
 use Rattle.ux_net.specs.Nets.{states_in, states_of}
 use Rattle.ux_inflect.specs.declared.codes.CodeState.{CodeState}
 use Rattle.ux_inflect.specs.declared.stroke.Stroke.{Stroke}
-use Rattle.ux_inflect.specs.Cyclic.{targets_of, state_rows, called_on, calls_of_state, calls_of, call_rows}
+use Rattle.ux_inflect.specs.Cyclic.{targets_of, called_on, calls_of_state, calls_of}
 use Rattle.ux_grf.specs.declared.item.Piece.{Piece}
 use Rattle.ux_inflect.specs.Places.{after_byte, after_text, put_of}
 use Rattle.ux_inflect.specs.Strokes.{Cursor, all_stroked, also}

@@ -1,5 +1,5 @@
 -- A configuration that is put into a set has a number there.
-use Rattle.std.proofs.Common.{arith, ◌≡◌, ℕ, suc, ◌+◌, ◌≤◌, List, [], ◌∷◌, ◌++◌, refl, sym, ◌∙◌, ap, subst, ◌⊎◌, inl, inr, Bool, true, false, cond, Some, None, map, append_assoc, append-nil}
+use Rattle.std.proofs.Common.{arith, ◌≡◌, ℕ, ◌+◌, ◌≤◌, List, [], ◌∷◌, ◌++◌, refl, sym, ◌∙◌, ap, subst, inl, inr, Bool, true, false, cond, Some, None, map, append_assoc, append-nil}
 use Rattle.std.specs.Prelude.{◌&&◌, Contains, Option, option_map, reverse, slice_get, string_bytes}
 use Rattle.std.specs.List.{list_any}
 use Rattle.std.proofs.lemmas.Bool.{cases_Bool, false≢true, eqb-true}
@@ -9,14 +9,14 @@ use Rattle.std.specs.Option.{option_eq}
 use Rattle.std.proofs.lemmas.List.Elements.{Contains-append_left, Contains-append_right, Contains-append_cases}
 use Rattle.indexmap.specs.IndexSet.{insert_key}
 use Rattle.ux_base.proofs.DistinctLemmas.{slice_get-append}
-use Rattle.ux_base.proofs.Lists.{nothing_in, first_or_later, contains_first, contains_later}
+use Rattle.ux_base.proofs.Lists.{nothing_in, first_or_later, contains_first}
 use Rattle.ux_inflect.specs.declared.config.Config.{Config}
 use Rattle.ux_inflect.specs.declared.config.Frame.{Frame}
 use Rattle.ux_inflect.specs.declared.exploring.Link.{Link}
 use Rattle.ux_inflect.specs.declared.form.Form.{Form}
 use Rattle.ux_inflect.specs.declared.stepping.Successor.{Successor}
 use Rattle.ux_inflect.specs.Places.{Place, cursor_of, place_of, step_of}
-use Rattle.ux_inflect.specs.Searches.{IsAt, AreLinks, IsNumbered, IsNoted, IsNoting}
+use Rattle.ux_inflect.specs.Searches.{IsAt, IsNumbered, IsNoted, IsNoting}
 use Rattle.ux_inflect.specs.Strokes.{Cursor}
 use Rattle.ux_inflect.specs.Weights.{total}
 

@@ -1,6 +1,6 @@
 -- The order of texts by bytes, and the least text of several sets.
 use Rattle.std.proofs.Common.{◌≡◌, ℕ, List, [], ◌∷◌, ◌++◌, refl, sym, ◌∙◌, ap, subst, ◌⊎◌, inl, inr, Bool, true, false, cond, Some, None}
-use Rattle.std.specs.Prelude.{Option, option_map, MatchOption}
+use Rattle.std.specs.Prelude.{Option, option_map}
 use Rattle.std.specs.Ordering.{nat_cmp, is_gt, is_lt, ordering_reverse, ordering_then}
 use Rattle.std.specs.declared.cmp.Ordering.{Ordering}
 use Rattle.std.specs.declared.cmp.Ordering.TheVariants.{Less, Equal, Greater}

@@ -3,14 +3,13 @@ use Rattle.std.proofs.Common.{◌≡◌, ℕ, List, [], ◌∷◌, ◌++◌, ref
 use Rattle.std.specs.Prelude.{Option, option_map, chars}
 use Rattle.std.specs.List.{flat_map}
 use Rattle.std.proofs.lemmas.List.{map-append}
-use Rattle.ux_net.specs.declared.label.Label.{Label}
 use Rattle.ux_net.specs.declared.label.Label.TheVariants as label
-use Rattle.ux_net.specs.Words.{Letter, plain, piece, context, Sign}
+use Rattle.ux_net.specs.Words.{Letter, plain, piece, context}
 use Rattle.ux_inflect.specs.declared.stroke.Detail.{Detail}
 use Rattle.ux_inflect.specs.declared.stroke.Stroke.{Stroke}
 use Rattle.ux_inflect.specs.declared.stroke.Stroke.TheVariants.{Back, Forth, Copy, Delete, Write}
 use Rattle.ux_inflect.specs.declared.stroke.Taking.TheVariants.{Literal, Quoted}
-use Rattle.ux_inflect.specs.Places.{kept_by, outlined, outlined_stroke, stroke_by, strokes_in}
+use Rattle.ux_inflect.specs.Places.{kept_by, outlined, outlined_stroke, stroke_by}
 use Rattle.ux_inflect.specs.Strokes.{Cursor, stroked, also, all_stroked, stroke_of}
 use Rattle.ux_inflect.specs.Whole.{strokes_by, strokes_of}
 use Rattle.ux_inflect.proofs.PlacesLemmas.{strokes_out}

@@ -1,7 +1,7 @@
 -- The least text of the ways through what a search found is that of the walks of the net.
-use Rattle.std.proofs.Common.{arith, ◌≡◌, ℕ, zero, suc, ◌+◌, ◌<◌, ◌≤◌, List, [], ◌∷◌, ◌++◌, refl, sym, ◌∙◌, ap, subst, length, get_or, ◌⊎◌, inl, inr, ◌↔◌, Bool, true, false, Some, None}
+use Rattle.std.proofs.Common.{arith, ◌≡◌, ℕ, zero, suc, ◌<◌, List, [], ◌∷◌, ◌++◌, refl, sym, ◌∙◌, ap, subst, length, get_or, inl, inr, ◌↔◌, Bool, true, Some, None}
 use Rattle.std.specs.Prelude.{Contains, Option, slice_get}
-use Rattle.std.proofs.lemmas.Option.{slice_get_within, slice_get_past, slice_get-get_or, get_or_from_slice_get}
+use Rattle.std.proofs.lemmas.Option.{slice_get_within, slice_get-get_or, get_or_from_slice_get}
 use Rattle.std.proofs.lemmas.List.{get_or_past}
 use Rattle.ux_base.proofs.Lists.{nothing_in, less_or}
 use Rattle.ux_digraph.specs.Rules.{is_marked_at}
@@ -14,7 +14,7 @@ use Rattle.ux_inflect.specs.declared.stroke.Detail.{Detail}
 use Rattle.ux_inflect.specs.Endings.{AreRanks}
 use Rattle.ux_inflect.specs.Faults.{HasFault, IsFaultyAt, IsFaulty}
 use Rattle.ux_inflect.specs.Places.{Place, next, place_of}
-use Rattle.ux_inflect.specs.Searches.{Walk, here, step, IsAt, IsLinked, IsExplored}
+use Rattle.ux_inflect.specs.Searches.{Walk, here, step, IsAt, IsExplored}
 use Rattle.ux_inflect.specs.Ways.{Way, stay, go, Goes, IsBest, IsLeastOf, AreFalling}
 use Rattle.ux_inflect.specs.Weights.{weight}
 use Rattle.ux_inflect.proofs.OrderLemmas.{least_same}
@@ -89,7 +89,7 @@ module _ (detail : Detail) (net : List NetGraph) (start : Place) (keys : List Co
       (r.0, subst (λ (p : Place). Walk detail net p (link.text ++ rest) r.0) there (step s.1 r.1), r.2)
 
   -- and a walk is a way
-  walk_way : {p q : Place} {text : List ℕ} → Walk detail net p text q → (u : ℕ) → IsAt keys u p →
+  pub walk_way : {p q : Place} {text : List ℕ} → Walk detail net p text q → (u : ℕ) → IsAt keys u p →
       (w : ℕ) × Way links u text w × IsAt keys w q
   walk_way here u at = (u, stay, at)
   walk_way (step {p = p} {q = q} {text = text} {rest = rest} c walk) u at =

@@ -1,6 +1,6 @@
 -- What a word does to a place, letter by letter, and what a step does.
 use Rattle.std.proofs.Common.{◌≡◌, ℕ, List, [], ◌∷◌, ◌++◌, refl, sym, ◌∙◌, ap, append_assoc, append-nil, map, None}
-use Rattle.std.specs.Prelude.{Option, chars}
+use Rattle.std.specs.Prelude.{Option}
 use Rattle.std.specs.List.{flat_map}
 use Rattle.ux_base.proofs.JoinedLists.{joined_append}
 use Rattle.ux_grf.specs.declared.item.Piece.{Piece}
@@ -8,7 +8,7 @@ use Rattle.ux_grf.specs.declared.item.Piece.TheVariants.{Chars, Value}
 use Rattle.ux_net.specs.declared.label.Label.{Label}
 use Rattle.ux_net.specs.declared.label.Label.TheVariants as label
 use Rattle.ux_net.specs.declared.state.Edge.{Edge}
-use Rattle.ux_net.specs.Words.{Letter, plain, piece, context, letter_of}
+use Rattle.ux_net.specs.Words.{Letter, plain, piece, letter_of}
 use Rattle.ux_inflect.specs.declared.codes.CodeState.{CodeState}
 use Rattle.ux_inflect.specs.declared.config.Frame.{Frame}
 use Rattle.ux_inflect.specs.declared.stroke.Detail.{Detail}

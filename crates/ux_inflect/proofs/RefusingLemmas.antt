@@ -1,6 +1,6 @@
 -- What a search in outline finds of faults is what the words of the net have.
 use Rattle.std.proofs.Common.{◌≡◌, ℕ, List, [], ◌∷◌, ◌++◌, refl, sym, ◌∙◌, ap, subst, append-nil, ◌⊎◌, inl, inr, Some, None, map}
-use Rattle.std.specs.Prelude.{Option, Result, Ok, Err, IfErr, IsErrAnd, option_map, Contains, slice_get}
+use Rattle.std.specs.Prelude.{Option, Result, Ok, Err, IfErr, IsErrAnd, option_map}
 use Rattle.ux_dela.specs.declared.entry.Stem.{Stem}
 use Rattle.ux_net.specs.declared.net_graph.NetGraph.{NetGraph}
 use Rattle.ux_net.specs.Words.{Letter}
@@ -9,10 +9,10 @@ use Rattle.ux_inflect.specs.declared.codes.CodeState.TheVariants.{Nothing, AtCol
 use Rattle.ux_inflect.specs.declared.refusing.Fault.{Fault}
 use Rattle.ux_inflect.specs.declared.refusing.Fault.TheVariants.{Stuck, Miscoded}
 use Rattle.ux_inflect.specs.declared.stroke.Detail.{Detail}
-use Rattle.ux_inflect.specs.Faults.{IsFaultAt, HasFault, IsFaulty, IsUncodedAt, IsFormlessAt}
-use Rattle.ux_inflect.specs.Inflected.{end_of, HasCodes, IsNotAfter}
+use Rattle.ux_inflect.specs.Faults.{IsFaultAt, IsFaulty, IsUncodedAt}
+use Rattle.ux_inflect.specs.Inflected.{end_of}
 use Rattle.ux_inflect.specs.Places.{Place, kept_by, outlined, after_text}
-use Rattle.ux_inflect.specs.Refusing.{IsClean, IsStuck, IsUncoded, IsFormless, IsMiscoded, IsLeast, IsBadState}
+use Rattle.ux_inflect.specs.Refusing.{IsClean, IsStuck, IsMiscoded, IsLeast}
 use Rattle.ux_inflect.specs.Searches.{Walk, here, start_place}
 use Rattle.ux_inflect.specs.Strokes.{Cursor, at_end}
 use Rattle.ux_inflect.specs.Ways.{IsLeastOf}
@@ -66,14 +66,14 @@ module _ (detail : Detail) (net : List NetGraph) (lemma : List ℕ) where
         place = w.place ∙ ap end_place same;
       }
 
+-- the form at the end of a word
+pub end_cursor : (detail : Detail) (net : List NetGraph) (stem : Stem) (whole : List Letter) →
+    (end_place detail net stem.lemma whole).cursor ≡ option_map (outlined detail) (end_of stem whole)
+end_cursor detail net stem whole = word_outline detail whole (at_end stem.lemma)
+
 module _ (detail : Detail) (net : List NetGraph) (stem : Stem) (good : AreGood detail net) where
   abbrev start : Place
   start = start_place detail stem.lemma
-
-  -- the form at the end of a word
-  end_cursor : (whole : List Letter) → (end_place detail net stem.lemma whole).cursor
-      ≡ option_map (outlined detail) (end_of stem whole)
-  end_cursor whole = word_outline detail whole (at_end stem.lemma)
 
   lost_back : (o : Option Cursor) → option_map (outlined detail) o ≡ None → o ≡ None
   lost_back None e = refl
@@ -95,11 +95,11 @@ module _ (detail : Detail) (net : List NetGraph) (stem : Stem) (good : AreGood d
 
   fault_back : (fault : Fault) (whole : List Letter) →
       IsFaultAt fault (end_place detail net stem.lemma whole) → Has fault whole
-  fault_back Stuck whole f = lost_back (end_of stem whole) (sym (end_cursor whole) ∙ f)
+  fault_back Stuck whole f = lost_back (end_of stem whole) (sym (end_cursor detail net stem whole) ∙ f)
   fault_back Miscoded whole f = elim f [
     | inl u ↦ inl (λ codes has. codes_read (output_of whole) codes has u)
     | inr l ↦ (
-        let d = found_back (end_of stem whole) l.0 (sym (end_cursor whole) ∙ l.1) in
+        let d = found_back (end_of stem whole) l.0 (sym (end_cursor detail net stem whole) ∙ l.1) in
         inr (d.0, d.1, unmapped d.0.left (ap (λ (c : Cursor). c.left) d.2 ∙ l.2)))
   ]
 
@@ -112,7 +112,7 @@ module _ (detail : Detail) (net : List NetGraph) (stem : Stem) (good : AreGood d
 
   fault_there : (fault : Fault) (whole : List Letter) → Has fault whole →
       IsFaultAt fault (end_place detail net stem.lemma whole)
-  fault_there Stuck whole f = end_cursor whole ∙ ap (option_map (outlined detail)) f
+  fault_there Stuck whole f = end_cursor detail net stem whole ∙ ap (option_map (outlined detail)) f
   fault_there Miscoded whole f = elim f [
     | inl u ↦ elim (uncoded_or (after_text Nothing (output_of whole))) [
       | inl at ↦ inl at
@@ -120,7 +120,7 @@ module _ (detail : Detail) (net : List NetGraph) (stem : Stem) (good : AreGood d
     ]
     | inr l ↦ inr (
       outlined detail l.0,
-      end_cursor whole ∙ ap (option_map (outlined detail)) l.1,
+      end_cursor detail net stem whole ∙ ap (option_map (outlined detail)) l.1,
       ap (map (kept_by detail)) l.2,
     )
   ]

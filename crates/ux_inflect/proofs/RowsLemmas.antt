@@ -1,7 +1,7 @@
 -- Rows without what is no node have the same paths between nodes, and the rows of a net are those of
 -- its edges and calls.
-use Rattle.std.proofs.Common.{arith, ◌≡◌, ◌≢◌, ◌↔◌, ℕ, zero, suc, ◌+◌, ◌<◌, ◌≤◌, List, [], ◌∷◌, ◌++◌, refl, sym, ◌∙◌, ap, subst, map, length, get_or, filter, ◌⊎◌, inl, inr, Bool, true, false, cond, Some, None}
-use Rattle.std.specs.Prelude.{Contains, Option, slice_get, nat_lt}
+use Rattle.std.proofs.Common.{arith, ◌≡◌, ℕ, zero, suc, ◌<◌, List, [], ◌∷◌, refl, sym, ◌∙◌, ap, subst, map, length, get_or, filter, inl, inr, Bool, true, cond, Some}
+use Rattle.std.specs.Prelude.{Contains, slice_get, nat_lt}
 use Rattle.std.specs.List.{flat_map}
 use Rattle.ux_base.proofs.JoinedLists.{contains_mapped, contains_joined}
 use Rattle.ux_base.proofs.Lists.{nothing_in, first_or_later, contains_first, contains_later}
@@ -12,7 +12,7 @@ use Rattle.ux_digraph.proofs.PathsLemmas.{edge_from}
 use Rattle.ux_net.specs.declared.net_graph.NetGraph.{NetGraph}
 use Rattle.ux_net.specs.declared.state.Edge.{Edge}
 use Rattle.ux_net.specs.declared.state.State.{State}
-use Rattle.ux_net.specs.Nets.{states_of, graph_at}
+use Rattle.ux_net.specs.Nets.{states_of}
 use Rattle.ux_inflect.specs.Cyclic.{targets_of, state_rows, called_on, calls_of_state, calls_of, call_rows}
 use Rattle.ux_inflect.specs.Rows.{inner_rows}
 

@@ -1,9 +1,9 @@
 -- Codes, parted at colons.
-use Rattle.std.proofs.Common.{arith, ◌≡◌, ◌≢◌, ℕ, zero, suc, ◌+◌, ◌<◌, ◌≤◌, List, [], ◌∷◌, ◌++◌, refl, sym, ◌∙◌, ap, subst, length, take, drop, append-nil, length-append, Bool, true, false, cond}
+use Rattle.std.proofs.Common.{arith, ◌≡◌, ℕ, zero, suc, ◌+◌, ◌<◌, List, [], ◌∷◌, ◌++◌, refl, sym, ◌∙◌, ap, length, take, drop, append-nil, length-append, Bool, cond}
 use Rattle.std.specs.Prelude.{Contains, nat_eq, not}
-use Rattle.std.specs.List.{before_first, after_first, position_or_len, prefix_len}
+use Rattle.std.specs.List.{before_first, after_first, position_or_len}
 use Rattle.ux_dela.specs.Signs.{COLON}
-use Rattle.ux_inflect.specs.Inflected.{behind_colons, IsCode, HasCodes}
+use Rattle.ux_inflect.specs.Inflected.{behind_colons, HasCodes}
 use Rattle.ux_inflect.proofs.CodesLemmas.{EachCode, all_each, each_all, no_colon_first, no_colon_rest}
 
 abbrev is_colon : ℕ → Bool

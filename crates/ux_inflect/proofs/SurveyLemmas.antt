@@ -1,8 +1,8 @@
 -- What the rows of the nodes that are reached tell: the cycles that are reached, and numbers that fall
 -- where there is none.
-use Rattle.std.proofs.Common.{arith, ◌≡◌, ◌≢◌, ◌↔◌, ℕ, ◌<◌, List, [], ◌∷◌, refl, sym, ◌∙◌, ap, subst, length, get_or, ◌⊎◌, inl, inr, Bool, true, false, cond}
+use Rattle.std.proofs.Common.{◌≡◌, ◌↔◌, ℕ, ◌<◌, List, [], sym, ◌∙◌, subst, get_or, inl, inr, Bool, true, cond}
 use Rattle.std.specs.Prelude.{Contains}
-use Rattle.std.proofs.lemmas.Bool.{cases_Bool, false≢true}
+use Rattle.std.proofs.lemmas.Bool.{cases_Bool}
 use Rattle.ux_base.proofs.Lists.{nothing_in}
 use Rattle.ux_digraph.specs.Components.{AreComponents}
 use Rattle.ux_digraph.specs.Paths.{row_of, Path, one, more, Reaches, IsInside}

@@ -1,5 +1,5 @@
 -- Nodes whose links lead to nodes of earlier turns, and what a turn adds.
-use Rattle.std.proofs.Common.{arith, ◌≡◌, ◌≢◌, ◌↔◌, ℕ, zero, suc, ◌+◌, ◌<◌, ◌≤◌, List, [], ◌∷◌, ◌++◌, refl, sym, ◌∙◌, ap, subst, map, length, get_or, take, ◌⊎◌, inl, inr, Bool, Some, None}
+use Rattle.std.proofs.Common.{arith, ◌≡◌, ◌≢◌, ◌↔◌, ℕ, zero, suc, ◌+◌, ◌<◌, ◌≤◌, List, [], ◌∷◌, ◌++◌, refl, sym, ◌∙◌, ap, subst, map, length, get_or, take, ◌⊎◌, inl, inr, Bool, None}
 use Rattle.std.specs.Prelude.{Contains, Option, Vec, slice_set}
 use Rattle.ux_base.proofs.JoinedLists.{contains_mapped, contained_mapped}
 use Rattle.ux_base.proofs.Lists.{less_or, same_or, take_more}

@@ -1,11 +1,10 @@
 -- The least text from a node is the least of those along its links.
-use Rattle.std.proofs.Common.{arith, ◌≡◌, ◌≢◌, ℕ, zero, suc, ◌+◌, ◌<◌, ◌≤◌, List, [], ◌∷◌, ◌++◌, refl, sym, ◌∙◌, ap, subst, length, get_or, take, ◌⊎◌, inl, inr, Bool, true, false, cond, Some, None}
-use Rattle.std.specs.Prelude.{Contains, Option, option_map}
+use Rattle.std.proofs.Common.{◌≡◌, ℕ, ◌+◌, ◌<◌, List, [], ◌∷◌, ◌++◌, refl, sym, ◌∙◌, ap, subst, length, get_or, take, ◌⊎◌, inl, inr, Bool, true, None}
+use Rattle.std.specs.Prelude.{Contains, Option}
 use Rattle.std.proofs.lemmas.Bool.{cases_Bool, false≢true}
 use Rattle.ux_base.proofs.Lists.{nothing_in, first_or_later, contains_first, contains_later, take_more}
 use Rattle.ux_digraph.specs.Rules.{is_marked_at}
 use Rattle.ux_inflect.specs.declared.exploring.Link.{Link}
-use Rattle.ux_inflect.specs.Inflected.{IsNotAfter}
 use Rattle.ux_inflect.specs.Ways.{along_link, least_in, if_wanted_text, lesser_option, IsLeastOf, Way, stay, go, Goes, IsBest, IsBestAt}
 use Rattle.ux_inflect.proofs.OrderLemmas.{least_both, least_behind, least_same, nothing_first}
 

@@ -1,11 +1,11 @@
 -- Why a search ends: each step leads to a place that weighs less, and so the work that is left falls.
-use Rattle.std.proofs.Common.{arith, ◌≡◌, ℕ, zero, suc, ◌+◌, ◌*◌, ◌^◌, ◌<◌, ◌≤◌, List, [], ◌∷◌, ◌++◌, refl, sym, ◌∙◌, ap, subst, map, length, get_or, ◌⊎◌, inl, inr, Bool, true, false, Some, None}
+use Rattle.std.proofs.Common.{arith, ◌≡◌, ℕ, zero, suc, ◌+◌, ◌*◌, ◌^◌, ◌<◌, ◌≤◌, List, [], ◌∷◌, refl, sym, subst, map, get_or, ◌⊎◌, inl, inr, Bool, true, false, Some, None}
 use Rattle.std.specs.Prelude.{Contains, Option, slice_get}
 use Rattle.std.proofs.Math.Nat.{mul-le-mul_left, mul-le-mul_right, pow-suc, pow-zero}
-use Rattle.std.proofs.lemmas.List.Elements.{Contains-append_left, Contains-append_right, Contains-append_cases}
-use Rattle.ux_base.proofs.Lists.{nothing_in, first_or_later, contains_first, contains_later}
+use Rattle.std.proofs.lemmas.List.Elements.{Contains-append_cases}
+use Rattle.ux_base.proofs.Lists.{nothing_in, first_or_later, contains_first}
 use Rattle.ux_base.proofs.JoinedLists.{contained_mapped}
-use Rattle.ux_digraph.specs.Paths.{row_of, Reaches, here, step}
+use Rattle.ux_digraph.specs.Paths.{row_of, here}
 use Rattle.ux_digraph.proofs.PathsLemmas.{reaches_then}
 use Rattle.ux_net.specs.declared.label.Label.{Label}
 use Rattle.ux_net.specs.declared.label.Label.TheVariants as label
@@ -17,10 +17,10 @@ use Rattle.ux_inflect.specs.declared.classes.Ranks.{Ranks}
 use Rattle.ux_inflect.specs.declared.config.Frame.{Frame}
 use Rattle.ux_inflect.specs.declared.stroke.Detail.{Detail}
 use Rattle.ux_inflect.specs.Cyclic.{state_rows, call_rows, called_on}
-use Rattle.ux_inflect.specs.Endings.{level_in, call_level, state_level, IsMet, AreRanks}
+use Rattle.ux_inflect.specs.Endings.{level_in, call_level, state_level, AreRanks}
 use Rattle.ux_inflect.specs.Places.{Place, next, along_edge, returning, from_state, from_frames, entered}
 use Rattle.ux_inflect.specs.Searches.{AreMet}
-use Rattle.ux_inflect.specs.Weights.{total, base_of, frame_weight, weight, fan_of, work_from}
+use Rattle.ux_inflect.specs.Weights.{total, base_of, frame_weight, weight}
 use Rattle.ux_inflect.proofs.RowsLemmas.{edge_in_row, call_in_row}
 use Rattle.ux_inflect.proofs.WordsLemmas.{frame_of}
 

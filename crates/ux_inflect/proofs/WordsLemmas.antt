@@ -1,7 +1,7 @@
 -- The walks of a search are the whole words of a net whose edges read, call or do nothing: each word
 -- is walked, and each walk that returns from all frames is a word.
-use Rattle.std.proofs.Common.{◌≡◌, ℕ, List, [], ◌∷◌, ◌++◌, refl, sym, ◌∙◌, ap, subst, append_assoc, append-nil, map, ◌⊎◌, inl, inr, Bool, true, false, Some, None}
-use Rattle.std.specs.Prelude.{Contains, Option, slice_get, IsTrue}
+use Rattle.std.proofs.Common.{◌≡◌, ℕ, List, [], ◌∷◌, ◌++◌, refl, sym, ◌∙◌, ap, subst, append_assoc, append-nil, map, inl, inr, Bool, true, false, Some, None}
+use Rattle.std.specs.Prelude.{Contains, Option, slice_get}
 use Rattle.std.proofs.lemmas.List.Elements.{Contains-append_left, Contains-append_right, Contains-append_cases}
 use Rattle.ux_base.proofs.JoinedLists.{joined_append, contains_mapped, contained_mapped}
 use Rattle.ux_base.proofs.Lists.{contains_first, first_or_later, nothing_in}

@@ -1,6 +1,6 @@
 -- Why each word of a net ends: levels of its states and of its graphs, which fall along edges and
 -- calls. Inner: the crate's own functions alone speak of it.
-use Rattle.std.specs.Prelude.{◌≡◌, ◌+◌, ◌*◌, ◌^◌, ◌<◌, ◌≤◌, ℕ, suc, List, [], Option, Some, None, slice_get, get_or, length, Contains, sum, sum_by}
+use Rattle.std.specs.Prelude.{◌<◌, ℕ, suc, List, [], Option, Some, None, slice_get, get_or, Contains}
 use Rattle.ux_digraph.specs.Paths.{row_of, Reaches}
 use Rattle.ux_net.specs.declared.net_graph.NetGraph.{NetGraph}
 use Rattle.ux_net.specs.Nets.{states_of}

@@ -1,6 +1,6 @@
 -- The entries of a stem: one for each word of its class's graph. The manual, on inflection. Public:
 -- the crate's public contracts speak of it.
-use Rattle.std.specs.Prelude.{◌≡◌, ◌≢◌, ◌↔◌, ℕ, List, [], ◌∷◌, ◌++◌, Option, Some, None, Contains, All, AllPairs, encode_utf8_all, false, reverse}
+use Rattle.std.specs.Prelude.{◌≡◌, ◌≢◌, ◌↔◌, ℕ, List, [], ◌∷◌, ◌++◌, Option, Some, Contains, All, AllPairs, encode_utf8_all, false, reverse}
 use Rattle.std.specs.Ordering.{nat_cmp, is_gt}
 use Rattle.std.specs.Cmp.Lexicographic.{slice_cmp}
 use Rattle.ux_dela.specs.declared.entry.Entry.{Entry}

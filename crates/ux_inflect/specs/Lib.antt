@@ -11,3 +11,4 @@ pub mod Searches
 pub mod Ways
 pub mod Weights
 pub mod Faults
+pub mod Outcomes

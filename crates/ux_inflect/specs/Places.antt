@@ -1,6 +1,6 @@
 -- The configurations of a search: where it stands in the graphs, the form and the output so far, and
 -- where each step leads. Inner: the crate's own functions alone speak of it.
-use Rattle.std.specs.Prelude.{◌≡◌, ◌+◌, ℕ, ◌==◌, List, [], ◌∷◌, ◌++◌, Option, Some, None, Bool, true, false, if◌then◌else◌, chars, map, reverse, option_map, slice_get, string_bytes}
+use Rattle.std.specs.Prelude.{ℕ, ◌==◌, List, [], ◌∷◌, ◌++◌, Option, Some, None, Bool, true, false, if◌then◌else◌, chars, map, reverse, option_map, slice_get, string_bytes}
 use Rattle.std.specs.List.{flat_map}
 use Rattle.ux_dela.specs.Signs.{COLON}
 use Rattle.ux_grf.specs.declared.item.Piece.{Piece}

@@ -1,16 +1,13 @@
 -- What a search finds: the places that are reached, each once, and the links between them. Inner: the
 -- crate's own functions alone speak of it.
-use Rattle.std.specs.Prelude.{◌≡◌, ◌≢◌, ◌+◌, ◌<◌, ◌≤◌, ℕ, List, [], ◌∷◌, ◌++◌, Option, Some, None, Bool, true, false, Contains, slice_get, get_or, length, map, sum_by, MatchOption, ◌⊎◌, option_map, string_bytes}
-use Rattle.ux_digraph.specs.Rules.{is_marked_at}
+use Rattle.std.specs.Prelude.{◌≡◌, ◌+◌, ◌<◌, ◌≤◌, ℕ, List, [], ◌∷◌, ◌++◌, Some, Contains, slice_get, length, ◌⊎◌}
 use Rattle.ux_net.specs.declared.net_graph.NetGraph.{NetGraph}
-use Rattle.ux_inflect.specs.declared.codes.CodeState.{CodeState}
-use Rattle.ux_inflect.specs.declared.codes.CodeState.TheVariants.{Nothing, InCode}
+use Rattle.ux_inflect.specs.declared.codes.CodeState.TheVariants.{Nothing}
 use Rattle.ux_inflect.specs.declared.config.Config.{Config}
 use Rattle.ux_inflect.specs.declared.config.Frame.{Frame}
 use Rattle.ux_inflect.specs.declared.exploring.Link.{Link}
 use Rattle.ux_inflect.specs.declared.stroke.Detail.{Detail}
 use Rattle.ux_inflect.specs.Endings.{IsMet}
-use Rattle.ux_inflect.specs.Inflected.{IsNotAfter}
 use Rattle.ux_inflect.specs.Places.{Place, next, outlined, place_of}
 use Rattle.ux_inflect.specs.Strokes.{at_end}
 use Rattle.ux_inflect.specs.Weights.{total}

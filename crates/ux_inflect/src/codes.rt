@@ -62,7 +62,7 @@ fn after(codes: CodeState, byte: u8) -> CodeState
 }
 
 /// The codes of an output that has codes.
-pub fn codes_of(alloc: Global, output: &str) -> Mem<Texts>
+pub(crate) fn codes_of(alloc: Global, output: &str) -> Mem<Texts>
     ensures { IfOk result (λ texts. (codes : List (List ℕ)) → HasCodes output.now codes →
         texts ≡ codes) }
 {

@@ -1,8 +1,9 @@
-//! A stem and the net of its class: why there may be no entries.
+//! A stem and the net of its class, from the refusals to the entries.
 
 ghost use Rattle.std.specs.Prelude.{IfErr, IfOk, OnOk};
 ghost use Rattle.ux_dela.specs.declared.entry.Stem.{Stem};
 ghost use Rattle.ux_inflect.specs.Endings.{AreRanks};
+ghost use Rattle.ux_inflect.specs.Inflected.{AreInflected};
 ghost use Rattle.ux_inflect.specs.Refusing.{IsAccepted, IsAcyclic, IsClean, Refuses};
 ghost use Rattle.ux_inflect.specs.Searches.{start_place, IsExplored};
 ghost use Rattle.ux_inflect.specs.Ways.{lists_of};
@@ -12,22 +13,26 @@ use crate::config::start_of;
 use crate::error::InflectError;
 use crate::exploring::{Explored, explore};
 use crate::items::first_bad;
+use crate::outcomes::entries_of;
 use crate::refusing::{Fault, least_path};
 use crate::stroke::Detail;
 use std::alloc::Global;
 use ux_base::{Mem, Txt};
-use ux_dela::Stem;
+use ux_dela::{Entry, Stem};
 use ux_net::Net;
 
-/// Refuses a stem that the net of its class can't inflect, by the first cause: a graph with words without
-/// end, a state with a bad edge, a word that can't be done, a word without codes or a form.
-pub fn refuse_stem(alloc: Global, stem: &Stem, net: &Net) -> Result<(), InflectError>
-    ensures accepted { OnOk result (IsAccepted stem.now net.now) }
+/// The entries of a stem, by the net of its class.
+pub fn inflect(alloc: Global, stem: &Stem, net: &Net) -> Result<Vec<Entry>, InflectError>
+    ensures accepted { IfOk result (λ entries. IsAccepted stem.now net.now) }
+    ensures entries { IfOk result (λ entries. AreInflected stem.now net.now entries.items) }
     ensures refused { IfErr result (Refuses stem.now net.now) }
 {
     let ranks = ranks_of(alloc, net)?;
     check_items(alloc, net)?;
-    check_paths(alloc, stem, net, &ranks)
+    check_paths(alloc, stem, net, &ranks)?;
+    let explored = explored_by(alloc, stem, net, &ranks, Detail::Whole)?;
+    let entries = entries_of(alloc, stem, explored.configs.as_slice())?;
+    Ok(entries)
 }
 
 /// Why each word of the net ends, or the first graph that has words without end.

@@ -1,8 +1,8 @@
 //! The inflected forms of a lemma, by the graph of its class. The manual, on inflection.
 //!
 //! Each whole word of the graph, with words of called graphs in the places of the calls, does
-//! something to the lemma and puts out codes: that is one entry. `refuse_stem` refuses a stem that has
-//! no entries, by the first cause. What the entries are is defined, and no function gives them yet.
+//! something to the lemma and puts out codes: that is one entry. `inflect` gives the entries of a
+//! stem, or the first cause of refusal.
 //!
 //! Begin with `specs/Strokes.antt`, the table of the operators, and `specs/Whole.antt`, what a word
 //! is; `specs/Inflected.antt` says which entries there are, and `specs/Refusing.antt` when each
@@ -14,14 +14,14 @@
 //! that fall along each call and edge. A first search keeps of a form how many characters it has,
 //! and of an output how far its codes are read, which is all that a refusal asks for; `refusing`
 //! finds the places with a fault, and `least` the least text that leads to one, from its end. Only
-//! where there is none, a second search that keeps the forms themselves is of use.
+//! where there is none, a second search keeps the forms themselves, and `outcomes` lists them.
 //!
 //! A search takes a step for each configuration and each edge that leaves its state; a step copies
 //! the form, the output and the stack of calls. Calls keep no native stack.
 //!
 //! ```text
 //! let stems = read_delas(rt.alloc(), "regret,A1\n")?;
-//! refuse_stem(rt.alloc(), &stems[0], &net)?;      // where `LCRable/:s` gives regrettable,regret.A:s
+//! let entries = inflect(rt.alloc(), &stems[0], &net)?;      // of `LCRable/:s`: regrettable,regret.A:s
 //! ```
 #![tactic(auto)]
 
@@ -34,13 +34,13 @@ mod form;
 pub mod inflecting;
 mod items;
 mod least;
+mod outcomes;
 mod refusing;
 mod rows;
 mod stepping;
 pub mod stroke;
 mod survey;
 
-pub use codes::codes_of;
 pub use error::InflectError;
-pub use inflecting::refuse_stem;
+pub use inflecting::inflect;
 pub use stroke::Stroke;

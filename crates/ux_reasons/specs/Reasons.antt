@@ -19,8 +19,12 @@ use Rattle.ux_sentence.specs.declared.error.SentenceError.{SentenceError}
 use Rattle.ux_sentence.specs.declared.error.SentenceError.TheVariants as sentence_error
 use Rattle.ux_rules.specs.declared.error.RuleError.{RuleError}
 use Rattle.ux_rules.specs.declared.error.RuleError.TheVariants as rule_error
+use Rattle.ux_inflect.specs.declared.error.InflectError.{InflectError}
+use Rattle.ux_inflect.specs.declared.error.InflectError.TheVariants as inflect_error
+use Rattle.ux_flatten.specs.declared.error.FlattenError.{FlattenError}
+use Rattle.ux_flatten.specs.declared.error.FlattenError.TheVariants as flatten_error
 use Rattle.ux_reasons.specs.declared.reason.Reason.{Reason}
-use Rattle.ux_reasons.specs.declared.reason.Reason.TheVariants.{Decode, Alphabet, Grf, Net, Fst2, Dela, Image, Sentence, Rule, TooManyGraphs}
+use Rattle.ux_reasons.specs.declared.reason.Reason.TheVariants.{Decode, Alphabet, Grf, Net, Fst2, Dela, Image, Sentence, Rule, Inflect, Flatten, TooManyGraphs}
 
 -- texts, one after the other
 abbrev pub joined : List (List ℕ) → List ℕ
@@ -115,6 +119,21 @@ rule_reason (rule_error.Call node) = codes "Call node=" ∷ decimal node ∷ []
 rule_reason (rule_error.BadItem node) = codes "BadItem node=" ∷ decimal node ∷ []
 rule_reason rule_error.NoMemory = codes "NoMemory" ∷ []
 
+-- the same of a stem
+abbrev pub inflect_reason : InflectError → List (List ℕ)
+inflect_reason (inflect_error.Cyclic graph) = codes "Cyclic graph=" ∷ graph ∷ []
+inflect_reason (inflect_error.BadItem graph node) = at_node (codes "BadItem graph=") graph node
+inflect_reason (inflect_error.StackEnd path) = codes "StackEnd path=" ∷ path ∷ []
+inflect_reason (inflect_error.BadCodes path) = codes "BadCodes path=" ∷ path ∷ []
+inflect_reason inflect_error.NoMemory = codes "NoMemory" ∷ []
+
+-- the same of a grammar that isn't flattened
+abbrev pub flatten_reason : FlattenError → List (List ℕ)
+flatten_reason flatten_error.TooBig = codes "TooBig" ∷ []
+flatten_reason (flatten_error.NegativeCut graph node) =
+    at_node (codes "NegativeCut graph=") graph node
+flatten_reason flatten_error.NoMemory = codes "NoMemory" ∷ []
+
 -- the same of any file
 abbrev pub reason_of : Reason → List (List ℕ)
 reason_of (Decode error) = decode_reason error
@@ -126,6 +145,8 @@ reason_of (Dela error) = dela_reason error
 reason_of (Image error) = image_reason error
 reason_of (Sentence error) = sentence_reason error
 reason_of (Rule error) = rule_reason error
+reason_of (Inflect error) = inflect_reason error
+reason_of (Flatten error) = flatten_reason error
 reason_of TooManyGraphs = codes "TooManyGraphs" ∷ []
 
 -- the line of a file that is refused, by its reason

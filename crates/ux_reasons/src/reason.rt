@@ -4,9 +4,11 @@ use ux_alphabet::AlphabetError;
 use ux_boxes::NetError;
 use ux_decode::DecodeError;
 use ux_dela::DelaError;
+use ux_flatten::FlattenError;
 use ux_fst2::Fst2Error;
 use ux_grf::GrfError;
 use ux_image_reader::ImageError;
+use ux_inflect::InflectError;
 use ux_plan::OfDecode;
 use ux_rules::RuleError;
 use ux_sentence::SentenceError;
@@ -32,6 +34,10 @@ pub enum Reason {
     Sentence(SentenceError),
     /// The reason of a graph that is no rule.
     Rule(RuleError),
+    /// The reason of a stem that isn't inflected.
+    Inflect(InflectError),
+    /// The reason of a grammar that isn't flattened.
+    Flatten(FlattenError),
     /// The grammar has 65,535 graphs before this one.
     TooManyGraphs,
 }

@@ -6,7 +6,7 @@
 ghost use Rattle.std.specs.Prelude.{◌≤◌, ◌∷◌, [], OnOk, OnErr, codes, map};
 ghost use Rattle.std.specs.Fmt.{decimal};
 ghost use Rattle.ux_base.specs.Outside.{Rose, Appended, AppendedFront};
-ghost use Rattle.ux_reasons.specs.Reasons.{joined, refusal, reason_of, at_node, bad_mask, decode_reason, alphabet_reason, fst2_reason, grf_reason, net_reason, at_place, dela_reason, image_reason, sentence_reason, rule_reason};
+ghost use Rattle.ux_reasons.specs.Reasons.{joined, refusal, reason_of, at_node, bad_mask, decode_reason, alphabet_reason, fst2_reason, grf_reason, net_reason, at_place, dela_reason, image_reason, sentence_reason, rule_reason, inflect_reason, flatten_reason};
 
 use crate::reason::Reason;
 use itoa::Buffer;
@@ -15,9 +15,11 @@ use ux_base::{Sink, SinkError, Txt};
 use ux_boxes::NetError;
 use ux_decode::DecodeError;
 use ux_dela::DelaError;
+use ux_flatten::FlattenError;
 use ux_fst2::Fst2Error;
 use ux_grf::GrfError;
 use ux_image_reader::ImageError;
+use ux_inflect::InflectError;
 use ux_rules::RuleError;
 use ux_sentence::SentenceError;
 
@@ -55,6 +57,8 @@ pub fn say_refusal<E: Sink>(err: &mut E, file: &str, reason: &Reason) -> Result<
         Reason::Fst2(error) => say_fst2_error(err, file, error),
         Reason::Sentence(error) => say_sentence_error(err, file, error),
         Reason::Rule(error) => say_rule_error(err, file, error),
+        Reason::Inflect(error) => say_inflect_error(err, file, error),
+        Reason::Flatten(error) => say_flatten_error(err, file, error),
         Reason::TooManyGraphs => say_name(err, file, "TooManyGraphs"),
     }
 }
@@ -81,6 +85,18 @@ fn say_text<E: Sink>(err: &mut E, file: &str, what: &str, text: &str) -> Result<
         (refusal file.now (what.now ∷ text.now ∷ []))) }
 {
     say(err, &["refused: ", file, ": ", what, text, "\n"])
+}
+
+/// Writes the same by a text that is owned.
+fn say_named<E: Sink>(err: &mut E, file: &str, what: &str, text: &Txt) -> Result<(), SinkError>
+    ensures later { E.faults err.old ≤ E.faults err.new }
+    ensures cause { OnErr result (Rose (E.faults err.old) (E.faults err.new)) }
+    ensures line { OnOk result (Appended (E.written err.old) (E.written err.new)
+        (refusal file.now (what.now ∷ text.now ∷ []))) }
+    ensures front { OnErr result (AppendedFront (E.written err.old) (E.written err.new)
+        (refusal file.now (what.now ∷ text.now ∷ []))) }
+{
+    say_text(err, file, what, text.as_str())
 }
 
 /// Writes the line of a file that is refused with a number, as in `BadLine line=3`.
@@ -446,5 +462,51 @@ fn say_rule_error<E: Sink>(err: &mut E, file: &str, error: &RuleError) -> Result
         RuleError::Call { node } => say_number(err, file, "Call node=", *node as usize),
         RuleError::BadItem { node } => say_number(err, file, "BadItem node=", *node as usize),
         RuleError::NoMemory => say_name(err, file, "NoMemory"),
+    }
+}
+
+/// Writes the line of a stem that isn't inflected.
+fn say_inflect_error<E: Sink>(
+    err: &mut E,
+    file: &str,
+    error: &InflectError,
+) -> Result<(), SinkError>
+    ensures later { E.faults err.old ≤ E.faults err.new }
+    ensures cause { OnErr result (Rose (E.faults err.old) (E.faults err.new)) }
+    ensures line { OnOk result (Appended (E.written err.old) (E.written err.new)
+        (refusal file.now (inflect_reason error.now))) }
+    ensures front { OnErr result (AppendedFront (E.written err.old) (E.written err.new)
+        (refusal file.now (inflect_reason error.now))) }
+{
+    match error {
+        InflectError::Cyclic { graph } => say_named(err, file, "Cyclic graph=", graph),
+        InflectError::BadItem { graph, node } => {
+            say_node(err, file, "BadItem graph=", graph, *node)
+        },
+        InflectError::StackEnd { path } => say_named(err, file, "StackEnd path=", path),
+        InflectError::BadCodes { path } => say_named(err, file, "BadCodes path=", path),
+        InflectError::NoMemory => say_name(err, file, "NoMemory"),
+    }
+}
+
+/// Writes the line of a grammar that isn't flattened.
+fn say_flatten_error<E: Sink>(
+    err: &mut E,
+    file: &str,
+    error: &FlattenError,
+) -> Result<(), SinkError>
+    ensures later { E.faults err.old ≤ E.faults err.new }
+    ensures cause { OnErr result (Rose (E.faults err.old) (E.faults err.new)) }
+    ensures line { OnOk result (Appended (E.written err.old) (E.written err.new)
+        (refusal file.now (flatten_reason error.now))) }
+    ensures front { OnErr result (AppendedFront (E.written err.old) (E.written err.new)
+        (refusal file.now (flatten_reason error.now))) }
+{
+    match error {
+        FlattenError::TooBig => say_name(err, file, "TooBig"),
+        FlattenError::NegativeCut { graph, node } => {
+            say_node(err, file, "NegativeCut graph=", graph, *node)
+        },
+        FlattenError::NoMemory => say_name(err, file, "NoMemory"),
     }
 }

@@ -57,6 +57,18 @@ a_compiled_grammar = tt
 a_compiled_file : IsAsked (asked_by (codes "fst2" ∷ codes "g.fst2" ∷ codes "a.txt" ∷ []))
 a_compiled_file = tt
 
+-- a grammar of either kind is flattened, to a depth that needn't be named
+a_flat_grammar :
+    IsAsked (asked_by (codes "flatten" ∷ codes "--depth=3" ∷ codes "g.grf" ∷ codes "a.txt" ∷ []))
+a_flat_grammar = tt
+
+a_flat_file : IsAsked (asked_by (codes "flatten" ∷ codes "g.fst2" ∷ codes "a.txt" ∷ []))
+a_flat_file = tt
+
+-- lemmas of a file of any name are inflected
+some_forms : IsAsked (asked_by (codes "inflect" ∷ codes "s.dic" ∷ []))
+some_forms = tt
+
 an_image : IsAsked (asked_by (codes "check" ∷ codes "d.udi" ∷ []))
 an_image = tt
 

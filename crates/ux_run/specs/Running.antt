@@ -23,6 +23,8 @@ use Rattle.ux_cmd_check.specs.Check.{check_entries, check_stems}
 use Rattle.ux_cmd_compress.specs.Compress.{compress}
 use Rattle.ux_cmd_dico.specs.Dico.{dico}
 use Rattle.ux_cmd_fst2.specs.Fst2.{fst2}
+use Rattle.ux_cmd_flatten.specs.Flatten.{flatten}
+use Rattle.ux_cmd_inflect.specs.Inflect.{inflect}
 use Rattle.ux_cmd_txt2tfst.specs.Tfst.{txt2tfst}
 use Rattle.ux_cmd_elag.specs.Elag.{elag}
 use Rattle.ux_cmd_bench.specs.Bench.{IsSummaryOf}
@@ -69,14 +71,14 @@ asked_of (Check true file) = asks (check_stems file)
 asked_of (Compress dic) = asks (compress dic)
 asked_of (Dico text alphabet dics chars) = asks (dico text alphabet dics chars)
 asked_of (Fst2 graph alphabet chars) = asks (fst2 graph alphabet chars)
+asked_of (Flatten graph alphabet depth) = asks (flatten graph alphabet depth)
+asked_of (Inflect stems) = asks (inflect stems)
 asked_of (Tfst text alphabet dics chars) = asks (txt2tfst text alphabet dics chars)
 asked_of (Elag tfst rules) = asks (elag tfst rules)
 asked_of (Bench n) = asks (unread_command (IsSummaryOf n))
 asked_of Help = asks (text_command HELP.now)
 asked_of Version = asks (text_command VERSION.now)
-asked_of (Inflect stems) = nothing
 asked_of (Cascade text alphabet steps dics trace) = nothing
-asked_of (Flatten graph alphabet depth) = nothing
 asked_of (Tfind graph tfst alphabet) = nothing
 asked_of (Morpho graph text alphabet dics) = nothing
 

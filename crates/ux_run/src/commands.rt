@@ -16,7 +16,9 @@ use ux_cmd_compress::compress;
 use ux_cmd_concord::{Layout, concord};
 use ux_cmd_dico::dico;
 use ux_cmd_elag::elag;
+use ux_cmd_flatten::flatten;
 use ux_cmd_fst2::fst2;
+use ux_cmd_inflect::inflect;
 use ux_cmd_locate::locate;
 use ux_cmd_tokenize::tokenize;
 use ux_cmd_txt2tfst::txt2tfst;
@@ -71,6 +73,12 @@ pub fn answer_to<F: Folder>(
             alphabet,
             chars,
         } => by_command(fst2(alloc, graph.as_str(), alphabet.as_str(), *chars, folder)),
+        Request::Flatten {
+            graph,
+            alphabet,
+            depth,
+        } => by_command(flatten(alloc, graph.as_str(), alphabet.as_str(), *depth, folder)),
+        Request::Inflect { stems } => by_command(inflect(alloc, stems.as_str(), folder)),
         Request::Tfst {
             text,
             alphabet,
@@ -86,11 +94,9 @@ pub fn answer_to<F: Folder>(
         Request::Bench { n } => summary_of(alloc, *n),
         Request::Help => text_of(alloc, HELP),
         Request::Version => text_of(alloc, VERSION),
-        Request::Inflect { .. }
-        | Request::Cascade { .. }
-        | Request::Flatten { .. }
-        | Request::Tfind { .. }
-        | Request::Morpho { .. } => Err(Status::Usage),
+        Request::Cascade { .. } | Request::Tfind { .. } | Request::Morpho { .. } => Err(
+            Status::Usage,
+        ),
     }
 }
 

@@ -121,7 +121,7 @@ pub fn usual(name: &str) -> &'static str {
     match name {
         "a.txt" => LETTERS,
         "g.grf" => GRAPH,
-        "m.grf" => CALL,
+        "m.grf" | "N1.grf" => CALL,
         "d.dic" | "e.dic" => DICTIONARY,
         "s.dic" => STEMS,
         "t.tfst" => AUTOMATA,

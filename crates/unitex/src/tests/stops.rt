@@ -3,11 +3,11 @@
 ghost use Rattle.std.specs.Prelude.{◌≤◌, None, IfOk, length};
 ghost use Rattle.ux_base.specs.Outside.{MAX, seen_with};
 
-use crate::tests::rows::{compare_given, given_by, sink, usual};
+use crate::tests::rows::{compare_given, files_of, given_by, sink, usual};
 use std::alloc::Global;
 use std::process::Abort;
 use std::test::Fail;
-use ux_base::{Counts, Folder, FolderError};
+use ux_base::{Counts, Folder, FolderError, MemFolder};
 
 /// What is wrong with a file.
 #[derive(Clone, Copy)]
@@ -76,6 +76,10 @@ const COMPRESS_IMAGE: &[&str] = &["compress", "d.udi"];
 
 const CHECK_STEMS: &[&str] = &["check", "--delas", "s.dic"];
 
+const FLATTEN: &[&str] = &["flatten", "m.grf", "a.txt"];
+
+const INFLECT: &[&str] = &["inflect", "s.dic"];
+
 const REPORT: &[&str] = &["dico", "t.txt", "a.txt", "d.dic", "e.dic"];
 
 const CONCORDANCE: &[&str] = &["concord", "m.grf", "t.txt", "a.txt", "d.dic", "e.dic"];
@@ -121,6 +125,12 @@ const ROWS: &[Row] = &[
     (RULES, "t.tfst"),
     (RULES, "r.grf"),
     (RULES, "s.grf"),
+    (FLATTEN, "a.txt"),
+    (FLATTEN, "m.grf"),
+    (FLATTEN, "g.grf"),
+    (INFLECT, "s.dic"),
+    (INFLECT, "N1.grf"),
+    (INFLECT, "g.grf"),
 ];
 
 /// Gives the row's words where its file is wrong, and compares the line on `err` and the status.
@@ -150,5 +160,28 @@ fn names_the_file_that_stops_a_command(rt: HostRuntime) -> Result<(), Fail> {
         let long = format!(in rt.alloc(); "too large: {name}\n")?;
         compare_stop(&rt, row, Wrong::TooLong, (long.as_str(), 6))?;
     }
+    Ok(())
+}
+
+/// The graph of a class: a plural in `s`.
+const PLURAL: &[u8] = b"#Unigraph\n#\n3\n\"\" 0 0 1 2 \n\"\" 0 0 0 \n\"s/:p\" 0 0 1 1 \n";
+
+/// Four lemmas of two classes.
+const LEMMAS: &[u8] = b"a,N1\nb,N1\nc,N2\nd,N1\n";
+
+#[test]
+fn reads_the_graph_of_a_class_once(rt: HostRuntime) -> Result<(), Fail> {
+    let files = files_of(
+        rt.alloc(),
+        &[("s.dic", LEMMAS), ("N1.grf", PLURAL), ("N2.grf", PLURAL)],
+    )?;
+    // A fourth read would fail.
+    let mut failing = Vec::new(rt.alloc());
+    failing.push(3)?;
+    let mut folder = MemFolder::new(files, failing);
+    let sinks = (sink(rt.alloc(), 64)?, sink(rt.alloc(), 64)?);
+    let got = given_by(rt.alloc(), INFLECT, &mut folder, sinks)?;
+    let forms = "as,a.N:p\nbs,b.N:p\ncs,c.N:p\nds,d.N:p\n";
+    compare_given(&rt, "lemmas", &got, (forms, "", 0));
     Ok(())
 }

@@ -1,4 +1,5 @@
 use Rattle.ux_boxes.specs.Refusing.{drawn}
+use Rattle.ux_boxes.proofs.MissingLemmas.{stand_once}
 use Rattle.ux_grammars.proofs.CompilingLemmas.{none_missing}
 use Rattle.ux_grammars.proofs.compiling.compile.Goals as goal
 
@@ -10,5 +11,8 @@ refused_net-requires c =
 pub returns-in-Ok-clause-compiles : goal.returns-in-Ok-clause-compiles
 returns-in-Ok-clause-compiles c = record {
   same = c.in-Ok.ensures.words;
-  states = c.in-Ok.ensures.built;
+  states = record {
+    apart = stand_once c.args.graphs.items c.requires.distinct;
+    constructed = c.in-Ok.ensures.built;
+  };
 }

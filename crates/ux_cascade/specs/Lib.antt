@@ -1,0 +1,4 @@
+pub mod Rewriting
+pub mod Cascades
+pub mod Refusing
+pub mod Trace

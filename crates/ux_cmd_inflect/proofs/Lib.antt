@@ -1,0 +1,4 @@
+pub mod AnswerLemmas
+pub mod ClassLemmas
+pub mod FormLemmas
+pub mod NetLemmas

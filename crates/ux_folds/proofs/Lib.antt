@@ -1,0 +1,9 @@
+pub mod FoldLemmas
+pub mod FollowingLemmas
+pub mod ListsLemmas
+pub mod OnceLemmas
+pub mod PuttingLemmas
+pub mod RenderedLaw
+pub mod RenderingLemmas
+pub mod TablesLemmas
+pub mod VariablesLemmas

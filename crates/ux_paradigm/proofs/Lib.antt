@@ -1,0 +1,7 @@
+mod Examples
+pub mod KeptLemmas
+pub mod LineLemmas
+pub mod Locality
+pub mod OrderLemmas
+pub mod PrintingLemmas
+pub mod StrokeLemmas
