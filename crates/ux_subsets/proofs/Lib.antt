@@ -8,6 +8,7 @@ pub mod BuiltLemmas
 pub mod PlacingLemmas
 pub mod ExpandingLemmas
 pub mod NotingLemmas
+pub mod NumberingLemmas
 pub mod StagesLemmas
 pub mod CollectingLemmas
 pub mod InsertingLemmas

@@ -41,7 +41,7 @@ seen_at_append [] more n lt = absurd (omega arith)
 seen_at_append (x ∷ sets) more zero lt = refl
 seen_at_append (x ∷ sets) more (suc n) lt = seen_at_append sets more n (omega arith)
 
-seen_at_push : (sets : List Set) (set : Set) → seen_at (sets ++ set ∷ []) (length sets) ≡ set.seen
+pub seen_at_push : (sets : List Set) (set : Set) → seen_at (sets ++ set ∷ []) (length sets) ≡ set.seen
 seen_at_push [] set = refl
 seen_at_push (x ∷ sets) set = seen_at_push sets set
 

@@ -74,11 +74,20 @@ pub record HasNumber (old new : List Set) (set : Set) (number : ℕ) : Type 0 wh
   pub same_seen : seen_at new number ≡ set.seen
   pub either : (new ≡ old) ⊎ ((new ≡ old ++ set ∷ []) × (number ≡ length old) × ((n : ℕ) → n < length old → states_at old n ≡ states_of set → seen_at old n ≡ set.seen → ⊥))
 
+-- the same states, and the same state of the machine
+abbrev pub IsSame : Set → Set → Type 0
+IsSame one other = (states_of one ≡ states_of other) × (one.seen ≡ other.seen)
+
 -- the set that waits has a place, and the link goes to it; numbers are places, counted on from the base
 pub record IsPlaced (base : ℕ) (old new : List Set) (links links' : List Link) (w : Waiting) : Type 0 where
   pub place : ℕ
   pub has : HasNumber old new w.set place
   pub linked : links' ≡ links ++ link w.from (base + place) w.reading ∷ []
+
+-- all that is due has its place, the last one first
+abbrev pub ArePlaced : (base : ℕ) (old new : List Set) (links links' : List Link) (due : List Waiting) → Type 0
+ArePlaced base old new links links' [] = (new ≡ old) × (links' ≡ links)
+ArePlaced base old new links links' (one ∷ due) = (sets : List Set) × (between : List Link) × ArePlaced base old sets links between due × IsPlaced base sets new between links' one
 
 -- no two wait for one reading from one state
 abbrev pub Unlike : Waiting → Waiting → Type 0

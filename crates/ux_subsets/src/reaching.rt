@@ -8,7 +8,7 @@
 ghost use Rattle.std.specs.Prelude.{ℕ, ◌≡◌, ◌+◌, ◌<◌, ◌++◌, List, [], length, IfOk, OnOk};
 ghost use Rattle.ux_subsets.specs.declared.automaton.Link.{Link};
 ghost use Rattle.ux_subsets.specs.declared.sets.Set.{Set};
-ghost use Rattle.ux_subsets.specs.Agenda.{filed_in};
+ghost use Rattle.ux_subsets.specs.Rows.{row_at};
 ghost use Rattle.ux_subsets.specs.Paths.{IsAscending};
 ghost use Rattle.ux_subsets.specs.Machines.{Grows};
 ghost use Rattle.ux_subsets.specs.Departures.{AreByStart};
@@ -19,10 +19,9 @@ use crate::automaton::{Automaton, Link, narrowed, number_behind};
 use crate::departures::{Departures, by_start};
 use crate::expanding::{are_both, expand};
 use crate::machine::Machine;
-use crate::sets::{Over, Set, Waiting, add_link, first_set, place};
-use indexmap::IndexSet;
+use crate::numbering::numbered;
+use crate::sets::{Over, Set, Waiting, add_link, first_set};
 use std::alloc::Global;
-use std::collections::BTreeMap;
 use ux_base::Mem;
 
 /// The links between the sets that are reached, the readings after which a path is over that
@@ -60,7 +59,7 @@ pub(crate) fn reach<M: Machine>(
     let table = by_start(alloc, source, end)?;
     let seen = machine.begin(alloc)?;
     let first = first_set(alloc, seen);
-    let mut agenda = BTreeMap::new(alloc);
+    let mut agenda = Vec::new(alloc);
     let mut waiting = Vec::new(alloc);
     let mut links = Vec::with_capacity(alloc, size)?;
     let mut overs = Vec::new(alloc);
@@ -101,7 +100,7 @@ fn all_states<M: Machine>(
     machine: &mut M,
     table: &Departures,
     last: u32,
-    agenda: &mut BTreeMap<u32, Vec<Waiting>>,
+    agenda: &mut Vec<Vec<Waiting>>,
     waiting: &mut Vec<Waiting>,
     links: &mut Vec<Link>,
     overs: &mut Vec<Over>,
@@ -114,7 +113,7 @@ fn all_states<M: Machine>(
         AreByStart source table.now.steps.items table.now.starts.items → IsAscending last source →
         begun.count ≡ length sets → waiting.old.items ≡ [] →
         IsStage (M.stands machine.old) (M.satisfies machine.old) last source sets links.old.items
-        overs.old.items [] (filed_in agenda.old) (length sets) border 0 begun.all →
+        overs.old.items [] (row_at agenda.old.items) (length sets) border 0 begun.all →
         (found : List Set) × IsReached (M.stands machine.new) (M.satisfies machine.new) last source
         found links.new.items overs.new.items now.count now.all) }
 {
@@ -134,7 +133,7 @@ fn one_state<M: Machine>(
     table: &Departures,
     state: u32,
     last: u32,
-    agenda: &mut BTreeMap<u32, Vec<Waiting>>,
+    agenda: &mut Vec<Vec<Waiting>>,
     waiting: &mut Vec<Waiting>,
     links: &mut Vec<Link>,
     overs: &mut Vec<Over>,
@@ -146,16 +145,13 @@ fn one_state<M: Machine>(
         AreByStart source table.now.steps.items table.now.starts.items → IsAscending last source →
         state ≡ done + 1 → so_far.count ≡ length sets → waiting.old.items ≡ [] →
         IsStage (M.stands machine.old) (M.satisfies machine.old) last source sets links.old.items
-        overs.old.items [] (filed_in agenda.old) (length sets) border done so_far.all →
+        overs.old.items [] (row_at agenda.old.items) (length sets) border done so_far.all →
         (waiting.new.items ≡ []) × ((found : List Set) × (now.count ≡ length found) ×
         IsStage (M.stands machine.new) (M.satisfies machine.new) last source found links.new.items
-        overs.new.items [] (filed_in agenda.new) (length found) (length sets) state now.all)) }
+        overs.new.items [] (row_at agenda.new.items) (length found) (length sets) state now.all)) }
 {
-    let mut due = take(alloc, agenda, state);
-    let mut sets = IndexSet::new(alloc);
-    while let Some(one) = due.pop() {
-        place(&mut sets, so_far.count, links, one)?;
-    }
+    let due = take(alloc, agenda, state);
+    let sets = numbered(alloc, so_far.count, links, due)?;
     let all = all_sets(
         alloc,
         machine,
@@ -181,7 +177,7 @@ fn all_sets<M: Machine>(
     sets: &[Set],
     base: u32,
     last: u32,
-    agenda: &mut BTreeMap<u32, Vec<Waiting>>,
+    agenda: &mut Vec<Vec<Waiting>>,
     waiting: &mut Vec<Waiting>,
     overs: &mut Vec<Over>,
     all: bool,
@@ -193,9 +189,9 @@ fn all_sets<M: Machine>(
         AreByStart source table.now.steps.items table.now.starts.items → IsAscending last source →
         base ≡ length before → waiting.old.items ≡ [] →
         IsStage (M.stands machine.old) (M.satisfies machine.old) last source (before ++ sets.now)
-        links overs.old.items [] (filed_in agenda.old) base base state all →
+        links overs.old.items [] (row_at agenda.old.items) base base state all →
         (waiting.new.items ≡ []) × IsStage (M.stands machine.new) (M.satisfies machine.new) last
-        source (before ++ sets.now) links overs.new.items [] (filed_in agenda.new)
+        source (before ++ sets.now) links overs.new.items [] (row_at agenda.new.items)
         (base + length sets.now) base state now) }
 {
     let mut now = all;
@@ -225,7 +221,7 @@ fn one_set<M: Machine>(
     set: &Set,
     number: u32,
     last: u32,
-    agenda: &mut BTreeMap<u32, Vec<Waiting>>,
+    agenda: &mut Vec<Vec<Waiting>>,
     waiting: &mut Vec<Waiting>,
     overs: &mut Vec<Over>,
     all: bool,
@@ -238,9 +234,9 @@ fn one_set<M: Machine>(
         states_at sets number ≡ states_of set.now → seen_at sets number ≡ set.now.seen →
         number < length sets → waiting.old.items ≡ [] →
         IsStage (M.stands machine.old) (M.satisfies machine.old) last source sets links
-        overs.old.items [] (filed_in agenda.old) number border state all →
+        overs.old.items [] (row_at agenda.old.items) number border state all →
         (waiting.new.items ≡ []) × IsStage (M.stands machine.new) (M.satisfies machine.new) last
-        source sets links overs.new.items [] (filed_in agenda.new) (number + 1) border state now) }
+        source sets links overs.new.items [] (row_at agenda.new.items) (number + 1) border state now) }
 {
     let is_kept = expand(alloc, machine, table, set, number, last, waiting, overs)?;
     let now = are_both(all, is_kept);

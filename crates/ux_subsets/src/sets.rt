@@ -1,11 +1,10 @@
-//! Sets of states, and how they get their places.
+//! Sets of states, and what is known of them.
 
-ghost use Rattle.std.specs.Prelude.{◌≡◌, ℕ, ◌+◌, ◌<◌, ◌≤◌, ◌↔◌, [], ◌∷◌, ◌++◌, length, map, IfOk, OnOk, IsTrue, Contains};
+ghost use Rattle.std.specs.Prelude.{◌≡◌, ◌↔◌, [], ◌∷◌, ◌++◌, OnOk, IsTrue};
 ghost use Rattle.ux_subsets.specs.Paths.{link};
-ghost use Rattle.ux_subsets.specs.Building.{IsPlaced, HasNumber};
+ghost use Rattle.ux_subsets.specs.Building.{IsSame};
 
-use crate::automaton::{Link, number_behind};
-use indexmap::IndexSet;
+use crate::automaton::Link;
 use std::alloc::Global;
 use ux_base::Mem;
 
@@ -46,32 +45,6 @@ pub(crate) fn first_set(alloc: Global, seen: usize) -> Set
     }
 }
 
-/// Gives a place to the set that waits, unless it has one, and adds the link. Numbers are places,
-/// counted on from `base`.
-pub(crate) fn place(
-    sets: &mut IndexSet<Set>,
-    base: u32,
-    links: &mut Vec<Link>,
-    waiting: Waiting,
-) -> Mem<()>
-    ensures { OnOk result (IsPlaced base sets.old.keys sets.new.keys
-        links.old.items links.new.items waiting) }
-{
-    let Waiting { from, reading, set } = waiting;
-    let place = place_of(sets, set)?;
-    let number = number_behind(base, place)?;
-    add_link(links, from, number, reading)?;
-    Ok(())
-}
-
-/// The place of the set, which gets one if it has none.
-fn place_of(sets: &mut IndexSet<Set>, set: Set) -> Mem<usize>
-    ensures { IfOk result (λ place. HasNumber sets.old.keys sets.new.keys set place) }
-{
-    let (place, _is_new) = sets.insert_full(set)?;
-    Ok(place)
-}
-
 /// Adds a link to the state.
 pub(crate) fn add_link(links: &mut Vec<Link>, from: u32, to: u32, reading: u32) -> Mem<()>
     ensures { OnOk result (links.new.items ≡ links.old.items ++ link from to reading ∷ []) }
@@ -88,4 +61,11 @@ pub(crate) fn is_nothing(list: &[u32]) -> bool
         [] => true,
         [..] => false,
     }
+}
+
+/// Whether the sets have the same states, and the same state of the machine.
+pub(crate) fn are_same(one: &Set, other: &Set) -> bool
+    ensures { IsTrue result ↔ IsSame one.now other.now }
+{
+    one == other
 }

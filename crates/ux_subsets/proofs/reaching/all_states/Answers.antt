@@ -1,5 +1,5 @@
 use Rattle.std.proofs.Common.{arith, ◌≡◌, refl, length}
-use Rattle.ux_subsets.specs.Agenda.{filed_in}
+use Rattle.ux_subsets.specs.Rows.{row_at}
 use Rattle.ux_subsets.proofs.StagesLemmas.{grows_none, grows_both, all_reached}
 use Rattle.ux_subsets.proofs.reaching.all_states.Goals as goal
 
@@ -32,6 +32,6 @@ returns-clause-reached g c = λ source sets border start up counted none s.
     let here : c.loop-state.state ≡ c.args.last = omega (arith, within) in
     let is = at.3 in (
       at.0,
-      all_reached c.args.last source up at.0 c.loop-state.links.items c.loop-state.overs.items (filed_in c.loop-state.agenda) at.1 at.2 c.loop-state.so_far.all
+      all_reached c.args.last source up at.0 c.loop-state.links.items c.loop-state.overs.items (row_at c.loop-state.agenda.items) at.1 at.2 c.loop-state.so_far.all
           (omega (arith, here, is)) c.loop-state.so_far.count at.4 at.5,
     )

@@ -3,7 +3,7 @@ use Rattle.std.specs.Prelude.{Contains}
 use Rattle.std.proofs.lemmas.List.{append-nil}
 use Rattle.std.proofs.lemmas.List.Elements.{Contains-push, Contains-append_left}
 use Rattle.ux_subsets.specs.declared.sets.Waiting.{Waiting}
-use Rattle.ux_subsets.specs.Agenda.{filed_in}
+use Rattle.ux_subsets.specs.Rows.{row_at}
 use Rattle.ux_subsets.specs.Building.{states_at, seen_at, LeadsFrom, IsExpansion, IsStage}
 use Rattle.ux_subsets.proofs.PlacingLemmas.{nothing_left}
 use Rattle.ux_subsets.proofs.StagesLemmas.{stage_expanded, stage_filed}
@@ -17,7 +17,7 @@ loop-one-init g c = λ source sets links border state start up at at_seen below 
     let S1 = g.M.Machine.stands c.expand.new.machine in
     let T0 = g.M.Machine.satisfies c.args.machine.now in
     let e = c.in_ok-is_kept.ensures.expanded source start up in
-    stage_expanded c.in_ok-is_kept.ensures.grows last source up sets links c.args.overs.now.items c.expand.new.overs.items c.expand.new.waiting.items (filed_in c.args.agenda.now)
+    stage_expanded c.in_ok-is_kept.ensures.grows last source up sets links c.args.overs.now.items c.expand.new.overs.items c.expand.new.waiting.items (row_at c.args.agenda.now.items)
     n border state below e.0
     (subst (λ (xs : List ℕ). (r t : ℕ) → LeadsFrom last source xs n r t → Contains e.0 r) (sym at) e.1)
     (subst (λ (ws : List Waiting). IsExpansion last source (states_at sets n) n S0 S1 T0 (seen_at sets n) e.0 ws c.expand.new.waiting.items c.args.overs.now.items c.expand.new.overs.items) none
@@ -34,9 +34,9 @@ loop-one-preserved g c = λ source sets links border state start up at at_seen b
     let one = c.in-Some.one in
     let popped : c.loop-one.waiting.items ≡ front ++ one ∷ [] = c.in-Some.ensures.items in
     let here = subst (λ (ws : List Waiting). (w : Waiting) → Contains ws w → state < w.set.first) popped now.1 in (
-      stage_filed c.args.last source sets links c.expand.new.overs.items front one (filed_in c.loop-one.agenda) (filed_in c.file.new.agenda)
+      stage_filed c.args.last source sets links c.expand.new.overs.items front one (row_at c.loop-one.agenda.items) (row_at c.file.new.agenda.items)
           (c.args.number + 1) border state c.are_both-now.result (here one (Contains-push front one)) c.in_ok-file.ensures
-          (subst (λ (ws : List Waiting). IsStage (g.M.Machine.stands c.expand.new.machine) (g.M.Machine.satisfies c.expand.new.machine) c.args.last source sets links c.expand.new.overs.items ws (filed_in c.loop-one.agenda) (c.args.number + 1) border state c.are_both-now.result) popped now.0),
+          (subst (λ (ws : List Waiting). IsStage (g.M.Machine.stands c.expand.new.machine) (g.M.Machine.satisfies c.expand.new.machine) c.args.last source sets links c.expand.new.overs.items ws (row_at c.loop-one.agenda.items) (c.args.number + 1) border state c.are_both-now.result) popped now.0),
       λ w h. here w (Contains-append_left front (one ∷ []) w h),
     )
 
@@ -46,5 +46,5 @@ returns-clause-staged g c = λ source sets links border state start up at at_see
     let empty : c.loop-one.waiting.items ≡ [] =
     nothing_left c.loop-one.waiting.items c.pop.new.self.items (vec_len c.loop-one.waiting) c.in_default.ensures.cases.0 c.in_default.ensures.rest c.in_default.ensures.items in (
       sym (append-nil c.pop.new.self.items) ∙ (sym c.in_default.ensures.items ∙ empty),
-      subst (λ (ws : List Waiting). IsStage (g.M.Machine.stands c.expand.new.machine) (g.M.Machine.satisfies c.expand.new.machine) c.args.last source sets links c.expand.new.overs.items ws (filed_in c.loop-one.agenda) (c.args.number + 1) border state c.are_both-now.result) empty now.0,
+      subst (λ (ws : List Waiting). IsStage (g.M.Machine.stands c.expand.new.machine) (g.M.Machine.satisfies c.expand.new.machine) c.args.last source sets links c.expand.new.overs.items ws (row_at c.loop-one.agenda.items) (c.args.number + 1) border state c.are_both-now.result) empty now.0,
     )

@@ -1,6 +1,6 @@
 use Rattle.std.proofs.Common.{ℕ, [], ◌∷◌, ◌++◌, ap, ◌∙◌}
 use Rattle.ux_subsets.specs.Paths.{link}
-use Rattle.ux_subsets.proofs.sets.place.Goals as goal
+use Rattle.ux_subsets.proofs.numbering.place_among_many.Goals as goal
 
 pub returns : goal.returns
 returns c = record {

@@ -2,7 +2,7 @@ use Rattle.std.proofs.Common.{◌≡◌}
 use lib.Pointwise.{bytes_decides}
 use Rattle.std.proofs.lemmas.Bool.{eqb-true, eq-eqb}
 use Rattle.ux_subsets.proofs.PlacingLemmas.{has_number, both_true, true_both}
-use Rattle.ux_subsets.proofs.sets.place_of.Goals as goal
+use Rattle.ux_subsets.proofs.numbering.place_of.Goals as goal
 
 pub returns : goal.returns
 returns c =
