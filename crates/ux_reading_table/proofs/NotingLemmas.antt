@@ -1,8 +1,8 @@
 -- Texts in a set, and what is noted of them.
 use lib.Pointwise.{bytes_decides, pointwise}
-use Rattle.std.proofs.Common.{arith, ◌≡◌, ℕ, zero, suc, ◌<◌, Bool, true, false, cond, List, [], ◌∷◌, ◌++◌, Bor, map, length, get_or, Option, None, Some, inl, inr, refl, sym, ◌∙◌, ap, subst}
-use Rattle.std.specs.Prelude.{Contains, IfSome, nat_eq, slice_get, position}
-use Rattle.std.specs.List.{AllZip, IsDistinct, list_any}
+use Rattle.std.proofs.Common.{arith, ◌≡◌, ℕ, zero, suc, ◌<◌, ◌+◌, ◌||◌, not, Bool, true, false, cond, List, [], ◌∷◌, ◌++◌, Bor, map, length, get_or, Option, None, Some, inl, inr, refl, sym, ◌∙◌, ap, subst}
+use Rattle.std.specs.Prelude.{Contains, IfNone, IfSome, nat_eq, slice_get, position}
+use Rattle.std.specs.List.{AllZip, IsDistinct, list_any, position_or_len}
 use Rattle.std.specs.Str.{bytes_eq}
 use Rattle.std.specs.Cmp.Lexicographic.{same_text}
 use Rattle.std.specs.Option.{option_map}
@@ -13,7 +13,7 @@ use Rattle.std.proofs.lemmas.List.Folds.{list_any_at, Any-from_list_any}
 use Rattle.std.proofs.lemmas.Slice.Zip.{all_zipped_more}
 use Rattle.std.proofs.lemmas.List.Elements.{Contains-push, Contains-push_cases, Contains-append_left}
 use Rattle.std.proofs.lemmas.List.Quantifiers.{position-Some}
-use Rattle.std.proofs.lemmas.Bool.{false≢true}
+use Rattle.std.proofs.lemmas.Bool.{false≢true, lt-ltb}
 use Rattle.std.proofs.lemmas.Map.Keys.{apart_from_distinct}
 use Rattle.std.proofs.lemmas.Option.{get_or_from_slice_get, slice_get-map, slice_get-get_or, slice_get_within}
 use Rattle.ux_base.proofs.Lists.{nothing_in, first_or_later, less_or}
@@ -237,3 +237,42 @@ pub found_if_some : (slices : List (Bor (List ℕ))) (text : Bor (List ℕ)) (fo
     IfSome found (λ i. slice_get (texts_of slices) i ≡ Some text.now)
 found_if_some slices text None is = tt
 found_if_some slices text (Some i) is = found_text slices text i (sym is)
+
+-- a text that stands at a place is there
+pub text_at : (text : List ℕ) (texts : List (List ℕ)) (place : ℕ) →
+    slice_get texts place ≡ Some text → Contains texts text
+text_at text texts place at =
+    (place, slice_get_within texts place text at, get_or_from_slice_get texts place text text at)
+
+-- the text of a slice that stands at a place
+pub slice_at : (slices : List (Bor (List ℕ))) (place : ℕ) (slice : Bor (List ℕ)) →
+    slice_get slices place ≡ Some slice → slice_get (texts_of slices) place ≡ Some slice.now
+slice_at slices place slice at =
+    slice_get-map (λ (s : Bor (List ℕ)). s.now) slices place
+    ∙ ap (option_map (λ (s : Bor (List ℕ)). s.now)) at
+
+-- where one passes, the first one that does stands before the end
+passes_within : {X : Type 0} (p : X → Bool) (xs : List X) → list_any p xs ≡ true →
+    position_or_len p xs < length xs
+passes_within p [] any = absurd (false≢true any)
+passes_within p (x ∷ xs) any = by (p x) refl (λ later. passes_within p xs later)
+  where
+    by : (b : Bool) → p x ≡ b → (list_any p xs ≡ true → position_or_len p xs < length xs) →
+        position_or_len p (x ∷ xs) < length (x ∷ xs)
+    by true is below = subst (λ (n : ℕ). n < length (x ∷ xs)) (sym (ap (λ (b : Bool). cond (not b) (1 + position_or_len p xs) zero) is)) (omega arith)
+    by false is below =
+        let later : list_any p xs ≡ true = sym (ap (λ (b : Bool). b || list_any p xs) is) ∙ any in
+        let rest = below later in
+        subst (λ (n : ℕ). n < length (x ∷ xs)) (sym (ap (λ (b : Bool). cond (not b) (1 + position_or_len p xs) zero) is)) (omega (arith, rest))
+
+-- a text that isn't found isn't there
+pub none_if_not_found : (slices : List (Bor (List ℕ))) (text : Bor (List ℕ)) (found : Option ℕ) →
+    found ≡ position (is_text text.now) slices →
+    IfNone found (Contains (texts_of slices) text.now → ⊥)
+none_if_not_found slices text None is = λ there.
+    let within = passes_within (is_text text.now) slices (there_text slices text there) in
+    none_some (is ∙ ap (λ (b : Bool). cond b (Some (position_or_len (is_text text.now) slices)) None) (lt-ltb (position_or_len (is_text text.now) slices) (length slices) within))
+  where
+    none_some : {n : ℕ} → None ≡ Some n → ⊥
+    none_some e = cc
+none_if_not_found slices text (Some i) is = tt

@@ -3,7 +3,7 @@
 //! A text is read where it comes for the first time. Readings are told apart by their printed
 //! texts, and numbered as they come.
 
-ghost use Rattle.std.specs.Prelude.{◌≡◌, ◌⊎◌, ◌↔◌, ◌++◌, ◌∷◌, ◌<◌, ◌^◌, [], IsTrue, IfErr, IfOk, MatchOption, OnOk, Contains, length};
+ghost use Rattle.std.specs.Prelude.{◌≡◌, ◌⊎◌, ◌++◌, ◌∷◌, ◌<◌, ◌^◌, [], IfErr, IfNone, IfOk, IfSome, MatchOption, OnOk, Contains, Some, length, slice_get};
 ghost use Rattle.ux_sentence.specs.Files.{LinkSays, RefusesLink};
 ghost use Rattle.ux_sentence.specs.Readings.{IsReading};
 ghost use Rattle.ux_sentence.specs.declared.error.SentenceError.TheVariants.{NoMemory as OutOfMemory};
@@ -28,6 +28,8 @@ pub(crate) struct Noted<'a> {
     pub numbers: Vec<u32>,
     /// The printed texts of the readings, by number.
     pub printed: IndexSet<Txt>,
+    /// For each link, in the order of the file, the place of its text among the spelled ones.
+    pub places: Vec<u32>,
 }
 
 /// No text.
@@ -39,6 +41,7 @@ pub(crate) fn nothing_noted<'a>(alloc: Global) -> Noted<'a>
         spelled: IndexSet::new(alloc),
         numbers: Vec::new(alloc),
         printed: IndexSet::new(alloc),
+        places: Vec::new(alloc),
     }
 }
 
@@ -76,13 +79,15 @@ fn note<'a>(alloc: Global, noted: &mut Noted<'a>, text: &'a str) -> Mem<bool>
     ensures says { IfOk result (λ says.
         NotesText says noted.old.printed.keys text.now noted.new.printed.keys) }
 {
-    if is_known(&noted.spelled, text) {
+    if let Some(place) = place_of(&noted.spelled, text) {
+        noted.places.push(narrowed(place))?;
         return Ok(true);
     }
     let Some(printed) = printed_of(alloc, text)? else {
         return Ok(false);
     };
     let number = number_of(&mut noted.printed, printed)?;
+    noted.places.push(narrowed(noted.spelled.len()))?;
     noted.numbers.push(number)?;
     add(&mut noted.spelled, text)?;
     Ok(true)
@@ -115,11 +120,18 @@ pub(crate) fn printed_of(alloc: Global, text: &str) -> Mem<Option<Txt>>
     Ok(Some(Txt::new(printed)))
 }
 
-/// Whether the set has the text.
-fn is_known(set: &IndexSet<&str>, text: &str) -> bool
-    ensures { IsTrue result ↔ Contains (spellings set.now) text.now }
+/// The place of the text in the set.
+pub(crate) fn place_of(set: &IndexSet<&str>, text: &str) -> Option<usize>
+    ensures some { IfSome result (λ place.
+        slice_get (spellings set.now) place ≡ Some text.now) }
+    ensures none { IfNone result (Contains (spellings set.now) text.now → ⊥) }
 {
-    set.contains(text)
+    set.get_index_of(text)
+}
+
+/// The place in 32 bits. A greater one becomes the greatest: it is noted to be tried first alone.
+fn narrowed(place: usize) -> u32 {
+    place.min(u32::MAX as usize) as u32
 }
 
 /// Adds a text that the set hasn't.

@@ -32,6 +32,8 @@ pub struct NumberedSentences<'a> {
     passed: usize,
     told: u32,
     count: u32,
+    /// How many links were read by a table.
+    links: usize,
 }
 
 impl<'a> Model for NumberedSentences<'a> {
@@ -77,6 +79,7 @@ impl<'a> NumberedSentences<'a> {
                 passed: 1,
                 told: 0,
                 count,
+                links: 0,
             }),
             None => Err(SentenceError::BadLine { line: 1 }),
         }
@@ -169,7 +172,9 @@ impl<'a> NumberedSentences<'a> {
             ⊎ RefusesNext states self.old.lines (self.old.passed + 1) error) }
     {
         let line = self.next_line()?;
-        table.link(alloc, line, self.passed, states)
+        let before = self.links;
+        self.links = before.saturating_add(1);
+        table.link(alloc, line, self.passed, states, before)
     }
 
     /// Notes the texts of the next sentence. Answers whether there is one.

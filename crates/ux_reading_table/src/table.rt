@@ -17,7 +17,7 @@ ghost use Rattle.ux_reading_table.specs.Noting.{AreNotedOf, IsNumberIfKnown, IsT
 ghost use Rattle.ux_reading_table.specs.Numbered.{IsPlaceOfText, IsTableOf};
 
 use crate::fields::fields_of;
-use crate::noting::{Noted, nothing_noted, printed_of};
+use crate::noting::{Noted, nothing_noted, place_of as spelled_place, printed_of};
 use crate::numbered::NumberedLink;
 use crate::sentences::NumberedSentences;
 use indexmap::IndexSet;
@@ -36,6 +36,9 @@ pub struct ReadingTable<'a> {
     numbers: Vec<u32>,
     /// The printed texts of the readings, by number.
     texts: IndexSet<Txt>,
+    /// For each link of the file, in order, the place of its text among the spelled ones, where it
+    /// is looked for first.
+    places: Vec<u32>,
 }
 
 impl<'a> Model for ReadingTable<'a> {
@@ -64,11 +67,13 @@ impl<'a> ReadingTable<'a> {
             spelled,
             numbers,
             printed,
+            places,
         } = noted;
         Ok(ReadingTable {
             spelled,
             numbers,
             texts: printed,
+            places,
         })
     }
 
@@ -93,14 +98,15 @@ impl<'a> ReadingTable<'a> {
         }
     }
 
-    /// The link that the line of this number says, in a sentence of so many states. Takes no
-    /// memory where the table has the line's text.
+    /// The link that the line of this number says, in a sentence of so many states. So many links
+    /// were before it in the file. Takes no memory where the table has the line's text.
     pub(crate) fn link(
         &self,
         alloc: Global,
         line: &str,
         number: usize,
         states: u64,
+        before: usize,
     ) -> Result<NumberedLink, SentenceError>
         ensures ok { IfOk result (λ numbered. (link : LinkRecord) × LinkSays states line.now link
             × IsToldIfKnown self.now numbered link) }
@@ -110,7 +116,7 @@ impl<'a> ReadingTable<'a> {
         let Some(fields) = fields_of(line, states) else {
             return Err(SentenceError::BadEdge { line: number });
         };
-        let Some(reading) = self.number_of(alloc, fields.text)? else {
+        let Some(reading) = self.number_of(alloc, fields.text, before)? else {
             return Err(SentenceError::BadEdge { line: number });
         };
         if fields.to <= fields.from {
@@ -125,12 +131,12 @@ impl<'a> ReadingTable<'a> {
 
     /// The number of the reading that the text says, or nothing where it says none. A text that
     /// isn't spelled so in the table's file is read, and found by its printed text.
-    fn number_of(&self, alloc: Global, text: &str) -> Mem<Option<u32>>
+    fn number_of(&self, alloc: Global, text: &str, before: usize) -> Mem<Option<u32>>
         ensures { IfOk result (λ found. MatchOption found
             ((reading : ReadingRecord) → IsReading text.now reading → ⊥)
             (IsNumberIfKnown self.now text.now)) }
     {
-        if let Some(index) = index_of(&self.spelled, text) {
+        if let Some(index) = index_of(&self.spelled, text, self.places.get(before)) {
             return Ok(Some(self.numbers[index]));
         }
         let Some(printed) = printed_of(alloc, text)? else {
@@ -140,11 +146,26 @@ impl<'a> ReadingTable<'a> {
     }
 }
 
-/// The index of the text in the set.
-fn index_of(set: &IndexSet<&str>, text: &str) -> Option<usize>
+/// The index of the text in the set. It is looked for first at the place, if there is one.
+fn index_of(set: &IndexSet<&str>, text: &str, place: Option<&u32>) -> Option<usize>
     ensures { IfSome result (λ index. slice_get (spellings set.now) index ≡ Some text.now) }
 {
-    set.get_index_of(text)
+    match index_at(set, text, place) {
+        Some(index) => Some(index),
+        None => spelled_place(set, text),
+    }
+}
+
+/// The place, if the set has the text there.
+fn index_at(set: &IndexSet<&str>, text: &str, place: Option<&u32>) -> Option<usize>
+    ensures { IfSome result (λ index. slice_get (spellings set.now) index ≡ Some text.now) }
+{
+    let index = *place? as usize;
+    let spelled = *set.get_index(index)?;
+    if spelled == text {
+        return Some(index);
+    }
+    None
 }
 
 /// The place of the text among these, or 0 where it isn't there.

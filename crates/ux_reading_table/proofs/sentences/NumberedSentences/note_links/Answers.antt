@@ -1,7 +1,16 @@
-use Rattle.std.proofs.Common.{◌∷◌, [], ◌++◌}
+use Rattle.std.proofs.Common.{arith, ◌∷◌, [], ◌++◌, inl, inr, refl}
 use Rattle.std.proofs.lemmas.Result.{err_from_is_err_and}
+use Rattle.ux_base.proofs.Lists.{nothing_in}
 use Rattle.ux_reading_table.proofs.PlacesLemmas.{adds_link, links_refused, ReadsLinks-more}
 use Rattle.ux_reading_table.proofs.sentences.NumberedSentences.note_links.Goals as goal
+
+pub loop-done-init : goal.loop-done-init
+loop-done-init c = record {
+  links = [];
+  noted = c.requires;
+  reads = record { many = refl; say = refl; passed = omega arith; told = refl; counted = refl };
+  adds = λ one. (λ has. inl has, λ has. elim has [ inl old ↦ old | inr new ↦ absurd (nothing_in new) ]);
+}
 
 pub loop-done-preserved : goal.loop-done-preserved
 loop-done-preserved c =
