@@ -4,13 +4,15 @@ use Rattle.std.specs.Prelude.{Err, IfNone, IfOk, IfSome, MatchOption, None, Ok, 
 use Rattle.std.proofs.lemmas.List.{take_more}
 use Rattle.std.proofs.lemmas.List.Elements.{Contains-append_left, Contains-push, Contains-push_cases}
 use Rattle.ux_base.proofs.Lists.{nothing_in, first_or_later, contains_first}
+use Rattle.ux_base.proofs.JoinedLists.{contained_mapped, contains_mapped}
 use Rattle.ux_subsets.specs.declared.automaton.Automaton.{Automaton}
 use Rattle.ux_subsets.specs.declared.automaton.Link as placed
 use Rattle.ux_subsets.specs.Paths as numbers
 use Rattle.ux_subsets.proofs.KeptLemmas.{left_normal}
 use Rattle.ux_elag.specs.declared.prepared_rule.PreparedRule.{PreparedRule}
 use Rattle.ux_elag.specs.Numbers.{IsKept}
-use Rattle.ux_elag.specs.Prepared.{SatisfiesAll, SatisfiesOne}
+use Rattle.ux_monitor.specs.Parts.{RulePart, SatisfiesPart, SatisfiesParts}
+use Rattle.ux_elag.specs.Prepared.{SatisfiesAll, SatisfiesOne, part_of, parts_in}
 
 -- what is left, and that nothing is, of one answer
 pub kept-of : {E : Type 0} (IsSo : List ℕ → Type 0) (last : ℕ) (links : List placed.Link)
@@ -137,3 +139,39 @@ next-kept rules rule i last links kept now lt is so_far here =
       ),
     ))
     (kept-then (SatisfiesAll (take i rules)) (SatisfiesOne rule) last links kept now so_far here))
+
+-- the rules side by side are satisfied where each of them is
+pub satisfies-parts : (rules : List PreparedRule) (word : List ℕ) →
+    SatisfiesParts (parts_in rules) word ↔ SatisfiesAll rules word
+satisfies-parts rules word = (
+  λ each rule has. each (part_of rule) (contains_mapped part_of rules rule has),
+  λ all part has.
+      let found = contained_mapped part_of rules part has in
+      subst (λ (p : RulePart). SatisfiesPart p word) found.2 (all found.0 found.1),
+)
+
+-- what is kept at once
+kept-at-once-of : (rules : List PreparedRule) (last : ℕ) (links : List placed.Link)
+    (answer : Option (Option Automaton)) → IfSome answer (λ kept. IfSome kept
+    (λ left. numbers.IsLeft (SatisfiesParts (parts_in rules)) last links left.last
+    left.links.items)) → IfSome answer (λ kept. IfNone kept ((word : List ℕ) →
+    numbers.Spells links 0 last word → SatisfiesParts (parts_in rules) word → ⊥)) →
+    IfSome answer (IsKept (SatisfiesAll rules) last links)
+kept-at-once-of rules last links None left nothing = tt
+kept-at-once-of rules last links (Some kept) left nothing =
+    kept-same (SatisfiesParts (parts_in rules)) (SatisfiesAll rules) last links kept
+    (satisfies-parts rules) (record { left = left; nothing = nothing })
+
+pub kept-at-once : (rules : List PreparedRule) (parts : List RulePart) (last : ℕ)
+    (links lent : List placed.Link) (answer : Option (Option Automaton)) →
+    parts ≡ parts_in rules → lent ≡ links → IfSome answer (λ kept. IfSome kept
+    (λ left. numbers.IsLeft (SatisfiesParts parts) last lent left.last left.links.items)) →
+    IfSome answer (λ kept. IfNone kept ((word : List ℕ) → numbers.Spells lent 0 last word →
+    SatisfiesParts parts word → ⊥)) → IfSome answer (IsKept (SatisfiesAll rules) last links)
+kept-at-once rules parts last links lent answer are is left nothing =
+    subst (λ (ls : List placed.Link). IfSome answer (IsKept (SatisfiesAll rules) last ls)) is
+    (kept-at-once-of rules last lent answer
+    (subst (λ (ps : List RulePart). IfSome answer (λ kept. IfSome kept
+    (λ left. numbers.IsLeft (SatisfiesParts ps) last lent left.last left.links.items))) are left)
+    (subst (λ (ps : List RulePart). IfSome answer (λ kept. IfNone kept ((word : List ℕ) →
+    numbers.Spells lent 0 last word → SatisfiesParts ps word → ⊥))) are nothing))

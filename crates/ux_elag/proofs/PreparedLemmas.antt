@@ -2,7 +2,7 @@
 use Rattle.std.proofs.Common.{arith, ◌≡◌, ℕ, suc, ◌+◌, ◌<◌, ◌≤◌, ◌^◌, List, [], ◌∷◌, ◌++◌, inl, inr, refl, sym, ◌∙◌, ap, subst, length, get_or, set, take, drop}
 use Rattle.std.specs.Prelude.{All, Option, map}
 use Rattle.std.specs.List.{AllZip}
-use Rattle.std.proofs.lemmas.List.{get_or-set_same, get_or-set_other}
+use Rattle.std.proofs.lemmas.List.{get_or-set_same, get_or-set_other, map-append, take_more}
 use Rattle.std.proofs.lemmas.List.Elements.{All-cons, All-head, All-nil, All-tail}
 use Rattle.std.proofs.lemmas.Option.{same_Some}
 use Rattle.std.proofs.Math.Seq.{take-append_seam}
@@ -19,12 +19,14 @@ use Rattle.ux_reading_table.specs.Numbered.{IsNumberedBy, IsTold}
 use Rattle.ux_reading_table.specs.declared.numbered.NumberedLink.{NumberedLink}
 use Rattle.ux_reading_table.specs.declared.numbered.NumberedSentence.{NumberedSentence}
 use Rattle.ux_subsets.specs.declared.automaton.Automaton.{Automaton}
+use Rattle.ux_monitor.specs.Monitors.{Monitored}
+use Rattle.ux_monitor.specs.Parts.{RulePart}
 use Rattle.ux_rules.specs.declared.step.Step.{Step}
 use Rattle.ux_rules.specs.Rules.{RuleSteps}
 use Rattle.ux_elag.specs.declared.prepared_rule.PreparedRule.{PreparedRule}
 use Rattle.ux_elag.specs.Left.{AreLeft, SatisfiesEach}
 use Rattle.ux_elag.specs.Numbers.{IsEmpty, IsFormed, IsKept, IsOrdered, IsPlaced, LeadsOn, sentence_of}
-use Rattle.ux_elag.specs.Prepared.{ArePrepared, HasText, IsFresh, IsPreparedFor, LeavesNumbered, Notes, Prepared, SatisfiesAll}
+use Rattle.ux_elag.specs.Prepared.{ArePrepared, HasText, IsFresh, IsPreparedFor, LeavesNumbered, Notes, Prepared, SatisfiesAll, part_of, parts_in}
 use Rattle.ux_elag.specs.Ready.{AreKinds, IsMonitorOf}
 use Rattle.ux_elag.proofs.KindsLemmas.{kinds-more, kinds-none}
 use Rattle.ux_elag.proofs.LeaveLemmas.{all-tell, empty-kept, left-below, left-keeps, named-spellable}
@@ -112,6 +114,34 @@ pub prepared-few : (texts : List (List ℕ)) (count : ℕ) (rules : List Prepare
     All (IsPreparedFor texts count) rules →
     All (λ (rule : PreparedRule). length rule.rule.steps < 2 ^ 32) rules
 prepared-few texts count rules each k d lt = (each k d lt).monitor.fit
+
+-- the parts of the rules' product have a kind for each reading
+pub parts-long : (texts : List (List ℕ)) (count : ℕ) (rules : List PreparedRule) →
+    All (IsPreparedFor texts count) rules →
+    All (λ (part : RulePart). count ≤ length part.of) (parts_in rules)
+parts-long texts count [] each = All-nil (λ (part : RulePart). count ≤ length part.of)
+parts-long texts count (rule ∷ rules) each =
+    let counted = (All-head (IsPreparedFor texts count) rule rules each).kinds.counted in
+    All-cons (λ (part : RulePart). count ≤ length part.of) (part_of rule) (parts_in rules)
+    (omega (arith, counted))
+    (parts-long texts count rules (All-tail (IsPreparedFor texts count) rule rules each))
+
+-- one more rule is a part
+pub parts-more : (rules : List PreparedRule) (i : ℕ) (rule : PreparedRule) (part : RulePart)
+    (parts more : List RulePart) → i < length rules → rule ≡ get_or rules i rule →
+    part.over ≡ rule.monitor → part.of ≡ rule.kinds.items → more ≡ parts ++ part ∷ [] →
+    parts ≡ parts_in (take i rules) → more ≡ parts_in (take (i + 1) rules)
+parts-more rules i rule part parts more lt is over of pushed so_far =
+    let by_over : Monitored → RulePart = λ m. record { over = m; of = part.of } in
+    let by_of : List ℕ → RulePart = λ ks. record { over = rule.monitor; of = ks } in
+    let same : part ≡ part_of rule = ap by_over over ∙ ap by_of of in
+    let front : take (i + 1) rules ≡ take i rules ++ rule ∷ [] =
+    take_more rules i rule lt ∙ ap (λ (r : PreparedRule). take i rules ++ r ∷ []) (sym is) in
+    pushed
+    ∙ (ap (λ (ps : List RulePart). ps ++ part ∷ []) so_far
+    ∙ (ap (λ (p : RulePart). parts_in (take i rules) ++ p ∷ []) same
+    ∙ (sym (map-append part_of (take i rules) (rule ∷ []))
+    ∙ ap (λ (rs : List PreparedRule). parts_in rs) (sym front))))
 
 -- what a slice of all items was, is what the list is then
 pub written-back : {A : Type 0} (items new : List A) (len : ℕ) → len ≡ length items →

@@ -1,12 +1,13 @@
 -- Rules that are prepared for the readings of a table. Public: the crate's public contracts speak
 -- of `Prepared` and `LeavesNumbered`.
-use Rattle.std.specs.Prelude.{◌≡◌, ℕ, ◌++◌, List, [], ◌∷◌, All, Contains, Some, length, slice_get}
+use Rattle.std.specs.Prelude.{◌≡◌, ℕ, ◌++◌, List, [], ◌∷◌, All, Contains, Some, length, map, slice_get}
 use Rattle.ux_sentence.specs.declared.sentence.Reading.{Reading}
 use Rattle.ux_sentence.specs.declared.sentence.Sentence.{Sentence}
 use Rattle.ux_sentence.specs.Readings.{IsSpellable}
 use Rattle.ux_sentence.specs.Valid.{HasSpellable}
 use Rattle.ux_sentence.specs.Written.{reading_text}
 use Rattle.ux_monitor.specs.Monitors.{AreMore, tests_of}
+use Rattle.ux_monitor.specs.Parts.{RulePart}
 use Rattle.ux_monitor.specs.Rules.{SatisfiesBy}
 use Rattle.ux_reading_table.specs.Numbered.{AreTexts, IsNumberedBy}
 use Rattle.ux_reading_table.specs.declared.numbered.NumberedSentence.{NumberedSentence}
@@ -66,3 +67,10 @@ SatisfiesOne rule word =
 -- the numbers of readings satisfy each of the rules
 abbrev pub SatisfiesAll : List PreparedRule → List ℕ → Type 0
 SatisfiesAll rules word = (rule : PreparedRule) → Contains rules rule → SatisfiesOne rule word
+
+-- the rule with its kinds, as a part of the rules' product
+abbrev pub part_of : PreparedRule → RulePart
+part_of rule = record { over = rule.monitor; of = rule.kinds.items }
+
+abbrev pub parts_in : List PreparedRule → List RulePart
+parts_in rules = map part_of rules

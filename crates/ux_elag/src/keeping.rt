@@ -6,13 +6,72 @@
 ghost use Rattle.std.specs.Prelude.{◌≡◌, ◌<◌, [], None, Option, IfOk, IfSome, MatchOption};
 ghost use Rattle.ux_subsets.specs.Paths.{IsAscending, IsNormal};
 ghost use Rattle.ux_elag.specs.Numbers.{IsKept};
-ghost use Rattle.ux_elag.specs.Prepared.{SatisfiesAll, SatisfiesOne};
+ghost use Rattle.ux_monitor.specs.Parts.{IsProductOf};
+ghost use Rattle.ux_elag.specs.Prepared.{SatisfiesAll, SatisfiesOne, parts_in};
 
 use crate::prepared_rule::PreparedRule;
 use std::alloc::Global;
 use ux_base::Mem;
-use ux_monitor::{Monitor, keep_satisfying, keep_satisfying_again};
+use ux_monitor::{
+    Monitor, Part, Product, keep_satisfying, keep_satisfying_again, keep_satisfying_each,
+};
 use ux_subsets::Automaton;
+
+/// What the rules keep of the source: all at once, or one after the other where that takes too many
+/// steps.
+pub(crate) fn keep(
+    alloc: Global,
+    product: &mut Product,
+    rules: &mut [PreparedRule],
+    source: Automaton,
+) -> Mem<Option<Automaton>>
+    requires some { 0 < source.last }
+    requires ascending { IsAscending source.last source.links.items }
+    requires product { IsProductOf (parts_in rules.old) product.old }
+    ensures same { rules.new ≡ rules.old }
+    ensures product { IsProductOf (parts_in rules.old) product.new }
+    ensures kept { IfOk result (IsKept (SatisfiesAll rules.old) source.last source.links.items) }
+{
+    match keep_at_once(alloc, product, rules, &source)? {
+        Some(kept) => Ok(kept),
+        None => keep_each(alloc, rules, source),
+    }
+}
+
+/// What the rules keep of the source, all at once. Nothing where that takes too many steps.
+fn keep_at_once(
+    alloc: Global,
+    product: &mut Product,
+    rules: &[PreparedRule],
+    source: &Automaton,
+) -> Mem<Option<Option<Automaton>>>
+    requires some { 0 < source.now.last }
+    requires ascending { IsAscending source.now.last source.now.links.items }
+    requires product { IsProductOf (parts_in rules.now) product.old }
+    ensures product { IsProductOf (parts_in rules.now) product.new }
+    ensures kept { IfOk result (λ answer. IfSome answer
+        (IsKept (SatisfiesAll rules.now) source.now.last source.now.links.items)) }
+{
+    let parts = parts_of(alloc, rules)?;
+    Ok(keep_satisfying_each(
+        alloc,
+        product,
+        parts.as_slice(),
+        source.links.as_slice(),
+        source.last,
+    ))
+}
+
+/// The rules as parts of their product.
+pub(crate) fn parts_of<'a>(alloc: Global, rules: &'a [PreparedRule]) -> Mem<Vec<Part<'a>>>
+    ensures { IfOk result (λ parts. parts.items ≡ parts_in rules.now) }
+{
+    let mut parts = Vec::with_capacity(alloc, rules.len())?;
+    for rule in rules {
+        parts.push(Part::new(&rule.monitor, rule.kinds.as_slice()))?;
+    }
+    Ok(parts)
+}
 
 /// What the rules keep of the source, one after the other. Without a rule all lists are kept.
 pub(crate) fn keep_each(

@@ -3,16 +3,17 @@
 //! The readings of a file are in a table, by number. For each rule and reading it is found out once
 //! which tests the reading passes; sentences are then told by numbers alone.
 
-ghost use Rattle.std.specs.Prelude.{◌≡◌, ◌<◌, ◌^◌, List, All, IfOk, OnOk, length};
+ghost use Rattle.std.specs.Prelude.{◌≡◌, ◌<◌, ◌≤◌, ◌^◌, List, All, IfOk, OnOk, length};
 ghost use Rattle.std.specs.List.{AllZip};
 ghost use Rattle.ux_sentence.specs.declared.sentence.Reading.{Reading as ReadingRecord};
 ghost use Rattle.ux_sentence.specs.declared.sentence.Sentence.{Sentence as SentenceRecord};
 ghost use Rattle.ux_sentence.specs.Paths.{IsWellFormed};
 ghost use Rattle.ux_sentence.specs.Valid.{HasSpellable};
 ghost use Rattle.ux_reading_table.specs.Numbered.{AreTexts, IsNumberedBy};
-ghost use Rattle.ux_elag.specs.Prepared.{HasText, IsFresh, LeavesNumbered, Notes};
+ghost use Rattle.ux_monitor.specs.Parts.{IsProductOf};
+ghost use Rattle.ux_elag.specs.Prepared.{HasText, IsFresh, LeavesNumbered, Notes, parts_in};
 
-use crate::keeping::keep_each;
+use crate::keeping::{keep, parts_of};
 use crate::naming::{ordered_sentence, without_states};
 use crate::placing::place_states;
 use crate::prepared_rule::PreparedRule;
@@ -20,6 +21,7 @@ use crate::ready::ReadyRule;
 use std::alloc::Global;
 use std::marker::Model;
 use ux_base::{Mem, Txt};
+use ux_monitor::Product;
 use ux_reading_table::{NumberedSentence, ReadingTable};
 use ux_sentence::Reading;
 
@@ -28,12 +30,14 @@ use ux_sentence::Reading;
 #[derive(Drop)]
 pub struct PreparedRules<'a> {
     rules: Vec<PreparedRule>,
+    product: Product,
     texts: &'a [Txt],
 }
 
 impl<'a> Model for PreparedRules<'a> {
     ghost use Rattle.std.specs.Prelude.{map};
-    ghost use Rattle.ux_elag.specs.Prepared.{ArePrepared, Prepared};
+    ghost use Rattle.ux_monitor.specs.Parts.{IsProductOf};
+    ghost use Rattle.ux_elag.specs.Prepared.{ArePrepared, Prepared, parts_in};
 
     ghost Value = { Prepared };
 
@@ -42,7 +46,8 @@ impl<'a> Model for PreparedRules<'a> {
       texts = prepared.texts.now;
     } };
 
-    ghost invariant = { λ prepared. ArePrepared prepared.texts.now prepared.rules.items };
+    ghost invariant = { λ prepared. ArePrepared prepared.texts.now prepared.rules.items
+        × IsProductOf (parts_in prepared.rules.items) prepared.product };
 }
 
 impl<'a> PreparedRules<'a> {
@@ -62,8 +67,10 @@ impl<'a> PreparedRules<'a> {
         for number in 0..texts.len() {
             note_number(alloc, prepared.as_mut_slice(), table, number)?;
         }
+        let product = product_of(alloc, prepared.as_slice(), texts.len())?;
         Ok(PreparedRules {
             rules: prepared,
+            product,
             texts,
         })
     }
@@ -84,7 +91,7 @@ impl<'a> PreparedRules<'a> {
             return Ok(without_states(alloc, sentence.number));
         }
         let source = place_states(alloc, sentence)?;
-        let kept = keep_each(alloc, self.rules.as_mut_slice(), source)?;
+        let kept = keep(alloc, &mut self.product, self.rules.as_mut_slice(), source)?;
         ordered_sentence(alloc, sentence.number, kept, self.texts)
     }
 
@@ -94,6 +101,15 @@ impl<'a> PreparedRules<'a> {
     {
         self.texts
     }
+}
+
+/// The product of the rules, over the readings with the first so many numbers.
+fn product_of(alloc: Global, rules: &[PreparedRule], count: usize) -> Mem<Product>
+    requires { All (λ part. count ≤ length part.of) (parts_in rules.now) }
+    ensures { IfOk result (IsProductOf (parts_in rules.now)) }
+{
+    let parts = parts_of(alloc, rules)?;
+    Product::of(alloc, parts.as_slice(), count)
 }
 
 /// The rules, with no kind yet.

@@ -13,3 +13,5 @@ pub mod NumberingLemmas
 pub mod MemoryLemmas
 pub mod NamingLemmas
 pub mod KeepingLemmas
+pub mod PartsLemmas
+pub mod ProductLemmas

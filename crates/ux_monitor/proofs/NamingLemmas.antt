@@ -59,7 +59,7 @@ split_same (x ∷ a) (y ∷ b) c d len e =
     let s = split_same a b c d (omega (arith, len)) rest in
     (ap (λ (z : ℕ). z ∷ a) head ∙ ap (λ (zs : List ℕ). y ∷ zs) s.0, s.1)
 
-same_joined : (xs ys : List (List ℕ)) → joined xs ≡ joined ys → xs ≡ ys
+pub same_joined : (xs ys : List (List ℕ)) → joined xs ≡ joined ys → xs ≡ ys
 same_joined [] [] e = refl
 same_joined [] (y ∷ ys) e = cc
 same_joined (x ∷ xs) [] e = cc

@@ -8,3 +8,4 @@ pub mod Numbers
 pub mod Monitors
 pub mod Remembering
 pub mod Naming
+pub mod Parts

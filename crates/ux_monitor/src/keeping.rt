@@ -207,7 +207,7 @@ impl<'a> Machine for Watch<'a> {
 }
 
 /// The number of the reading's kind, if it has one.
-fn kind_in(kinds: &[Vec<u32>], of: &[usize], reading: u32) -> Option<usize>
+pub(crate) fn kind_in(kinds: &[Vec<u32>], of: &[usize], reading: u32) -> Option<usize>
     ensures known { IfSome result (λ kind. kind < length kinds.now) }
     ensures some { IfSome result (λ kind. kind_at (tests_of (kinds_in kinds.now) of.now) reading
         ≡ kind_at (kinds_in kinds.now) kind) }

@@ -36,16 +36,21 @@
 //! `keep_satisfying_again` takes such an answer, and gives it back where all of it satisfies.
 #![tactic(auto)]
 
+pub mod joint;
 pub mod keeping;
 pub mod memory;
 pub mod monitor;
 pub mod moving;
 pub mod owing;
+pub mod part;
 pub mod places;
+pub mod product;
 pub mod rule;
 pub mod steps;
 pub mod watching;
 
 pub use keeping::{keep_satisfying, keep_satisfying_again};
 pub use monitor::Monitor;
+pub use part::Part;
+pub use product::{Product, keep_satisfying_each};
 pub use rule::{Sign, Step};

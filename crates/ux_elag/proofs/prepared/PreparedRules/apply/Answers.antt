@@ -28,7 +28,7 @@ returns-clause-left c =
     source.links.items c.in_ok-kept.kept) c.as_mut_slice.ensures.value c.in_ok-kept.ensures.kept in
     IfOk-weaker c.ordered_sentence.result _ _ (λ new ordered old stands spellable.
     subst (λ (p : Prepared). LeavesNumbered p old new) c.self.view_is
-    (prepared-leaves texts rules c.self.invariant c.args.sentence.now new source c.in_ok-kept.kept
+    (prepared-leaves texts rules c.self.invariant.0 c.args.sentence.now new source c.in_ok-kept.kept
     some c.in_ok-source.ensures kept ordered old
     (subst (λ (p : Prepared). IsNumberedBy p.texts old c.args.sentence.now) (sym c.self.view_is)
     stands)

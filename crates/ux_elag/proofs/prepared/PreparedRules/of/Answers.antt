@@ -1,10 +1,11 @@
-use Rattle.std.proofs.Common.{ℕ, List, ◌≡◌, ◌+◌, ◌∙◌, arith, ap, sym, subst, length}
+use Rattle.std.proofs.Common.{ℕ, List, ◌≡◌, ◌+◌, ◌≤◌, ◌∙◌, arith, ap, sym, subst, length}
 use Rattle.std.specs.Prelude.{All}
 use Rattle.std.specs.List.{AllZip}
 use Rattle.std.proofs.lemmas.List.Elements.{length_all_zip}
 use Rattle.ux_elag.specs.declared.prepared_rule.PreparedRule.{PreparedRule}
-use Rattle.ux_elag.specs.Prepared.{ArePrepared, IsPreparedFor, Notes}
-use Rattle.ux_elag.proofs.PreparedLemmas.{fresh-prepared, noted-prepared, rules_of, written-back}
+use Rattle.ux_monitor.specs.Parts.{IsProductOf, RulePart}
+use Rattle.ux_elag.specs.Prepared.{ArePrepared, IsPreparedFor, Notes, parts_in}
+use Rattle.ux_elag.proofs.PreparedLemmas.{fresh-prepared, noted-prepared, parts-long, rules_of, written-back}
 use Rattle.ux_elag.proofs.prepared.PreparedRules.of.Goals as goal
 
 pub loop-number-init : goal.loop-number-init
@@ -33,14 +34,30 @@ loop-number-preserved c =
       each = subst (All (IsPreparedFor texts (c.loop-number.number + 1))) (sym is) found.1;
     }
 
+pub product_of-requires : goal.product_of-requires
+product_of-requires c =
+    let same = c.texts-texts.ensures in
+    let all : c.loop-number.number ≡ length c.args.table.now =
+    let long = ap length same in omega (arith, long) in
+    let len = ap length same in
+    subst (λ (rs : List PreparedRule). All (λ (part : RulePart). length c.texts-texts.result.now ≤ length part.of)
+    (parts_in rs)) (sym c.as_slice.ensures.value)
+    (subst (λ (n : ℕ). All (λ (part : RulePart). n ≤ length part.of)
+    (parts_in c.loop-number.prepared.items)) (all ∙ sym len)
+    (parts-long c.args.table.now c.loop-number.number c.loop-number.prepared.items
+    c.loop-number.invariant.each))
+
 pub invariant_of-result : goal.invariant_of-result
 invariant_of-result c =
     let rules = c.loop-number.prepared.items in
     let same = c.texts-texts.ensures in
     let all : c.loop-number.number ≡ length c.args.table.now =
-    let long = ap length same in omega (arith, long) in
-    subst (λ (ts : List (List ℕ)). ArePrepared ts rules) (sym same) (record {
-      are_texts = c.requires;
-      each = subst (λ (n : ℕ). All (IsPreparedFor c.args.table.now n) rules) all
-          c.loop-number.invariant.each;
-    })
+    let long = ap length same in omega (arith, long) in (
+      subst (λ (ts : List (List ℕ)). ArePrepared ts rules) (sym same) (record {
+        are_texts = c.requires;
+        each = subst (λ (n : ℕ). All (IsPreparedFor c.args.table.now n) rules) all
+            c.loop-number.invariant.each;
+      }),
+      subst (λ (rs : List PreparedRule). IsProductOf (parts_in rs) c.in_ok-product.product)
+          c.as_slice.ensures.value c.in_ok-product.ensures,
+    )
