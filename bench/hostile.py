@@ -470,6 +470,27 @@ def contexts_closed_in_all_states(n):
                      + ["t"] * n], ["%$![", "%$]", "%a"])
 
 
+# Texts rewritten.
+
+
+@case("cascade", 1 << 12)
+def a_text_that_doubles(n):
+    """a word that becomes n words, in rounds that each double them"""
+    return text("a"), letters(), f"replace{round(math.log2(n))}:{drawn(('a/a a', [1]))}"
+
+
+@case("cascade", 500)
+def rounds_that_add_a_sign(n):
+    """99 rounds that each put a sign before n others"""
+    return text("." * n), letters(), f"merge99:{drawn(('./-', [1]))}"
+
+
+@case("cascade", 100)
+def many_steps(n):
+    """n steps over a thousand words"""
+    return (text("a " * 1_000), letters(), *[f"replace:{drawn(('a/b', [1]))}"] * n)
+
+
 # Grammars flattened.
 
 

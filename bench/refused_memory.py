@@ -91,6 +91,7 @@ ROWS = [
     (*SEARCH, "d.udi"),
     ("locate", "--mode", "merge", "g.fst2", "t.txt", "a.txt", "d.dic"),
     ("concord", "g.grf", "t.txt", "a.txt", "d.dic"),
+    ("cascade", "--trace", "t.txt", "a.txt", "merge2:g.grf", "dic:d.dic"),
     ("tokenize", "t.txt", "a.txt"),
     ("check", "d.dic"),
     ("check", "d.udi"),

@@ -29,6 +29,18 @@ usage: unitex COMMAND ARGUMENTS
     --sort KEYS                LC, LR, CL, CR, RL or RC: by the text before it
                                (L), the hit (C), the text after it (R); TO by
                                place (default)
+  cascade TEXT ALPHABET STEP..
+                               reads a text, its letters and the files of the
+                               steps, writes the text with the longest hits of
+                               one grammar after the other rewritten
+    merge:GRAPH                a step: outputs are put among the tokens of a hit
+    replace:GRAPH              a step: outputs stand in place of the tokens
+    merge9:GRAPH, replace9:GRAPH
+                               the step nine times, 1 to 99 are allowed
+    dic:DIC                    a dictionary for all steps
+    --trace                    before the text a line for each round up to the
+                               first of its step that changes nothing: the
+                               step, its round, how many hits were rewritten
   tokenize TEXT ALPHABET       reads a text and its letters, writes its tokens
     --chars                    each letter is a token of its own
   check DIC                    reads a dictionary of forms, writes how many

@@ -120,10 +120,25 @@ stopped_by_memory n old new status denies = by denies.by denies.halts denies.is
     by (stop.Refused name reason) memory is = absurd memory
     by stop.NoMemory memory is = is
 
+-- a text is rewritten by steps, and dictionaries count for them
+a_cascade : IsAsked (asked_by (codes "cascade" ∷ codes "--trace" ∷ codes "t.txt" ∷ codes "a.txt"
+    ∷ codes "dic:d.dic" ∷ codes "merge:g.grf" ∷ codes "replace12:h.fst2" ∷ []))
+a_cascade = tt
+
+-- there has to be a step that rewrites
+no_step : IsAsked (asked_by (codes "cascade" ∷ codes "t.txt" ∷ codes "a.txt"
+    ∷ codes "dic:d.dic" ∷ [])) → ⊥
+no_step is = is
+
+-- and each is applied once at least
+never_applied : IsAsked (asked_by (codes "cascade" ∷ codes "t.txt" ∷ codes "a.txt"
+    ∷ codes "merge0:g.grf" ∷ [])) → ⊥
+never_applied is = is
+
 -- the last commands are read, and not built
-a_cascade : IsAsked (asked_by (codes "cascade" ∷ codes "t.txt" ∷ codes "a.txt"
-    ∷ codes "merge:g.grf" ∷ [])) → ⊥
-a_cascade is = is
+a_search_of_sentences : IsAsked (asked_by (codes "tfind" ∷ codes "g.grf" ∷ codes "t.tfst"
+    ∷ codes "a.txt" ∷ [])) → ⊥
+a_search_of_sentences is = is
 
 some_help : IsAsked (asked_by (codes "--help" ∷ []))
 some_help = tt

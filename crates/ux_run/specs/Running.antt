@@ -18,6 +18,7 @@ use Rattle.ux_command_line.specs.declared.request.Request.TheVariants.{Locate, C
 use Rattle.ux_command_line.specs.declared.request.Search.{Search}
 use Rattle.ux_cmd_locate.specs.Locate.{locate}
 use Rattle.ux_cmd_concord.specs.Concord.{concord}
+use Rattle.ux_cmd_cascade.specs.Cascade.{cascade}
 use Rattle.ux_cmd_tokenize.specs.Tokenize.{tokenize}
 use Rattle.ux_cmd_check.specs.Check.{check_entries, check_stems}
 use Rattle.ux_cmd_compress.specs.Compress.{compress}
@@ -65,6 +66,7 @@ concordance_command search left right sort =
 abbrev pub asked_of : Request → Asked
 asked_of (Locate search) = asks (index_command search)
 asked_of (Concord search left right sort) = asks (concordance_command search left right sort)
+asked_of (Cascade text alphabet steps dics trace) = asks (cascade text alphabet steps dics trace)
 asked_of (Tokenize text alphabet chars) = asks (tokenize text alphabet chars)
 asked_of (Check false file) = asks (check_entries file)
 asked_of (Check true file) = asks (check_stems file)
@@ -78,7 +80,6 @@ asked_of (Elag tfst rules) = asks (elag tfst rules)
 asked_of (Bench n) = asks (unread_command (IsSummaryOf n))
 asked_of Help = asks (text_command HELP.now)
 asked_of Version = asks (text_command VERSION.now)
-asked_of (Cascade text alphabet steps dics trace) = nothing
 asked_of (Tfind graph tfst alphabet) = nothing
 asked_of (Morpho graph text alphabet dics) = nothing
 

@@ -11,6 +11,7 @@ use crate::stops::by_command;
 use std::alloc::Global;
 use ux_base::{Folder, Sort};
 use ux_cmd_bench::bench;
+use ux_cmd_cascade::cascade;
 use ux_cmd_check::{check_entries, check_stems};
 use ux_cmd_compress::compress;
 use ux_cmd_concord::{Layout, concord};
@@ -91,12 +92,21 @@ pub fn answer_to<F: Folder>(
         Request::Elag { tfst, rules } => {
             by_command(elag(alloc, tfst.as_str(), rules.as_slice(), folder))
         }
+        Request::Cascade {
+            text,
+            alphabet,
+            steps,
+            dics,
+            trace,
+        } => {
+            let (text, alphabet) = (text.as_str(), alphabet.as_str());
+            let (steps, dics) = (steps.as_slice(), dics.as_slice());
+            by_command(cascade(alloc, text, alphabet, steps, dics, *trace, folder))
+        }
         Request::Bench { n } => summary_of(alloc, *n),
         Request::Help => text_of(alloc, HELP),
         Request::Version => text_of(alloc, VERSION),
-        Request::Cascade { .. } | Request::Tfind { .. } | Request::Morpho { .. } => Err(
-            Status::Usage,
-        ),
+        Request::Tfind { .. } | Request::Morpho { .. } => Err(Status::Usage),
     }
 }
 

@@ -64,6 +64,15 @@ type Row = (&'static [&'static str], &'static str);
 
 const SEARCH: &[&str] = &["locate", "m.grf", "t.txt", "a.txt", "d.dic", "e.dic"];
 
+const CASCADE: &[&str] = &[
+    "cascade",
+    "t.txt",
+    "a.txt",
+    "dic:d.dic",
+    "merge:m.grf",
+    "dic:e.dic",
+];
+
 const TOKENS: &[&str] = &["tokenize", "t.txt", "a.txt"];
 
 const CHECK: &[&str] = &["check", "d.dic"];
@@ -98,6 +107,12 @@ const ROWS: &[Row] = &[
     (SEARCH, "t.txt"),
     (SEARCH, "d.dic"),
     (SEARCH, "e.dic"),
+    (CASCADE, "a.txt"),
+    (CASCADE, "m.grf"),
+    (CASCADE, "g.grf"),
+    (CASCADE, "t.txt"),
+    (CASCADE, "d.dic"),
+    (CASCADE, "e.dic"),
     (TOKENS, "a.txt"),
     (TOKENS, "t.txt"),
     (CHECK, "d.dic"),

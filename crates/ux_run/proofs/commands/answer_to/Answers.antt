@@ -1,6 +1,7 @@
 use Rattle.std.proofs.Common.{◌≡◌}
 use Rattle.ux_command_line.specs.declared.help.TheConstants.{HELP, VERSION}
 use Rattle.ux_cmd_bench.specs.Bench.{IsSummaryOf}
+use Rattle.ux_cmd_cascade.specs.Cascade.{cascade}
 use Rattle.ux_cmd_dico.specs.Dico.{dico}
 use Rattle.ux_cmd_txt2tfst.specs.Tfst.{txt2tfst}
 use Rattle.ux_run.proofs.Ending.{told_answers, told_denies, unread_answers, unread_denies}
@@ -46,6 +47,27 @@ returns-in-Tfst-clause-err g c =
     c.txt2tfst.ensures.err in
     rw r.is (told_denies (txt2tfst r.text r.alphabet r.dics r.chars) c.txt2tfst.result called.result
     called.ensures (seen c.args.folder.now) (seen c.txt2tfst.new.folder) halts)
+
+-- the steps of the cascade too
+pub returns-in-Cascade-clause-ok : goal.returns-in-Cascade-clause-ok
+returns-in-Cascade-clause-ok g c =
+    let r = c.in-Cascade in
+    let called = c.by_command-in-Cascade in
+    let files = (g.F.Folder.seen c.args.folder.now).files in
+    let answers = rw (c.as_str-text-in-Cascade.ensures, c.as_str-alphabet-in-Cascade.ensures, c.as_slice-steps.ensures, c.as_slice-dics.ensures) at
+    c.cascade.ensures.ok in
+    rw r.is (told_answers (cascade r.text r.alphabet r.steps r.dics r.trace) c.cascade.result
+    called.result called.ensures files answers)
+
+pub returns-in-Cascade-clause-err : goal.returns-in-Cascade-clause-err
+returns-in-Cascade-clause-err g c =
+    let r = c.in-Cascade in
+    let called = c.by_command-in-Cascade in
+    let seen = g.F.Folder.seen in
+    let halts = rw (c.as_str-text-in-Cascade.ensures, c.as_str-alphabet-in-Cascade.ensures, c.as_slice-steps.ensures, c.as_slice-dics.ensures) at
+    c.cascade.ensures.err in
+    rw r.is (told_denies (cascade r.text r.alphabet r.steps r.dics r.trace) c.cascade.result
+    called.result called.ensures (seen c.args.folder.now) (seen c.cascade.new.folder) halts)
 
 pub returns-in-Help-clause-ok : goal.returns-in-Help-clause-ok
 returns-in-Help-clause-ok g c =

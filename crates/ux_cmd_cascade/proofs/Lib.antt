@@ -1,0 +1,3 @@
+pub mod AnsweringLemmas
+pub mod HitsLemmas
+pub mod ReadingLemmas

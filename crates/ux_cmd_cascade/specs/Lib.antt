@@ -1,0 +1,9 @@
+pub mod Reading
+pub mod Files
+pub mod Finding
+pub mod OneList
+pub mod Answering
+pub mod ByNets
+pub mod Testing
+pub mod Laws
+pub mod Cascade
