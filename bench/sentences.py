@@ -259,7 +259,7 @@ def main():
     prepare()
     for name in ["lt-comp", "lt-proc", "vislcg3"]:
         if which(name) is None:
-            sys.exit(f"{name} isn't there: Debian's packages lttoolbox and cg3")
+            sys.exit(f"{name} isn't there: Debian's packages lttoolbox, lttoolbox-dev and cg3")
     with open(path("letters.txt"), "w", encoding="utf-8") as file:
         file.write(ALPHABET)
     apart(write)
