@@ -21,12 +21,14 @@
 //! bits, and more sets are want of memory.
 //!
 //! A pass sorts the links, in a step each where they are in order. A set takes a step for each link
-//! that leaves it, and for each reading a step of the machine and a comparison with the sets of the same
-//! least state, or a look-up where there are more than eight; where a set has several states, their links are put into one
-//! list and sorted. Beside the source's links and its own, 12 bytes each, a pass holds 8 bytes a link
-//! of the source, 28 a state, and the sets that are kept; the second pass takes the first one's links
-//! and turns them in place. There may be exponentially many sets; there are as many as states, or few
-//! more, where the lists nearly tell the state, as in the automaton of a sentence.
+//! that leaves it, and for each reading a step of the machine and a comparison with the sets of the
+//! same least state, or a look-up where there are more than 32; where a set has several states,
+//! their links are put into one list and sorted. Beside the source's links and its own, 12 bytes
+//! each, a pass holds 8 bytes a link of the source, 4 a state, the sets that are kept, and 24 a state
+//! between the one that is due and the farthest to which a link leads so far; the second pass takes
+//! the first one's links and turns them in place. There may be exponentially many sets; there are as
+//! many as states, or few more, where the lists nearly tell the state, as in the automaton of a
+//! sentence.
 //!
 //! `apply_again` takes an answer of `apply`, as where rules are applied in turn. Where the machine
 //! leaves all of it, that is found in the first pass, and the answer is the automaton itself.

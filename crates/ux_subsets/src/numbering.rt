@@ -14,7 +14,7 @@ use std::alloc::{AllocError, Global};
 use ux_base::Mem;
 
 /// So many sets are compared with each other. Where there may be more, they are looked up.
-const FEW: usize = 8;
+const FEW: usize = 32;
 
 /// Gives the sets that are due numbers, and adds the links to them. The numbers are places in the
 /// answer, counted on from `base`.

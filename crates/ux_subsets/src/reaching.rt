@@ -8,13 +8,13 @@
 ghost use Rattle.std.specs.Prelude.{ℕ, ◌≡◌, ◌+◌, ◌<◌, ◌++◌, List, [], length, IfOk, OnOk};
 ghost use Rattle.ux_subsets.specs.declared.automaton.Link.{Link};
 ghost use Rattle.ux_subsets.specs.declared.sets.Set.{Set};
-ghost use Rattle.ux_subsets.specs.Rows.{row_at};
+ghost use Rattle.ux_subsets.specs.Agenda.{filed_in};
 ghost use Rattle.ux_subsets.specs.Paths.{IsAscending};
 ghost use Rattle.ux_subsets.specs.Machines.{Grows};
 ghost use Rattle.ux_subsets.specs.Departures.{AreByStart};
 ghost use Rattle.ux_subsets.specs.Building.{states_of, states_at, seen_at, IsStage, IsReached, IsClosed};
 
-use crate::agenda::{file, take};
+use crate::agenda::Agenda;
 use crate::automaton::{Automaton, Link, narrowed, number_behind};
 use crate::departures::{Departures, by_start};
 use crate::expanding::{are_both, expand};
@@ -59,7 +59,7 @@ pub(crate) fn reach<M: Machine>(
     let table = by_start(alloc, source, end)?;
     let seen = machine.begin(alloc)?;
     let first = first_set(alloc, seen);
-    let mut agenda = Vec::new(alloc);
+    let mut agenda = Agenda::new(alloc);
     let mut waiting = Vec::new(alloc);
     let mut links = Vec::with_capacity(alloc, size)?;
     let mut overs = Vec::new(alloc);
@@ -100,20 +100,21 @@ fn all_states<M: Machine>(
     machine: &mut M,
     table: &Departures,
     last: u32,
-    agenda: &mut Vec<Vec<Waiting>>,
+    agenda: &mut Agenda,
     waiting: &mut Vec<Waiting>,
     links: &mut Vec<Link>,
     overs: &mut Vec<Over>,
     begun: Progress,
 ) -> Mem<Progress>
-    requires { 0 < last }
+    requires some { 0 < last }
+    requires due { agenda.now.due ≡ 1 }
     ensures grows { OnOk result (Grows (M.stands machine.old) (M.stands machine.new) (M.satisfies
         machine.old) (M.satisfies machine.new)) }
     ensures reached { IfOk result (λ now. (source : List Link) (sets : List Set) (border : ℕ) →
         AreByStart source table.now.steps.items table.now.starts.items → IsAscending last source →
         begun.count ≡ length sets → waiting.old.items ≡ [] →
         IsStage (M.stands machine.old) (M.satisfies machine.old) last source sets links.old.items
-        overs.old.items [] (row_at agenda.old.items) (length sets) border 0 begun.all →
+        overs.old.items [] (filed_in agenda.old) (length sets) border 0 begun.all →
         (found : List Set) × IsReached (M.stands machine.new) (M.satisfies machine.new) last source
         found links.new.items overs.new.items now.count now.all) }
 {
@@ -133,24 +134,26 @@ fn one_state<M: Machine>(
     table: &Departures,
     state: u32,
     last: u32,
-    agenda: &mut Vec<Vec<Waiting>>,
+    agenda: &mut Agenda,
     waiting: &mut Vec<Waiting>,
     links: &mut Vec<Link>,
     overs: &mut Vec<Over>,
     so_far: Progress,
 ) -> Mem<Progress>
+    requires { agenda.now.due ≡ state }
+    ensures due { OnOk result (agenda.new.due ≡ state + 1) }
     ensures grows { OnOk result (Grows (M.stands machine.old) (M.stands machine.new) (M.satisfies
         machine.old) (M.satisfies machine.new)) }
     ensures staged { IfOk result (λ now. (source : List Link) (sets : List Set) (border done : ℕ) →
         AreByStart source table.now.steps.items table.now.starts.items → IsAscending last source →
         state ≡ done + 1 → so_far.count ≡ length sets → waiting.old.items ≡ [] →
         IsStage (M.stands machine.old) (M.satisfies machine.old) last source sets links.old.items
-        overs.old.items [] (row_at agenda.old.items) (length sets) border done so_far.all →
+        overs.old.items [] (filed_in agenda.old) (length sets) border done so_far.all →
         (waiting.new.items ≡ []) × ((found : List Set) × (now.count ≡ length found) ×
         IsStage (M.stands machine.new) (M.satisfies machine.new) last source found links.new.items
-        overs.new.items [] (row_at agenda.new.items) (length found) (length sets) state now.all)) }
+        overs.new.items [] (filed_in agenda.new) (length found) (length sets) state now.all)) }
 {
-    let due = take(alloc, agenda, state);
+    let due = agenda.take(alloc, state);
     let sets = numbered(alloc, so_far.count, links, due)?;
     let all = all_sets(
         alloc,
@@ -177,21 +180,22 @@ fn all_sets<M: Machine>(
     sets: &[Set],
     base: u32,
     last: u32,
-    agenda: &mut Vec<Vec<Waiting>>,
+    agenda: &mut Agenda,
     waiting: &mut Vec<Waiting>,
     overs: &mut Vec<Over>,
     all: bool,
 ) -> Mem<bool>
+    ensures due { OnOk result (agenda.new.due ≡ agenda.old.due) }
     ensures grows { OnOk result (Grows (M.stands machine.old) (M.stands machine.new) (M.satisfies
         machine.old) (M.satisfies machine.new)) }
     ensures staged { IfOk result (λ now. (source : List Link) (before : List Set)
         (links : List Link) (state : ℕ) →
         AreByStart source table.now.steps.items table.now.starts.items → IsAscending last source →
-        base ≡ length before → waiting.old.items ≡ [] →
+        base ≡ length before → waiting.old.items ≡ [] → agenda.old.due ≡ state + 1 →
         IsStage (M.stands machine.old) (M.satisfies machine.old) last source (before ++ sets.now)
-        links overs.old.items [] (row_at agenda.old.items) base base state all →
+        links overs.old.items [] (filed_in agenda.old) base base state all →
         (waiting.new.items ≡ []) × IsStage (M.stands machine.new) (M.satisfies machine.new) last
-        source (before ++ sets.now) links overs.new.items [] (row_at agenda.new.items)
+        source (before ++ sets.now) links overs.new.items [] (filed_in agenda.new)
         (base + length sets.now) base state now) }
 {
     let mut now = all;
@@ -221,27 +225,28 @@ fn one_set<M: Machine>(
     set: &Set,
     number: u32,
     last: u32,
-    agenda: &mut Vec<Vec<Waiting>>,
+    agenda: &mut Agenda,
     waiting: &mut Vec<Waiting>,
     overs: &mut Vec<Over>,
     all: bool,
 ) -> Mem<bool>
+    ensures due { OnOk result (agenda.new.due ≡ agenda.old.due) }
     ensures grows { OnOk result (Grows (M.stands machine.old) (M.stands machine.new) (M.satisfies
         machine.old) (M.satisfies machine.new)) }
     ensures staged { IfOk result (λ now. (source : List Link) (sets : List Set)
         (links : List Link) (border state : ℕ) →
         AreByStart source table.now.steps.items table.now.starts.items → IsAscending last source →
         states_at sets number ≡ states_of set.now → seen_at sets number ≡ set.now.seen →
-        number < length sets → waiting.old.items ≡ [] →
+        number < length sets → waiting.old.items ≡ [] → agenda.old.due ≡ state + 1 →
         IsStage (M.stands machine.old) (M.satisfies machine.old) last source sets links
-        overs.old.items [] (row_at agenda.old.items) number border state all →
+        overs.old.items [] (filed_in agenda.old) number border state all →
         (waiting.new.items ≡ []) × IsStage (M.stands machine.new) (M.satisfies machine.new) last
-        source sets links overs.new.items [] (row_at agenda.new.items) (number + 1) border state now) }
+        source sets links overs.new.items [] (filed_in agenda.new) (number + 1) border state now) }
 {
     let is_kept = expand(alloc, machine, table, set, number, last, waiting, overs)?;
     let now = are_both(all, is_kept);
     while let Some(one) = waiting.pop() {
-        file(alloc, agenda, one)?;
+        agenda.file(alloc, one)?;
     }
     Ok(now)
 }

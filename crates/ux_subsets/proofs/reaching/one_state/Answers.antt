@@ -1,7 +1,7 @@
 use Rattle.std.proofs.Common.{arith, ℕ, List, [], ◌++◌, ◌≡◌, ◌+◌, sym, subst, length, length-append}
 use Rattle.std.proofs.lemmas.List.{append-nil}
 use Rattle.ux_subsets.specs.declared.sets.Set.{Set}
-use Rattle.ux_subsets.specs.Rows.{row_at}
+use Rattle.ux_subsets.specs.Agenda.{filed_in}
 use Rattle.ux_subsets.specs.Building.{IsStage, ArePlaced}
 use Rattle.ux_subsets.proofs.NumberingLemmas.{all_placed}
 use Rattle.ux_subsets.proofs.StagesLemmas.{due_here, stage_taken}
@@ -19,10 +19,10 @@ returns-clause-staged g c = λ source before border done start up next counted n
     let links = c.numbered.new.links.items in
     let overs = c.args.overs.now.items in
     let due = c.take-due.result.items in
-    let was = row_at c.args.agenda.now.items in
-    let filed = row_at c.take-due.new.agenda.items in
+    let was = filed_in c.args.agenda.now in
+    let filed = filed_in c.take-due.new.self in
     let so = c.args.so_far in
-    let taken = c.take-due.ensures in
+    let taken = c.take-due.ensures.taken in
     let begun : IsStage S0 T0 last source (before ++ []) c.args.links.now.items overs due filed (length before) (length before) state so.all =
     subst (λ (xs : List Set). IsStage S0 T0 last source xs c.args.links.now.items overs due filed (length before) (length before) state so.all) (sym (append-nil before))
     (stage_taken last source before c.args.links.now.items overs due was filed border done state so.all next taken s) in
@@ -32,8 +32,8 @@ returns-clause-staged g c = λ source before border done start up next counted n
     let slice = c.as_slice.ensures.value in
     let ready = subst (λ (xs : List Set). IsStage S0 T0 last source (before ++ xs) links overs [] filed so.count so.count state so.all) (sym slice)
     (subst (λ (k : ℕ). IsStage S0 T0 last source (before ++ sets) links overs [] filed k k state so.all) (sym counted) all) in
-    let over = c.in_ok-all.ensures.staged source before links state start up counted none ready in
-    let given = subst (λ (xs : List Set). IsStage S1 T1 last source (before ++ xs) links c.all_sets.new.overs.items [] (row_at c.all_sets.new.agenda.items) (so.count + length xs) so.count state c.in_ok-all.all) slice over.1 in
+    let over = c.in_ok-all.ensures.staged source before links state start up counted none c.take-due.ensures.due ready in
+    let given = subst (λ (xs : List Set). IsStage S1 T1 last source (before ++ xs) links c.all_sets.new.overs.items [] (filed_in c.all_sets.new.agenda) (so.count + length xs) so.count state c.in_ok-all.all) slice over.1 in
     let len = length-append before sets in
     let whole : so.count + length sets ≡ length (before ++ sets) = omega (arith, len, counted) in
     let count = c.in_ok-count.ensures in (
@@ -41,7 +41,7 @@ returns-clause-staged g c = λ source before border done start up next counted n
       (
         before ++ sets,
         omega (arith, count, whole),
-        subst (λ (k : ℕ). IsStage S1 T1 last source (before ++ sets) links c.all_sets.new.overs.items [] (row_at c.all_sets.new.agenda.items) (length (before ++ sets)) k state c.in_ok-all.all) counted
-            (subst (λ (n : ℕ). IsStage S1 T1 last source (before ++ sets) links c.all_sets.new.overs.items [] (row_at c.all_sets.new.agenda.items) n so.count state c.in_ok-all.all) whole given),
+        subst (λ (k : ℕ). IsStage S1 T1 last source (before ++ sets) links c.all_sets.new.overs.items [] (filed_in c.all_sets.new.agenda) (length (before ++ sets)) k state c.in_ok-all.all) counted
+            (subst (λ (n : ℕ). IsStage S1 T1 last source (before ++ sets) links c.all_sets.new.overs.items [] (filed_in c.all_sets.new.agenda) n so.count state c.in_ok-all.all) whole given),
       ),
     )
