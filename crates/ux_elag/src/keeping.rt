@@ -1,7 +1,9 @@
-//! What is kept of links between places, rule by rule.
+//! What is kept of links between places.
 //!
-//! The first rule makes an automaton that is determinised from its end, by two passes over the links.
-//! A later one goes over that automaton, and makes another only where it takes something away.
+//! All rules are applied at once, by two passes over the links, and the automaton that comes out is
+//! determinised from its end. Where that takes too many steps, they are applied in turn: the first
+//! one so, and a later one goes over what is left, and makes another automaton only where it takes
+//! something away.
 
 ghost use Rattle.std.specs.Prelude.{◌≡◌, ◌<◌, [], None, Option, IfOk, IfSome, MatchOption};
 ghost use Rattle.ux_subsets.specs.Paths.{IsAscending, IsNormal};

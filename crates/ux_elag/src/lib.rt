@@ -7,8 +7,9 @@
 //!
 //! ```text
 //! sentence --number--> readings, numbered sentence     (or read so from a file, beside a table)
-//! numbered sentence --place_states--> links between places --keep_satisfying, rule by rule-->
-//! links that are left --in_text_order--> numbered sentence --name--> sentence
+//! numbered sentence --place_states--> links between places --keep_satisfying_each, or rule by rule
+//! where that takes too many steps--> links that are left --in_text_order--> numbered sentence
+//! --name--> sentence
 //! ```
 //!
 //! The automaton that comes out is determinised from its end (Brzozowski's construction without its

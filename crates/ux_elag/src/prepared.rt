@@ -75,10 +75,10 @@ impl<'a> PreparedRules<'a> {
         })
     }
 
-    /// What the rules leave of the sentence, one after the other: exactly the reading lists that
-    /// satisfy each of them, each by one path. Without a rule all are left. No reading is looked
-    /// at. Takes time in the links, times a logarithm of their number, and in what each rule keeps
-    /// of them; and memory for the links of two automata.
+    /// What the rules leave of the sentence together: exactly the reading lists that satisfy each of
+    /// them, each by one path. Without a rule all are left. No reading is looked at. Takes time in
+    /// the links, times a logarithm of their number, and in the steps that the rules take over them;
+    /// and memory for the links of two automata.
     pub fn apply(&mut self, alloc: Global, sentence: &NumberedSentence) -> Mem<NumberedSentence>
         requires { (old : SentenceRecord) × IsNumberedBy self.old.texts old sentence.now
             × IsWellFormed old }

@@ -34,6 +34,18 @@
 //! ```
 //!
 //! `keep_satisfying_again` takes such an answer, and gives it back where all of it satisfies.
+//!
+//! Several rules are watched at once by a `Product`: what each of their monitors sees has one number
+//! together (`joint`), and so a list goes through all rules by one step a reading.
+//! `keep_satisfying_each` gives what satisfies each rule by one such pass, or nothing where the rules
+//! together see so much that the pass takes more than sixteen steps a link. The caller then applies
+//! them in turn.
+//!
+//! ```text
+//! let parts = vec![in alloc; Part::new(&first, &first_kinds), Part::new(&second, &second_kinds)];
+//! let mut product = Product::of(alloc, &parts, readings)?;
+//! let kept = keep_satisfying_each(alloc, &mut product, &parts, &links, last);
+//! ```
 #![tactic(auto)]
 
 pub mod joint;

@@ -22,7 +22,7 @@ use Rattle.indexmap.specs.IndexSet.{insert_key}
 use Rattle.ux_sentence.specs.declared.sentence.Reading.{Reading}
 use Rattle.ux_sentence.specs.Readings.{IsReading}
 use Rattle.ux_sentence.specs.Written.{reading_text}
-use Rattle.ux_reading_table.specs.Noting.{AddsText, IsNumbered, IsSpelling, KeepsPlaces, NotesText}
+use Rattle.ux_reading_table.specs.Noting.{AddsSpelling, AddsText, IsNumbered, IsSpelling, KeepsPlaces, NotesText}
 use Rattle.ux_reading_table.specs.Numbered.{AreDifferent, IsPlaceOfText}
 
 -- the texts of slices
@@ -63,19 +63,26 @@ there_text slices text (i, within, at) =
     ((bytes_eq-Decides text.now (get_or slices i text).now).1 (sym here))
 
 -- a text that wasn't there comes last
-pub texts_of-insert : (slices : List (Bor (List ℕ))) (text : Bor (List ℕ)) →
-    (Contains (texts_of slices) text.now → ⊥) →
-    texts_of (insert_key (λ x y. bytes_eq x.now y.now) slices text)
-    ≡ texts_of slices ++ text.now ∷ []
-texts_of-insert slices text none = by (list_any (is_text text.now) slices) refl
+pub adds_spelling : (slices new : List (Bor (List ℕ))) (text : Bor (List ℕ)) (is_new : Bool) →
+    new ≡ insert_key (λ x y. bytes_eq x.now y.now) slices text →
+    is_new ≡ not (list_any (is_text text.now) slices) →
+    AddsSpelling is_new (texts_of slices) text.now (texts_of new)
+adds_spelling slices new text is_new inserted is = by (list_any (is_text text.now) slices) refl
   where
     by : (b : Bool) → list_any (is_text text.now) slices ≡ b →
-        texts_of (insert_key (λ x y. bytes_eq x.now y.now) slices text)
-        ≡ texts_of slices ++ text.now ∷ []
-    by true is = absurd (none (text_there slices text.now is))
-    by false is =
-        ap (λ (b : Bool). texts_of (cond b slices (slices ++ text ∷ []))) is
-        ∙ map-append (λ (s : Bor (List ℕ)). s.now) slices (text ∷ [])
+        AddsSpelling is_new (texts_of slices) text.now (texts_of new)
+    by true there =
+        subst (λ (b : Bool). AddsSpelling b (texts_of slices) text.now (texts_of new))
+        (sym (is ∙ ap not there)) (
+          text_there slices text.now there,
+          ap texts_of (inserted ∙ ap (λ (b : Bool). cond b slices (slices ++ text ∷ [])) there),
+        )
+    by false none =
+        subst (λ (b : Bool). AddsSpelling b (texts_of slices) text.now (texts_of new))
+        (sym (is ∙ ap not none))
+        (ap texts_of inserted
+        ∙ (ap (λ (b : Bool). texts_of (cond b slices (slices ++ text ∷ []))) none
+        ∙ map-append (λ (s : Bor (List ℕ)). s.now) slices (text ∷ [])))
 
 -- a text with a place is there
 placed_there : (texts : List (List ℕ)) (text : List ℕ) (place : ℕ) →

@@ -1,6 +1,6 @@
 -- How the texts of links are noted, and the sentences read by them. Inner: the crate's own
 -- functions alone speak of it.
-use Rattle.std.specs.Prelude.{◌≡◌, ◌↔◌, ◌⊎◌, ℕ, ◌+◌, ◌<◌, Bool, true, false, List, ◌∷◌, Contains, length, map}
+use Rattle.std.specs.Prelude.{◌≡◌, ◌↔◌, ◌⊎◌, ℕ, ◌+◌, ◌<◌, Bool, true, false, List, [], ◌∷◌, ◌++◌, Contains, length, map}
 use Rattle.std.specs.List.{flat_map}
 use Rattle.indexmap.specs.IndexSet.{IndexSet}
 use denote.Ref.{Bor}
@@ -35,6 +35,12 @@ IsSpelling spelled printed =
 abbrev pub AddsText : (old : List (List ℕ)) (text : List ℕ) (new : List (List ℕ)) → Type 0
 AddsText old text new =
     (one : List ℕ) → Contains new one ↔ (Contains old one ⊎ (one ≡ text))
+
+-- the spellings have one more, or had it
+abbrev pub AddsSpelling : (is_new : Bool) (old : List (List ℕ)) (text : List ℕ)
+    (new : List (List ℕ)) → Type 0
+AddsSpelling true old text new = new ≡ old ++ text ∷ []
+AddsSpelling false old text new = Contains old text × (new ≡ old)
 
 -- and so for each of some texts
 abbrev pub AddsTexts : (old texts new : List (List ℕ)) → Type 0

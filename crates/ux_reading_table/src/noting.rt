@@ -3,14 +3,14 @@
 //! A text is read where it comes for the first time. Readings are told apart by their printed
 //! texts, and numbered as they come.
 
-ghost use Rattle.std.specs.Prelude.{◌≡◌, ◌⊎◌, ◌++◌, ◌∷◌, ◌<◌, ◌^◌, [], IfErr, IfNone, IfOk, IfSome, MatchOption, OnOk, Contains, Some, length, slice_get};
+ghost use Rattle.std.specs.Prelude.{◌≡◌, ◌⊎◌, ◌<◌, ◌^◌, [], IfErr, IfNone, IfOk, IfSome, IsTrue, MatchOption, OnOk, Contains, Some, length, slice_get};
 ghost use Rattle.ux_sentence.specs.Files.{LinkSays, RefusesLink};
 ghost use Rattle.ux_sentence.specs.Readings.{IsReading};
 ghost use Rattle.ux_sentence.specs.declared.error.SentenceError.TheVariants.{NoMemory as OutOfMemory};
 ghost use Rattle.ux_sentence.specs.declared.sentence.Link.{Link as LinkRecord};
 ghost use Rattle.ux_sentence.specs.declared.sentence.Reading.{Reading as ReadingRecord};
 ghost use Rattle.ux_reading_table.specs.Noted.{AreNoted};
-ghost use Rattle.ux_reading_table.specs.Noting.{AddsText, IsSpelling, KeepsPlaces, NotesText, spellings};
+ghost use Rattle.ux_reading_table.specs.Noting.{AddsSpelling, AddsText, IsSpelling, KeepsPlaces, NotesText, spellings};
 ghost use Rattle.ux_reading_table.specs.Numbered.{AreDifferent, IsPlaceOfText, text_of};
 
 use crate::fields::fields_of;
@@ -75,22 +75,30 @@ pub(crate) fn note_link<'a>(
 /// Notes the text, if it says a reading. Answers whether it does.
 fn note<'a>(alloc: Global, noted: &mut Noted<'a>, text: &'a str) -> Mem<bool>
     requires { AreNoted noted.old }
-    ensures noted { OnOk result (AreNoted noted.new) }
+    ensures noted { IfOk result (λ says. IsTrue says → AreNoted noted.new) }
     ensures says { IfOk result (λ says.
         NotesText says noted.old.printed.keys text.now noted.new.printed.keys) }
 {
-    if let Some(place) = place_of(&noted.spelled, text) {
-        noted.places.push(narrowed(place))?;
+    let (place, is_new) = spell(&mut noted.spelled, text)?;
+    noted.places.push(narrowed(place))?;
+    if !is_new {
         return Ok(true);
     }
     let Some(printed) = printed_of(alloc, text)? else {
         return Ok(false);
     };
     let number = number_of(&mut noted.printed, printed)?;
-    noted.places.push(narrowed(noted.spelled.len()))?;
     noted.numbers.push(number)?;
-    add(&mut noted.spelled, text)?;
     Ok(true)
+}
+
+/// The place of the text in the set, which is the next one if it has none, and whether it is new.
+fn spell<'a>(set: &mut IndexSet<&'a str>, text: &'a str) -> Mem<(usize, bool)>
+    ensures { IfOk result (λ found.
+        AddsSpelling found.1 (spellings set.old) text.now (spellings set.new)) }
+{
+    let (place, is_new) = set.insert_full(text)?;
+    Ok((place, is_new))
 }
 
 /// The number of the text, which is the next one if it has none.
@@ -132,13 +140,4 @@ pub(crate) fn place_of(set: &IndexSet<&str>, text: &str) -> Option<usize>
 /// The place in 32 bits. A greater one becomes the greatest: it is noted to be tried first alone.
 fn narrowed(place: usize) -> u32 {
     place.min(u32::MAX as usize) as u32
-}
-
-/// Adds a text that the set hasn't.
-fn add<'a>(set: &mut IndexSet<&'a str>, text: &'a str) -> Mem<()>
-    requires { Contains (spellings set.old) text.now → ⊥ }
-    ensures { OnOk result (spellings set.new ≡ spellings set.old ++ text.now ∷ []) }
-{
-    set.insert(text)?;
-    Ok(())
 }
