@@ -1,12 +1,11 @@
 -- Where hits are told by one relation as by another, so is what a cascade comes to.
-use Rattle.std.proofs.Common.{ℕ, zero, suc, List, length}
-use Rattle.std.specs.Prelude.{slice_index}
+use Rattle.std.proofs.Common.{ℕ, zero, suc, List, [], ◌∷◌, length}
 use Rattle.ux_alphabet.specs.Letters.{Letters}
 use Rattle.ux_tokens.specs.Tokens.{Token}
 use Rattle.ux_outputs.specs.declared.hit.Hit.{Hit}
 use Rattle.ux_cascade.specs.declared.outcome.Outcome.{Outcome}
 use Rattle.ux_cascade.specs.declared.outcome.Round.{Round}
-use Rattle.ux_cascade.specs.Cascades.{AreRounds, AreSteps, IsCascade, IsRound, Stage}
+use Rattle.ux_cascade.specs.Cascades.{AreRounds, AreSteps, IsCascade, IsRound, RoundResult, left_by}
 use Rattle.ux_cascade.specs.Refusing.{LeavesTooMany}
 
 module _ (alphabet : Letters) (Old New : (step : ℕ) → List Token → List Hit → Type 0)
@@ -21,16 +20,12 @@ module _ (alphabet : Letters) (Old New : (step : ℕ) → List Token → List Hi
     anew = round.anew;
   }
 
-  rounds_alike : (step : ℕ) (before : List Token) (times : ℕ) (stage : Stage) →
-      AreRounds alphabet Old step before times stage → AreRounds alphabet New step before times stage
-  rounds_alike step before zero stage taken = taken
-  rounds_alike step before (suc times) stage (old, spans, after, taken, round, is) = (
-    old,
-    spans,
-    after,
-    rounds_alike step before times old taken,
-    round_alike step old.tokens spans after round,
-    is,
+  rounds_alike : (step : ℕ) (before : List Token) (rounds : List RoundResult) →
+      AreRounds alphabet Old step before rounds → AreRounds alphabet New step before rounds
+  rounds_alike step before [] none = tt
+  rounds_alike step before (round ∷ rounds) (first, rest) = (
+    round_alike step before round.spans round.tokens first,
+    rounds_alike step round.tokens rounds rest,
   )
 
   steps_alike : (times : List ℕ) (begin : List Token) (count : ℕ) (rounds : List Round)
@@ -42,8 +37,9 @@ module _ (alphabet : Letters) (Old New : (step : ℕ) → List Token → List Hi
     before,
     steps_alike times begin step earlier before steps,
     record {
-      stage = taken.stage;
-      taken = rounds_alike step before (slice_index times step) taken.stage taken.taken;
+      taken = taken.taken;
+      are = rounds_alike step before taken.taken taken.are;
+      many = taken.many;
       listed = taken.listed;
       left = taken.left;
     },
@@ -69,12 +65,11 @@ module _ (alphabet : Letters) (Old New : (step : ℕ) → List Token → List Hi
     steps = steps_alike times begin long.step long.rounds long.before long.steps;
     long = record {
       earlier = long.long.earlier;
+      are = rounds_alike long.step long.before long.long.earlier long.long.are;
       within = long.long.within;
-      stage = long.long.stage;
-      taken = rounds_alike long.step long.before long.long.earlier long.long.stage long.long.taken;
       long = (
         long.long.long.0,
-        told long.step long.long.stage.tokens long.long.long.0 long.long.long.1,
+        told long.step (left_by long.before long.long.earlier) long.long.long.0 long.long.long.1,
         long.long.long.2,
       );
     };

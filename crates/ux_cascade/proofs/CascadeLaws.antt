@@ -1,6 +1,6 @@
 -- Where each step has one list of hits in a text, a cascade comes to one thing: one text with one list
 -- of rounds, or too many tokens.
-use Rattle.std.proofs.Common.{arith, ◌≡◌, ℕ, zero, suc, ◌<◌, List, ◌++◌, sym, ap, subst, ◌∙◌, length, inl, inr}
+use Rattle.std.proofs.Common.{arith, ◌≡◌, ℕ, zero, suc, ◌<◌, List, [], ◌∷◌, ◌++◌, refl, sym, ap, subst, ◌∙◌, length, inl, inr}
 use Rattle.std.specs.Prelude.{◌⊎◌, slice_index}
 use Rattle.ux_alphabet.specs.Letters.{Letters}
 use Rattle.ux_tokens.specs.Tokens.{AreTokens, Token, joined}
@@ -10,7 +10,7 @@ use Rattle.ux_outputs.specs.declared.hit.Hit.{Hit}
 use Rattle.ux_cascade.specs.declared.outcome.Outcome.{Outcome}
 use Rattle.ux_cascade.specs.declared.outcome.Round.{Round}
 use Rattle.ux_cascade.specs.Rewriting.{rewritten}
-use Rattle.ux_cascade.specs.Cascades.{AreRounds, AreSteps, HasTokens, IsCascade, IsRound, Stage, stage_after}
+use Rattle.ux_cascade.specs.Cascades.{AreRounds, AreSteps, HasTokens, IsCascade, IsRound, RoundResult, as_listed, left_by, until_alike}
 use Rattle.ux_cascade.specs.Refusing.{IsStepTooLong, LeavesTooMany}
 
 -- no text has few tokens and too many
@@ -22,6 +22,10 @@ few_or_many alphabet text tokens has many =
 
 last_or_earlier : (count n : ℕ) → n < suc count → (n ≡ count) ⊎ (n < count)
 last_or_earlier count n lt = grind arith
+
+-- what a round came to
+abbrev result : ℕ → List Token → RoundResult
+result spans tokens = record { spans = spans; tokens = tokens }
 
 -- a text with these rounds
 abbrev pub made : List ℕ → List Round → Outcome
@@ -49,55 +53,53 @@ module _ (alphabet : Letters) (Finds : (step : ℕ) → List Token → List Hit 
               b.anew.are,
         )
 
+    same_first : (before : List Token) (one other : RoundResult) →
+        IsRound alphabet Finds step before one.spans one.tokens →
+        IsRound alphabet Finds step before other.spans other.tokens → one ≡ other
+    same_first before one other a b =
+        let same = one_round before one.spans other.spans one.tokens other.tokens a b in
+        ap (λ n. result n one.tokens) same.0 ∙ ap (λ (l : List Token). result other.spans l) same.1
+
     -- and so do any number of them
-    one_stage : (before : List Token) (times : ℕ) (one other : Stage) →
-        AreRounds alphabet Finds step before times one →
-        AreRounds alphabet Finds step before times other → one ≡ other
-    one_stage before zero one other a b = a ∙ sym b
-    one_stage before (suc times) one other (old, spans, after, taken, round, is)
-        (old', spans', after', taken', round', is') =
-        let same = one_stage before times old old' taken taken' in
-        let next = one_round old'.tokens spans spans' after after'
-        (subst (λ (s : Stage). IsRound alphabet Finds step s.tokens spans after) same round) round' in
-        is ∙ (ap (λ (s : Stage). stage_after step s spans after) same
-        ∙ (ap (λ n. stage_after step old' n after) next.0
-        ∙ (ap (λ (l : List Token). stage_after step old' spans' l) next.1 ∙ sym is')))
+    one_list_of : (before : List Token) (one other : List RoundResult) →
+        AreRounds alphabet Finds step before one → AreRounds alphabet Finds step before other →
+        length one ≡ length other → one ≡ other
+    one_list_of before [] [] a b same = refl
+    one_list_of before [] (y ∷ other) a b same = absurd (omega (arith, same))
+    one_list_of before (x ∷ one) [] a b same = absurd (omega (arith, same))
+    one_list_of before (x ∷ one) (y ∷ other) (a, rest) (b, bs) same =
+        let first = same_first before x y a b in
+        ap (λ (r : RoundResult). r ∷ one) first
+        ∙ ap (λ (l : List RoundResult). y ∷ l)
+        (one_list_of y.tokens one other
+        (subst (λ (r : RoundResult). AreRounds alphabet Finds step r.tokens one) first rest) bs
+        (omega (arith, same)))
 
-    -- of so many rounds an earlier one
-    pub record HasRound (before : List Token) (earlier : ℕ) : Type 0 where
-      pub stage : Stage
-      pub taken : AreRounds alphabet Finds step before earlier stage
-      pub spans : ℕ
-      pub after : List Token
-      pub round : IsRound alphabet Finds step stage.tokens spans after
-
-    round_at : (before : List Token) (times earlier : ℕ) (stage : Stage) → earlier < times →
-        AreRounds alphabet Finds step before times stage → HasRound before earlier
-    round_at before zero earlier stage lt taken = absurd (omega (arith, lt))
-    round_at before (suc times) earlier stage lt (old, spans, after, taken, round, is) =
-        elim (last_or_earlier times earlier lt) [
-          | inl last ↦ record {
-            stage = old;
-            taken = subst (λ n. AreRounds alphabet Finds step before n old) (sym last) taken;
-            spans = spans;
-            after = after;
-            round = round;
-          }
-          | inr lower ↦ round_at before times earlier old lower taken
-        ]
+    -- after fewer rounds another one is taken
+    another : (before : List Token) (all taken : List RoundResult) →
+        AreRounds alphabet Finds step before all → AreRounds alphabet Finds step before taken →
+        length taken < length all →
+        (round : RoundResult)
+        × IsRound alphabet Finds step (left_by before taken) round.spans round.tokens
+    another before [] taken are fewer lt = absurd (omega (arith, lt))
+    another before (x ∷ all) [] (a, rest) fewer lt = (x, a)
+    another before (x ∷ all) (y ∷ taken) (a, rest) (b, bs) lt =
+        another y.tokens all taken
+        (subst (λ (r : RoundResult). AreRounds alphabet Finds step r.tokens all)
+        (same_first before x y a b) rest) bs (omega (arith, lt))
 
     -- no step's rounds leave few tokens and too many
-    few_rounds : (before : List Token) (times : ℕ) (stage : Stage) →
-        AreRounds alphabet Finds step before times stage →
+    few_rounds : (before : List Token) (times : ℕ) (all : List RoundResult) →
+        AreRounds alphabet Finds step before all → length all ≡ times →
         IsStepTooLong alphabet Finds step times before → ⊥
-    few_rounds before times stage taken long =
-        let at = round_at before times long.earlier stage long.within taken in
-        let same = one_stage before long.earlier at.stage long.stage at.taken long.taken in
-        let round = subst (λ (s : Stage). IsRound alphabet Finds step s.tokens at.spans at.after) same
-        at.round in
-        let hits = one_list step long.stage.tokens round.hits long.long.0 round.found long.long.1 in
-        few_or_many alphabet (rewritten long.stage.tokens long.long.0).text at.after
-        (subst (λ (l : List Hit). HasTokens alphabet (rewritten long.stage.tokens l).text at.after) hits
+    few_rounds before times all are many long =
+        let within = long.within in
+        let next = another before all long.earlier are long.are (omega (arith, within, many)) in
+        let tokens = left_by before long.earlier in
+        let round = next.1 in
+        let hits = one_list step tokens round.hits long.long.0 round.found long.long.1 in
+        few_or_many alphabet (rewritten tokens long.long.0).text next.0.tokens
+        (subst (λ (l : List Hit). HasTokens alphabet (rewritten tokens l).text next.0.tokens) hits
         round.anew) long.long.2
 
   module _ (times : List ℕ) (begin : List Token) where
@@ -110,12 +112,18 @@ module _ (alphabet : Letters) (Finds : (step : ℕ) → List Token → List Hit 
     one_reached (suc step) rounds rounds' after after' (earlier, before, steps, taken)
         (earlier', before', steps', taken') =
         let same = one_reached step earlier earlier' before before' steps steps' in
-        let stage = one_stage step before' (slice_index times step) taken.stage taken'.stage
-        (subst (λ (l : List Token). AreRounds alphabet Finds step l (slice_index times step) taken.stage)
-        same.1 taken.taken) taken'.taken in (
-          taken.listed ∙ (ap (λ (l : List Round). l ++ taken.stage.listed) same.0
-              ∙ (ap (λ (s : Stage). earlier' ++ s.listed) stage ∙ sym taken'.listed)),
-          taken.left ∙ (ap (λ (s : Stage). s.tokens) stage ∙ sym taken'.left),
+        let all = one_list_of step before' taken.taken taken'.taken
+        (subst (λ (l : List Token). AreRounds alphabet Finds step l taken.taken) same.1 taken.are)
+        taken'.are (taken.many ∙ sym taken'.many) in (
+          taken.listed
+              ∙ (ap (λ (l : List Round). l ++ as_listed step 1 (until_alike before taken.taken)) same.0
+              ∙ (ap (λ (l : List Token). earlier' ++ as_listed step 1 (until_alike l taken.taken))
+              same.1
+              ∙ (ap (λ (l : List RoundResult). earlier' ++ as_listed step 1 (until_alike before' l))
+              all
+              ∙ sym taken'.listed))),
+          taken.left ∙ (ap (λ (l : List Token). left_by l taken.taken) same.1
+              ∙ (ap (λ (l : List RoundResult). left_by before' l) all ∙ sym taken'.left)),
         )
 
     -- of so many steps an earlier one
@@ -123,8 +131,9 @@ module _ (alphabet : Letters) (Finds : (step : ℕ) → List Token → List Hit 
       pub rounds : List Round
       pub before : List Token
       pub steps : AreSteps alphabet Finds times begin step rounds before
-      pub stage : Stage
-      pub taken : AreRounds alphabet Finds step before (slice_index times step) stage
+      pub taken : List RoundResult
+      pub are : AreRounds alphabet Finds step before taken
+      pub many : length taken ≡ slice_index times step
 
     step_at : (count step : ℕ) (rounds : List Round) (after : List Token) → step < count →
         AreSteps alphabet Finds times begin count rounds after → HasStep step
@@ -135,8 +144,9 @@ module _ (alphabet : Letters) (Finds : (step : ℕ) → List Token → List Hit 
             rounds = earlier;
             before = before;
             steps = steps;
-            stage = taken.stage;
             taken = taken.taken;
+            are = taken.are;
+            many = taken.many;
           })
           | inr lower ↦ step_at count step earlier before lower steps
         ]
@@ -148,10 +158,9 @@ module _ (alphabet : Letters) (Finds : (step : ℕ) → List Token → List Hit 
         let at = step_at (length times) long.step outcome.rounds is.after long.within is.steps in
         let same = one_reached long.step at.rounds long.rounds at.before long.before at.steps long.steps
         in
-        few_rounds long.step long.before (slice_index times long.step) at.stage
-        (subst (λ (l : List Token).
-        AreRounds alphabet Finds long.step l (slice_index times long.step) at.stage) same.1 at.taken)
-        long.long
+        few_rounds long.step long.before (slice_index times long.step) at.taken
+        (subst (λ (l : List Token). AreRounds alphabet Finds long.step l at.taken) same.1 at.are)
+        at.many long.long
 
     -- and it comes to one thing
     pub one_outcome : (outcome other : Outcome) → IsCascade alphabet Finds times begin outcome →

@@ -3,7 +3,7 @@ use Rattle.std.specs.Prelude.{◌≡◌, ℕ, List, [], ◌∷◌, codes, refl}
 use Rattle.ux_tokens.specs.declared.kind.Kind.TheVariants.{Word, Space}
 use Rattle.ux_tokens.specs.Tokens.{Token}
 use Rattle.ux_outputs.specs.declared.hit.Hit.{Hit}
-use Rattle.ux_cascade.specs.Cascades.{Stage, begun, stage_after}
+use Rattle.ux_cascade.specs.Cascades.{RoundResult, as_listed, left_by, until_alike}
 use Rattle.ux_cascade.specs.Rewriting.{rewritten}
 
 abbrev word : List ℕ → Token
@@ -38,10 +38,13 @@ first : rewritten letters (hit 2 2 (codes "x") ∷ hit 2 4 (codes "y") ∷ hit 6
 first = refl
 
 -- a round that changes the text is listed, then one that leaves it, and no later one
-abbrev after_three : Stage
-after_three =
-    stage_after 1 (stage_after 1 (stage_after 1 (begun letters) 2 two) 0 two) 0 two
+abbrev three : List RoundResult
+three = record { spans = 2; tokens = two } ∷ record { spans = 0; tokens = two }
+    ∷ record { spans = 0; tokens = two } ∷ []
 
-listed : after_three.listed
+listed : as_listed 1 1 (until_alike letters three)
     ≡ record { step = 1; round = 1; spans = 2 } ∷ record { step = 1; round = 2; spans = 0 } ∷ []
 listed = refl
+
+left : left_by letters three ≡ two
+left = refl

@@ -1,7 +1,7 @@
 -- What a cascade comes to: the fold of its single rounds, each on the text that the one before left.
 -- The manual, on cascades of graphs; which rounds are listed is this program's own. Public: the crate's
 -- public contracts speak of it.
-use Rattle.std.specs.Prelude.{◌≡◌, ℕ, zero, suc, ◌+◌, ◌≤◌, Bool, false, ◌||◌, if◌then◌else◌, List, [], ◌∷◌, ◌++◌, length, slice_index}
+use Rattle.std.specs.Prelude.{◌≡◌, ℕ, zero, suc, ◌+◌, ◌≤◌, Bool, if◌then◌else◌, List, [], ◌∷◌, ◌++◌, length, slice_index}
 use Rattle.std.specs.Str.{bytes_eq}
 use Rattle.ux_alphabet.specs.Letters.{Letters}
 use Rattle.ux_tokens.specs.Tokens.{AreTokens, Token, joined}
@@ -24,27 +24,28 @@ pub record HasTokens (alphabet : Letters) (text : List ℕ) (tokens : List Token
 abbrev pub reads_alike : List Token → List Token → Bool
 reads_alike tokens other = bytes_eq (joined tokens) (joined other)
 
--- how far the rounds of a step have come: the tokens of the text, the rounds that are listed, and
--- whether one of them left the joined tokens as they were
-pub record Stage : Type 0 where
+-- what a round came to: how many hits it rewrote, and the tokens that it left
+pub record RoundResult : Type 0 where
+  pub spans : ℕ
   pub tokens : List Token
-  pub listed : List Round
-  pub settled : Bool
 
--- no round was taken
-abbrev pub begun : List Token → Stage
-begun tokens = record { tokens = tokens; listed = []; settled = false }
+-- the tokens that the last of the rounds left, or those before where there is none
+abbrev pub left_by : (before : List Token) → List RoundResult → List Token
+left_by before [] = before
+left_by before (round ∷ rounds) = left_by round.tokens rounds
 
--- after one more round, which is listed unless an earlier one left the joined tokens as they were
-abbrev pub stage_after : (step : ℕ) → Stage → (spans : ℕ) → (after : List Token) → Stage
-stage_after step stage spans after = record {
-  tokens = after;
-  listed =
-      if stage.settled then stage.listed
-      else stage.listed
-      ++ record { step = step; round = length stage.listed + 1; spans = spans } ∷ [];
-  settled = stage.settled || reads_alike stage.tokens after;
-}
+-- the rounds up to the first that left the joined tokens as they were, that one with them
+abbrev pub until_alike : (before : List Token) → List RoundResult → List RoundResult
+until_alike before [] = []
+until_alike before (round ∷ rounds) =
+    round ∷ (if reads_alike before round.tokens then [] else until_alike round.tokens rounds)
+
+-- the rounds of a step as they are listed, numbered from this number on
+abbrev pub as_listed : (step number : ℕ) → List RoundResult → List Round
+as_listed step number [] = []
+as_listed step number (round ∷ rounds) =
+    record { step = step; round = number; spans = round.spans }
+    ∷ as_listed step (number + 1) rounds
 
 -- The hits of a step in a text are told by a relation.
 module _ (alphabet : Letters) (Finds : (step : ℕ) → List Token → List Hit → Type 0) where
@@ -55,20 +56,21 @@ module _ (alphabet : Letters) (Finds : (step : ℕ) → List Token → List Hit 
     pub counts : spans ≡ (rewritten before hits).spans
     pub anew : HasTokens alphabet (rewritten before hits).text after
 
-  -- so many rounds of a step, each on the text that the one before left
-  abbrev pub AreRounds : (step : ℕ) → (before : List Token) → (times : ℕ) → Stage → Type 0
-  AreRounds step before zero stage = stage ≡ begun before
-  AreRounds step before (suc times) stage =
-      (old : Stage) × (spans : ℕ) × (after : List Token) × AreRounds step before times old
-      × IsRound step old.tokens spans after × (stage ≡ stage_after step old spans after)
+  -- rounds of a step, each on the text that the one before left
+  abbrev pub AreRounds : (step : ℕ) → (before : List Token) → List RoundResult → Type 0
+  AreRounds step before [] = Unit {0}
+  AreRounds step before (round ∷ rounds) =
+      IsRound step before round.spans round.tokens × AreRounds step round.tokens rounds
 
-  -- the rounds of a step, of which those that are listed stand behind earlier ones
+  -- So many rounds of a step. Those up to the first that left the joined tokens as they were are
+  -- listed behind earlier ones.
   pub record TakesRounds (step times : ℕ) (before : List Token) (earlier rounds : List Round)
       (after : List Token) : Type 0 where
-    pub stage : Stage
-    pub taken : AreRounds step before times stage
-    pub listed : rounds ≡ earlier ++ stage.listed
-    pub left : after ≡ stage.tokens
+    pub taken : List RoundResult
+    pub are : AreRounds step before taken
+    pub many : length taken ≡ times
+    pub listed : rounds ≡ earlier ++ as_listed step 1 (until_alike before taken)
+    pub left : after ≡ left_by before taken
 
   -- the first steps, so many of them, each on the text that the one before left
   abbrev pub AreSteps : (times : List ℕ) → (begin : List Token) → (count : ℕ) → List Round →

@@ -10,7 +10,7 @@ use Rattle.ux_cascade.specs.declared.error.CascadeError.{CascadeError}
 use Rattle.ux_cascade.specs.declared.error.CascadeError.TheVariants.{NoMemory, TooManyTokens}
 use Rattle.ux_cascade.specs.declared.outcome.Round.{Round}
 use Rattle.ux_cascade.specs.Rewriting.{rewritten}
-use Rattle.ux_cascade.specs.Cascades.{AreRounds, AreSteps, HasTokens, Stage}
+use Rattle.ux_cascade.specs.Cascades.{AreRounds, AreSteps, HasTokens, RoundResult, left_by}
 
 -- the error by which a text is refused
 abbrev pub as_text : TextError → CascadeError
@@ -26,11 +26,10 @@ module _ (alphabet : Letters) (Finds : (step : ℕ) → List Token → List Hit 
 
   -- one of the step's rounds does, and each before it leaves fewer
   pub record IsStepTooLong (step times : ℕ) (before : List Token) : Type 0 where
-    pub earlier : ℕ
-    pub within : earlier < times
-    pub stage : Stage
-    pub taken : AreRounds alphabet Finds step before earlier stage
-    pub long : IsRoundTooLong step stage.tokens
+    pub earlier : List RoundResult
+    pub are : AreRounds alphabet Finds step before earlier
+    pub within : length earlier < times
+    pub long : IsRoundTooLong step (left_by before earlier)
 
   -- one of the rounds of a step does, and each before it leaves fewer
   pub record LeavesTooMany (times : List ℕ) (begin : List Token) : Type 0 where
