@@ -71,6 +71,7 @@ bench:
 	@bench/concord.py
 	@bench/images.py
 	@bench/compiled.py
+	@bench/cascades.py
 
 hostile:
 	@bench/hostile.py

@@ -583,6 +583,27 @@ def class_graphs_in_a_chain_of_calls(n):
     return lemmas("a,N1")
 
 
+@case("morpho", 500)
+def different_words_inside(n):
+    """n different words, inside which a graph is matched"""
+    chain("$<", "<A>/x.N", "$>")
+    return (os.path.join(FOLDER, "g.grf"), text(" ".join(words(n))), letters(), dictionary(f"{word},.A" for word in words(n)))
+
+
+@case("morpho", 100, 2)
+def letters_with_two_outputs(n):
+    """a word of n letters, each with two outputs, and no end"""
+    put("g.grf", graph([("<E>", [2]), ("", []), ("$<", [3, 4]), ("a/x", [3, 4, 5]), ("a/y", [3, 4, 5]), ("b", [6]), ("$>", [1])]))
+    return (os.path.join(FOLDER, "g.grf"), text("a" * n), letters())
+
+
+@case("morpho", 5_000, status=3)
+def empty_boxes_before_the_marks(n):
+    """n empty boxes before the marks, and one that puts out"""
+    chain(*["<E>"] * n, "<E>/x", "$<", "a", "$>")
+    return (os.path.join(FOLDER, "g.grf"), text("a"), letters())
+
+
 @case("fst2", 10_000)
 def boxes_compiled(n):
     """n boxes of a word in a chain, compiled"""
@@ -996,6 +1017,48 @@ def rule_that_looks_back(n):
     """a rule that asks what stood n readings before, over words of two readings"""
     links = [f"{k} {k + 1} {{a,.{code}}}" for k in range(4 * n) for code in "NV"]
     return automaton((4 * n + 1, links)), forbid("<N>", *["<DIC>"] * n, "<V>")
+
+
+def sought(*boxes, links, states):
+    """The words of a search for these boxes in one sentence."""
+    return drawn(*boxes), automaton((states, links)), letters()
+
+
+@case("tfind", 25_000)
+def a_verb_in_a_long_sentence(n):
+    """one sentence of n words, of which every other one is found"""
+    return sought(("<V>", [1]), states=n + 1, links=[f"{k} {k + 1} {{a,.{'NV'[k % 2]}}}" for k in range(n)])
+
+
+@case("tfind", 25_000)
+def many_found_sentences(n):
+    """n sentences of one word each"""
+    return drawn(("<N>", [1])), automaton(*[(2, ["0 1 {a,.N}"])] * n), letters()
+
+
+@case("tfind", 25_000)
+def many_sought_readings(n):
+    """one word of n readings"""
+    return sought(("<V>", [1]), states=2, links=[f"0 1 {{a,.N+{word}}}" for word in words(n)])
+
+
+@case("tfind", 25_000)
+def sought_in_forged_states(n):
+    """n sentences that say 2^63 states each"""
+    return drawn(("<N>", [1])), automaton(*[(2 ** 63, [f"0 {2 ** 63 - 1} {{a,.N}}"])] * n), letters()
+
+
+@case("tfind", 250, 2)
+def each_stretch(n):
+    """any number of readings in a sentence of n words with two readings each: 2^n paths, n^2 spans"""
+    links = [f"{k} {k + 1} {{a,.{code}}}" for k in range(n) for code in "NV"]
+    return sought(("<TOKEN>", [1, 2]), states=n + 1, links=links)
+
+
+@case("tfind", 250, 2)
+def each_call(n):
+    """a graph that calls itself in the middle, over n words"""
+    return sought(("a", [3, 4]), ("a", [1]), (":g", [3]), states=n + 1, links=[f"{k} {k + 1} a" for k in range(n)])
 
 
 @case("bench", 25_000)

@@ -100,6 +100,7 @@ ROWS = [
     ("dico", "t.txt", "a.txt", "d.dic"),
     ("txt2tfst", "run.txt", "a.txt", "run.dic"),
     ("elag", "run.tfst", "r.grf"),
+    ("tfind", "g.grf", "run.tfst", "a.txt"),
     ("fst2", "g.grf", "a.txt"),
     ("fst2", "g.fst2", "a.txt"),
     ("flatten", "--depth", "3", "call.grf", "a.txt"),

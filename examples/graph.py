@@ -13,6 +13,7 @@ with the output [N]. These are the parts of a line:
     :name                a call of the graph name.grf
     $x( $x) $|x( $|x)    a variable begins, or ends
     $[ $![ $] $*         a context begins, or ends; the left mark
+    $< $>                what stands inside a word begins, or ends
     ( .. )               what stands between, as one part
     PART?  PART*         the part or nothing; the part any number of times, or nothing
     PART/TEXT            the part with an output, up to the next space, | or ), or in quotes: <N>/"[the noun] "
@@ -31,7 +32,7 @@ from dataclasses import dataclass
 # Bounds of variables and contexts come first, since they end with signs that mean something by themselves.
 TOKEN = re.compile(r"""
     \s+ | [()|*?] | /"(?:[^"\\]|\\.)*" | /(?:[^\s|)"\\]|\\.)+
-  | \$\|?\w+[()] | \$!?\[ | \$\] | \$\*
+  | \$\|?\w+[()] | \$!?\[ | \$\] | \$\* | \$[<>]
   | "(?:[^"\\]|\\.)*" | <(?:[^>\\]|\\.)+> | \{(?:[^}\\]|\\.)*\} | \#
   | :?(?:[^\s()|*?/+<>"{}\#\\:$]|\\.)(?:[^\s()|*?/+<>"{}\#\\]|\\.)*
 """, re.X | re.A)

@@ -15,6 +15,7 @@ use Rattle.ux_dict.specs.FileContent.{IsFileContent}
 use Rattle.ux_dict.proofs.ContentLemmas.{IsContent-only}
 use Rattle.ux_dict.proofs.ReadLemmas.{content_not_refused}
 use Rattle.ux_grammars.proofs.GraphRefusals.{drawn_once}
+use Rattle.ux_grf.specs.declared.graph.GraphKind.TheVariants.{Plain}
 use Rattle.ux_grf.specs.declared.graph.Graph.{Graph}
 use Rattle.ux_boxes.specs.Boxes.{Drawn}
 use Rattle.ux_compile.specs.Refusing as net
@@ -69,9 +70,9 @@ pub graphs_once : (graphs : List Drawn) → AreGraphs graphs → graphs ≡ phra
 graphs_once graphs are =
     are.are
     ∙ (ap (λ (np : Graph). grammar_of np are.ap)
-    (drawn_once NP are.np np_graph are.draws_np np_drawn)
+    (drawn_once Plain NP are.np np_graph are.draws_np np_drawn)
     ∙ ap (λ (ap : Graph). grammar_of np_graph ap)
-    (drawn_once AP are.ap ap_graph are.draws_ap ap_drawn))
+    (drawn_once Plain AP are.ap ap_graph are.draws_ap ap_drawn))
 
 -- and nothing else
 pub made_once : (made : Made) → AreMade made → made ≡ MADE

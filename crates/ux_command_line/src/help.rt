@@ -57,6 +57,9 @@ usage: unitex COMMAND ARGUMENTS
     --chars                    each letter is a token of its own
   elag TFST RULE..             reads such automata and graphs of rules, writes
                                the automata of what satisfies every rule
+  tfind GRAPH TFST ALPHABET    reads a grammar, such automata and letters, writes
+                               where the grammar is found: the sentence, and
+                               the states before it and after it
   fst2 GRAPH ALPHABET          reads a grammar and its letters, writes the
                                grammar compiled
     --chars                    each letter is a token of its own
@@ -66,6 +69,10 @@ usage: unitex COMMAND ARGUMENTS
                                takes nothing
   inflect DELAS                reads lemmas with their classes, and the graph of
                                each class, writes their forms
+  morpho GRAPH TEXT ALPHABET [DIC..]
+                               reads a grammar of what stands inside words, a
+                               text, its letters and dictionaries, writes the
+                               entries that it gives to the words of the text
   bench N                      searches a text of N words that is made up, at
                                most 200000, writes how many words, tokens and
                                hits there are, and the longest hit's tokens

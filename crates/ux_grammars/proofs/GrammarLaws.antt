@@ -5,7 +5,8 @@ use Rattle.ux_plan.specs.Plans.{Plan, gives, refusing, said_as, tests}
 use Rattle.ux_plan.proofs.PlanLaws.{decoded_sound, laws_grows, laws_then, refusing_sound, said_sound}
 use Rattle.ux_reasons.specs.declared.reason.Reason.{Reason}
 use Rattle.ux_reasons.specs.declared.reason.Reason.TheVariants.{Decode, Fst2, Grf, Net, TooManyGraphs}
-use Rattle.ux_grf.specs.declared.graph.GraphKind.TheVariants.{Plain}
+use Rattle.ux_grf.specs.declared.graph.GraphKind.{GraphKind}
+use Rattle.ux_grf.specs.declared.graph.GraphKind.TheVariants.{Morphological, Plain}
 use Rattle.ux_grf.specs.File.{IsGraphOf}
 use Rattle.ux_grf.specs.declared.graph.Graph.{Graph}
 use Rattle.ux_grf.specs.declared.graph.GrfBox.{GrfBox}
@@ -16,7 +17,7 @@ use Rattle.ux_admission.specs.SoundGrammar.{IsSoundGrammar}
 use Rattle.ux_fst2.specs.Reading.{SaysGraphs}
 use Rattle.ux_compile.specs.Refusing.{IsCompilable}
 use Rattle.ux_compile.proofs.RefusingLemmas.{compilable_not_refused}
-use Rattle.ux_grammars.specs.Graphs.{IsNoFst2, IsNoGraph, MOST_GRAPHS, MOST_READS, RefusesCompiled, RefusesGrammar, boxes_plan, drawing_format, drawn_plan, fst2_format, grammar_plan, graph_format, graphs_plan, plan_by, states_plan}
+use Rattle.ux_grammars.specs.Graphs.{IsNoFst2, IsNoGraph, MOST_GRAPHS, MOST_READS, RefusesCompiled, RefusesGrammar, boxes_plan, drawing_format, drawing_of, drawn_plan, fst2_format, grammar_plan, graph_format, graphs_plan, kind_plan, marked_plan, plan_by, states_plan}
 use Rattle.ux_alphabet.specs.Letters.{Letters}
 use Rattle.ux_grammars.specs.Naming.{file_of, is_compiled, next_name}
 use Rattle.ux_grammars.specs.Sources.{of_boxes}
@@ -33,49 +34,53 @@ same_drawn a b names boxes =
     ap (λ (name : List ℕ). D name a.boxes) names ∙ ap (D b.name) boxes
 
 -- a text draws one graph, and is then not refused; one that is refused is so for one cause
+pub kind_sound : (kind : GraphKind) → IsSound (drawing_of kind)
+kind_sound kind =
+    decoded_sound Decode (said_as Grf (IsGraphOf kind) (IsNoGraph kind))
+    (said_sound Grf (IsGraphOf kind) (IsNoGraph kind) (λ text v error is refused.
+    drawn_not_refused kind text v error is refused.not_memory refused.refuses) (drawn_once kind)
+    (λ text error other a b. graph_refused_once kind text error other a.not_memory b.not_memory
+    a.refuses b.refuses))
+
 pub drawing_sound : IsSound drawing_format
-drawing_sound =
-    decoded_sound Decode (said_as Grf (IsGraphOf Plain) IsNoGraph)
-    (said_sound Grf (IsGraphOf Plain) IsNoGraph (λ text v error is refused.
-    drawn_not_refused text v error is refused.not_memory refused.refuses) drawn_once
-    (λ text error other a b. graph_refused_once text error other a.not_memory b.not_memory a.refuses
-    b.refuses))
+drawing_sound = kind_sound Plain
 
 -- the file of a graph after so many others is refused so
-abbrev RefusedAfter : (count : ℕ) (file : List ℕ) → Reason → Type 0
-RefusedAfter count file reason =
-    ((count < MOST_GRAPHS) × drawing_format.Refuses file reason)
+abbrev RefusedAfter : GraphKind → (count : ℕ) (file : List ℕ) → Reason → Type 0
+RefusedAfter kind count file reason =
+    ((count < MOST_GRAPHS) × (drawing_of kind).Refuses file reason)
     ⊎ ((MOST_GRAPHS ≤ count) × (reason ≡ TooManyGraphs))
 
-no_refusal : (count : ℕ) (file : List ℕ) (graph : Graph) (reason : Reason) → count < MOST_GRAPHS →
-    drawing_format.Is file graph → RefusedAfter count file reason → ⊥
-no_refusal count file graph reason few is (inl refused) =
-    drawing_sound.excluded file graph reason is refused.1
-no_refusal count file graph reason few is (inr many) = omega (arith, few, many.0)
+no_refusal : (kind : GraphKind) (count : ℕ) (file : List ℕ) (graph : Graph) (reason : Reason) → count < MOST_GRAPHS →
+    (drawing_of kind).Is file graph → RefusedAfter kind count file reason → ⊥
+no_refusal kind count file graph reason few is (inl refused) =
+    (kind_sound kind).excluded file graph reason is refused.1
+no_refusal kind count file graph reason few is (inr many) = omega (arith, few, many.0)
 
-one_refusal : (count : ℕ) (file : List ℕ) (reason other : Reason) →
-    RefusedAfter count file reason → RefusedAfter count file other → reason ≡ other
-one_refusal count file reason other (inl a) (inl b) =
-    drawing_sound.one_reason file reason other a.1 b.1
-one_refusal count file reason other (inl a) (inr b) = absurd (omega (arith, a.0, b.0))
-one_refusal count file reason other (inr a) (inl b) = absurd (omega (arith, a.0, b.0))
-one_refusal count file reason other (inr a) (inr b) = a.1 ∙ sym b.1
+one_refusal : (kind : GraphKind) (count : ℕ) (file : List ℕ) (reason other : Reason) →
+    RefusedAfter kind count file reason → RefusedAfter kind count file other → reason ≡ other
+one_refusal kind count file reason other (inl a) (inl b) =
+    (kind_sound kind).one_reason file reason other a.1 b.1
+one_refusal kind count file reason other (inl a) (inr b) = absurd (omega (arith, a.0, b.0))
+one_refusal kind count file reason other (inr a) (inl b) = absurd (omega (arith, a.0, b.0))
+one_refusal kind count file reason other (inr a) (inr b) = a.1 ∙ sym b.1
 
 -- the file of the graph of a name after so many others draws one graph
-pub graph_sound : (count : ℕ) (name : List ℕ) → IsSound (graph_format count name)
-graph_sound count name = record {
+pub graph_sound : (kind : GraphKind) (count : ℕ) (name : List ℕ) →
+    IsSound (graph_format kind count name)
+graph_sound kind count name = record {
   excluded = λ file v reason is refused.
-      no_refusal count file (record { boxes = v.boxes }) reason is.0 is.2 refused;
+      no_refusal kind count file (record { boxes = v.boxes }) reason is.0 is.2 refused;
   small = λ file v is large. large;
   refused_small = λ file reason refused large. large;
   one = λ file v w a b. same_drawn v w (a.1 ∙ sym b.1) (ap (λ (g : Graph). g.boxes)
-      (drawing_sound.one file (record { boxes = v.boxes }) (record { boxes = w.boxes }) a.2 b.2));
-  one_reason = λ file reason other a b. one_refusal count file reason other a b;
+      ((kind_sound kind).one file (record { boxes = v.boxes }) (record { boxes = w.boxes }) a.2 b.2));
+  one_reason = λ file reason other a b. one_refusal kind count file reason other a b;
 }
 
-pub graphs_laws : (word : List ℕ) → Laws (graphs_plan word)
-graphs_laws word =
-    laws_grows (next_name word) (file_of word) graph_format graph_sound MOST_READS []
+pub graphs_laws : (kind : GraphKind) (word : List ℕ) → Laws (graphs_plan kind word)
+graphs_laws kind word =
+    laws_grows (next_name word) (file_of word) (graph_format kind) (graph_sound kind) MOST_READS []
 
 -- graphs that can be compiled are not refused
 meaning : (word : List ℕ) (letters : Letters) (graphs : List Drawn) (file : List ℕ)
@@ -100,11 +105,19 @@ grammar_test word letters graphs =
     refusing_sound (IsCompilable letters graphs) (RefusesGrammar word letters graphs)
     (meaning word letters graphs) (one_cause word letters graphs)
 
-pub drawn_laws : (word : List ℕ) (letters : Letters) → Laws (drawn_plan word letters)
-drawn_laws word letters =
+kind_laws : (kind : GraphKind) (word : List ℕ) (letters : Letters) →
+    Laws (kind_plan kind word letters)
+kind_laws kind word letters =
     laws_then (λ graphs. tests (IsCompilable letters graphs)
     (refusing (RefusesGrammar word letters graphs)) (gives graphs))
-    (λ graphs. (grammar_test word letters graphs, tt)) (graphs_plan word) (graphs_laws word)
+    (λ graphs. (grammar_test word letters graphs, tt)) (graphs_plan kind word)
+    (graphs_laws kind word)
+
+pub drawn_laws : (word : List ℕ) (letters : Letters) → Laws (drawn_plan word letters)
+drawn_laws word letters = kind_laws Plain word letters
+
+pub marked_laws : (word : List ℕ) (letters : Letters) → Laws (marked_plan word letters)
+marked_laws word letters = kind_laws Morphological word letters
 
 boxes_laws : (word : List ℕ) (letters : Letters) → Laws (boxes_plan word letters)
 boxes_laws word letters =

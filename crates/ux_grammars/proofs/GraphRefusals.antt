@@ -2,7 +2,7 @@
 use Rattle.std.proofs.Common.{arith, ◌≡◌, ◌≢◌, ℕ, suc, ◌<◌, ◌↔◌, Bool, true, false, length, get_or, List, [], ◌∷◌, Option, Some, None, refl, sym, ap, ◌∙◌, subst}
 use Rattle.std.proofs.lemmas.Bool.{false≢true, both_ways, lt-ltb}
 use Rattle.std.proofs.lemmas.Option.{none-some, same_Some}
-use Rattle.ux_grf.specs.declared.graph.GraphKind.TheVariants.{Plain}
+use Rattle.ux_grf.specs.declared.graph.GraphKind.{GraphKind}
 use Rattle.ux_grf.specs.declared.error.GrfError.{GrfError}
 use Rattle.ux_grf.specs.declared.error.GrfError.TheVariants.{NoHeader, BadCount, BadBoxLine, BadTarget, BadContent, NoMemory}
 use Rattle.ux_grf.specs.declared.graph.Graph.{Graph}
@@ -30,15 +30,15 @@ no_target count None good bad = bad
 no_target count (Some text) good bad = both_ways _ bad good
 
 -- a text that draws a graph is refused for want of memory alone
-pub drawn_not_refused : (text : List ℕ) (graph : Graph) (error : GrfError) → IsGraphOf Plain text graph →
-    error ≢ NoMemory → Refuses Plain text error → ⊥
-drawn_not_refused text graph NoHeader is other refused =
+pub drawn_not_refused : (kind : GraphKind) (text : List ℕ) (graph : Graph) (error : GrfError) →
+    IsGraphOf kind text graph → error ≢ NoMemory → Refuses kind text error → ⊥
+drawn_not_refused kind text graph NoHeader is other refused =
     none-some (is.1.has.first ∷ is.1.lines) (sym refused ∙ is.1.has.header)
-drawn_not_refused text graph BadCount is other refused =
+drawn_not_refused kind text graph BadCount is other refused =
     let same =
     same_Some refused.0 (is.1.has.first ∷ is.1.lines) (sym refused.1 ∙ is.1.has.header) in
     none-some is.1.count (sym refused.2 ∙ (ap count_at same ∙ is.1.has.told))
-drawn_not_refused text graph (BadBoxLine node) is other refused =
+drawn_not_refused kind text graph (BadBoxLine node) is other refused =
     let count = is.1.count in
     let lines = is.1.lines in
     let same_count = count_same text count refused.0 lines refused.1 is.1.has refused.2 in
@@ -47,7 +47,7 @@ drawn_not_refused text graph (BadBoxLine node) is other refused =
     let none : box_at lines node ≡ None =
     subst (λ (ls : List (List ℕ)). box_at ls node ≡ None) same_lines refused.3.2 in
     no_line count (box_at lines node) (is.1.good node inside) none
-drawn_not_refused text graph (BadTarget node) is other refused =
+drawn_not_refused kind text graph (BadTarget node) is other refused =
     let count = is.1.count in
     let lines = is.1.lines in
     let same_count = count_same text count refused.0 lines refused.1 is.1.has refused.2 in
@@ -57,10 +57,10 @@ drawn_not_refused text graph (BadTarget node) is other refused =
     subst (λ (ls : List (List ℕ)). HasBadTarget count (box_at ls node)) same_lines
     (subst (λ (n : ℕ). HasBadTarget n (box_at refused.1 node)) same_count refused.3.2) in
     no_target count (box_at lines node) (is.1.good node inside) bad
-drawn_not_refused text graph (BadContent node place) is other refused =
+drawn_not_refused kind text graph (BadContent node place) is other refused =
     let texts = is.0 in
-    let first : IsFirstBad Plain texts node place =
-    subst (λ (ts : List BoxText). IsFirstBad Plain ts node place)
+    let first : IsFirstBad kind texts node place =
+    subst (λ (ts : List BoxText). IsFirstBad kind ts node place)
     (HasTexts-once text refused.0 texts refused.1 is.1) refused.2 in
     let read = (is.2.reached node first.box.inside).1 first.box.reached in
     let inner = lt-ltb 1 node first.box.inner in
@@ -68,7 +68,7 @@ drawn_not_refused text graph (BadContent node place) is other refused =
     IsContent-IsFault (content_of (text_at texts node)) first.bad.left
     (record { lines = (box_of_graph graph node).lines; output = (box_of_graph graph node).output })
     content first.bad.fault
-drawn_not_refused text graph NoMemory is other refused = other refl
+drawn_not_refused kind text graph NoMemory is other refused = other refl
 
 -- two tests of one thing are the same
 same_test : (b c : Bool) (P : Type 0) → (b ≡ true) ↔ P → (c ≡ true) ↔ P → b ≡ c
@@ -88,9 +88,9 @@ made_of r s l m o p t u e f g h =
     ∙ ap (λ (x : List ℕ). record { reached = s; lines = m; output = p; targets = x }) h))
 
 -- a text draws one box
-box_once : (text : BoxText) (node : ℕ) (a b : GrfBox) → a.reached ≡ b.reached →
-    IsBoxOf Plain text node a → IsBoxOf Plain text node b → a ≡ b
-box_once text node a b same one other = by (is_read node a.reached) refl
+box_once : (kind : GraphKind) (text : BoxText) (node : ℕ) (a b : GrfBox) → a.reached ≡ b.reached →
+    IsBoxOf kind text node a → IsBoxOf kind text node b → a ≡ b
+box_once kind text node a b same one other = by (is_read node a.reached) refl
   where
     by : (r : Bool) → is_read node a.reached ≡ r → a ≡ b
     by true read =
@@ -118,17 +118,17 @@ same_boxes d (x ∷ xs) (y ∷ ys) len each =
     (same_boxes d xs ys (omega (arith, len)) (λ n low. each (suc n) (omega (arith, low))))
 
 -- a text draws one graph
-pub drawn_once : (text : List ℕ) (one other : Graph) → IsGraphOf Plain text one →
-    IsGraphOf Plain text other → one ≡ other
-drawn_once text one other is also =
+pub drawn_once : (kind : GraphKind) (text : List ℕ) (one other : Graph) → IsGraphOf kind text one →
+    IsGraphOf kind text other → one ≡ other
+drawn_once kind text one other is also =
     let texts = is.0 in
-    let draws : Draws Plain texts other =
-    subst (λ (ts : List BoxText). Draws Plain ts other) (HasTexts-once text also.0 texts also.1 is.1) also.2
+    let draws : Draws kind texts other =
+    subst (λ (ts : List BoxText). Draws kind ts other) (HasTexts-once text also.0 texts also.1 is.1) also.2
     in
     ap (λ (boxes : List GrfBox). record { boxes = boxes })
     (same_boxes _ one.boxes other.boxes (is.2.len ∙ sym draws.len) (λ n low.
     let inside : n < length texts = (let len = is.2.len in omega (arith, len, low)) in
-    box_once (text_at texts n) n (box_of_graph one n) (box_of_graph other n)
+    box_once kind (text_at texts n) n (box_of_graph one n) (box_of_graph other n)
     (same_test (box_of_graph one n).reached (box_of_graph other n).reached
     (Reached (ways_in texts) n) (is.2.reached n inside) (draws.reached n inside))
     (is.2.boxes n inside) (draws.boxes n inside)))

@@ -4,7 +4,8 @@ use Rattle.std.specs.Prelude.{◌≡◌, ◌≢◌, ◌⊎◌, ℕ, ◌<◌, ◌
 use Rattle.ux_plan.specs.Plans.{Format, Plan, Tells, decoded, gives, grows, reads, refusing, said_as, tests, then}
 use Rattle.ux_reasons.specs.declared.reason.Reason.{Reason}
 use Rattle.ux_reasons.specs.declared.reason.Reason.TheVariants.{Decode, Fst2, Grf, Net, TooManyGraphs}
-use Rattle.ux_grf.specs.declared.graph.GraphKind.TheVariants.{Plain}
+use Rattle.ux_grf.specs.declared.graph.GraphKind.{GraphKind}
+use Rattle.ux_grf.specs.declared.graph.GraphKind.TheVariants.{Morphological, Plain}
 use Rattle.ux_grf.specs.File as grf
 use Rattle.ux_grf.specs.declared.error.GrfError.{GrfError}
 use Rattle.ux_grf.specs.declared.error.GrfError.TheVariants as grf_error
@@ -32,9 +33,9 @@ MOST_GRAPHS = 65535
 abbrev pub MOST_READS : ℕ
 MOST_READS = 65536
 
--- the text draws no graph
-pub record IsNoGraph (text : List ℕ) (error : GrfError) : Type 0 where
-  pub refuses : grf.Refuses Plain text error
+-- the text draws no graph of the kind
+pub record IsNoGraph (kind : GraphKind) (text : List ℕ) (error : GrfError) : Type 0 where
+  pub refuses : grf.Refuses kind text error
   pub not_memory : error ≢ grf_error.NoMemory
 
 -- the file that a refusal of the graphs names: that of the graph at which it stands
@@ -47,28 +48,33 @@ NamesFile word (net_error.LeftRecursion name node) file = file ≡ named_file wo
 NamesFile word (net_error.MissingGraph name) file = ⊥
 NamesFile word net_error.NoMemory file = ⊥
 
--- files whose text draws a graph
+-- files whose text draws a graph of the kind
+abbrev pub drawing_of : GraphKind → Format Reason Graph
+drawing_of kind = decoded Decode (said_as Grf (grf.IsGraphOf kind) (IsNoGraph kind))
+
+-- those that are found in the tokens of a text
 abbrev pub drawing_format : Format Reason Graph
-drawing_format = decoded Decode (said_as Grf (grf.IsGraphOf Plain) IsNoGraph)
+drawing_format = drawing_of Plain
 
 -- the file of the graph of this name after so many others: one more than there may be is refused
 -- whatever it holds
-abbrev pub graph_format : (count : ℕ) (name : List ℕ) → Format Reason Drawn
-graph_format count name = record {
+abbrev pub graph_format : GraphKind → (count : ℕ) (name : List ℕ) → Format Reason Drawn
+graph_format kind count name = record {
   Is = λ file graph. (count < MOST_GRAPHS) × (graph.name ≡ name)
-      × drawing_format.Is file (record { boxes = graph.boxes });
-  Refuses = λ file reason. ((count < MOST_GRAPHS) × drawing_format.Refuses file reason)
+      × (drawing_of kind).Is file (record { boxes = graph.boxes });
+  Refuses = λ file reason. ((count < MOST_GRAPHS) × (drawing_of kind).Refuses file reason)
       ⊎ ((MOST_GRAPHS ≤ count) × (reason ≡ TooManyGraphs));
   IsTooLarge = λ file. ⊥;
 }
 
 -- the graphs after those that were read
-abbrev pub graphs_from : (word : List ℕ) → ℕ → List Drawn → Plan Reason (List Drawn)
-graphs_from word most graphs = grows (next_name word) (file_of word) graph_format most graphs
+abbrev pub graphs_from : GraphKind → (word : List ℕ) → ℕ → List Drawn → Plan Reason (List Drawn)
+graphs_from kind word most graphs =
+    grows (next_name word) (file_of word) (graph_format kind) most graphs
 
--- the graphs of the grammar whose main graph's file the word names
-abbrev pub graphs_plan : (word : List ℕ) → Plan Reason (List Drawn)
-graphs_plan word = graphs_from word MOST_READS []
+-- the graphs of the kind, of the grammar whose main graph's file the word names
+abbrev pub graphs_plan : GraphKind → (word : List ℕ) → Plan Reason (List Drawn)
+graphs_plan kind word = graphs_from kind word MOST_READS []
 
 -- the graphs are all read, and are not compiled: the file of the graph at fault is named
 abbrev pub RefusesGrammar : (word : List ℕ) → Letters → List Drawn → (file : List ℕ) → Reason →
@@ -76,14 +82,22 @@ abbrev pub RefusesGrammar : (word : List ℕ) → Letters → List Drawn → (fi
 RefusesGrammar word letters graphs file reason =
     Tells Net (λ error. net.Refuses letters graphs error × NamesFile word error file) reason
 
--- the drawn graphs of a grammar that has a meaning
-abbrev pub drawn_plan : (word : List ℕ) → Letters → Plan Reason (List Drawn)
-drawn_plan word letters =
-    then (graphs_plan word) (λ graphs.
+-- the drawn graphs of the kind, of a grammar that has a meaning
+abbrev pub kind_plan : GraphKind → (word : List ℕ) → Letters → Plan Reason (List Drawn)
+kind_plan kind word letters =
+    then (graphs_plan kind word) (λ graphs.
     tests (IsCompilable letters graphs) (refusing (RefusesGrammar word letters graphs))
     (gives graphs))
 
--- the same as a grammar of boxes
+-- those that are found in the tokens of a text
+abbrev pub drawn_plan : (word : List ℕ) → Letters → Plan Reason (List Drawn)
+drawn_plan word letters = kind_plan Plain word letters
+
+-- those that are found inside a word
+abbrev pub marked_plan : (word : List ℕ) → Letters → Plan Reason (List Drawn)
+marked_plan word letters = kind_plan Morphological word letters
+
+-- the drawn graphs of a grammar as a grammar of boxes
 abbrev pub boxes_plan : (word : List ℕ) → Letters → Plan Reason Source
 boxes_plan word letters =
     then (drawn_plan word letters) (λ graphs.

@@ -5,7 +5,7 @@ ghost use Rattle.ux_base.specs.Outside.{IsLater};
 ghost use Rattle.ux_plan.specs.Plans.{Halts, StopsTest, refusing};
 ghost use Rattle.ux_boxes.specs.Refusing.{drawn};
 ghost use Rattle.ux_compile.specs.Refusing.{IsCompilable};
-ghost use Rattle.ux_grammars.specs.Graphs.{NamesFile, RefusesGrammar, boxes_plan, drawn_plan, grammar_plan};
+ghost use Rattle.ux_grammars.specs.Graphs.{NamesFile, RefusesGrammar, boxes_plan, drawn_plan, grammar_plan, kind_plan, marked_plan};
 ghost use Rattle.ux_grammars.specs.Sources.{of_boxes};
 ghost use Rattle.ux_grammars.specs.Reading.{AreWholeGraphs, Compiles, HasDrawnNet, HasNet, IsPlaced, IsSoundNet};
 
@@ -16,7 +16,7 @@ use std::alloc::Global;
 use ux_alphabet::Alphabet;
 use ux_base::{Folder, Txt};
 use ux_boxes::NetError;
-use ux_grf::Graph;
+use ux_grf::{Graph, GraphKind};
 use ux_net::Net;
 use ux_plan::Stop;
 use ux_reasons::Reason;
@@ -66,7 +66,6 @@ fn read_boxes_net<F: Folder>(
 }
 
 /// Reads the graphs of the grammar whose main graph's file the word names, and compiles them.
-#[tactic(auto, using(ux_plan::proofs::PlanSteps::plan_steps))]
 pub fn read_drawn_net<F: Folder>(
     alloc: Global,
     word: &str,
@@ -82,7 +81,48 @@ pub fn read_drawn_net<F: Folder>(
         (Halts (drawn_plan word.now alphabet.now)
         (F.seen folder.old) (F.seen folder.new)) }
 {
-    let graphs = read_graphs(alloc, word, folder)?;
+    read_kind_net(alloc, GraphKind::Plain, word, alphabet, folder)
+}
+
+/// The same where the grammar is one of the morphological mode, whose graphs may have the lines `$<` and
+/// `$>`.
+pub fn read_marked_net<F: Folder>(
+    alloc: Global,
+    word: &str,
+    alphabet: &Alphabet,
+    folder: &mut F,
+) -> Result<Net, Stop<Reason>>
+    ensures later { IsLater (F.seen folder.old) (F.seen folder.new) }
+    ensures ok { IfOk result
+        (HasDrawnNet (marked_plan word.now alphabet.now)
+        (F.seen folder.old).files alphabet.now) }
+    ensures sound { IfOk result IsSoundNet }
+    ensures err { IfErr result
+        (Halts (marked_plan word.now alphabet.now)
+        (F.seen folder.old) (F.seen folder.new)) }
+{
+    read_kind_net(alloc, GraphKind::Morphological, word, alphabet, folder)
+}
+
+/// The same for graphs of this kind.
+#[tactic(auto, using(ux_plan::proofs::PlanSteps::plan_steps))]
+fn read_kind_net<F: Folder>(
+    alloc: Global,
+    kind: GraphKind,
+    word: &str,
+    alphabet: &Alphabet,
+    folder: &mut F,
+) -> Result<Net, Stop<Reason>>
+    ensures later { IsLater (F.seen folder.old) (F.seen folder.new) }
+    ensures ok { IfOk result
+        (HasDrawnNet (kind_plan kind word.now alphabet.now)
+        (F.seen folder.old).files alphabet.now) }
+    ensures sound { IfOk result IsSoundNet }
+    ensures err { IfErr result
+        (Halts (kind_plan kind word.now alphabet.now)
+        (F.seen folder.old) (F.seen folder.new)) }
+{
+    let graphs = read_graphs(alloc, kind, word, folder)?;
     let net = compile(alloc, word, alphabet, graphs)?;
     Ok(net)
 }

@@ -3,14 +3,16 @@
 //! The names that a graph calls are added to a table as the graph is read, each once, so the table
 //! tells which graph is read next, and a grammar has been read when no name is left.
 
-ghost use Rattle.std.specs.Prelude.{◌≡◌, ◌<◌, ◌≤◌, ◌∷◌, ℕ, List, [], All, IfErr, IfOk, OnOk, length, slice_get, Some, string_bytes};
+ghost use Rattle.std.specs.Prelude.{◌≡◌, ◌*◌, ◌<◌, ◌≤◌, ◌∷◌, ℕ, List, [], All, IfErr, IfOk, OnOk, length, slice_get, Some, string_bytes};
 ghost use Rattle.ux_base.specs.Outside.{IsLater, MAX};
 ghost use Rattle.ux_plan.specs.Plans.{Comes, Halts, Reads, ReadsNext, StopsFile, StopsNext, StopsTest, refusing};
+ghost use Rattle.ux_grf.specs.File.{IsGraphOf, Refuses};
 ghost use Rattle.ux_grf.specs.Needs.{calls_of};
+ghost use Rattle.ux_grf.specs.Size.{size_of};
 ghost use Rattle.ux_grf.specs.WellFormed.{IsWellFormed};
 ghost use Rattle.ux_base.specs.Distinct.{GrowsBy, with_text};
 ghost use Rattle.ux_boxes.specs.Refusing.{drawn, drawn_of};
-ghost use Rattle.ux_grammars.specs.Graphs.{MOST_GRAPHS, drawing_format, graph_format, graphs_plan};
+ghost use Rattle.ux_grammars.specs.Graphs.{MOST_GRAPHS, drawing_format, drawing_of, graph_format, graphs_plan};
 ghost use Rattle.ux_grammars.specs.Naming.{file_of as file_of_graph, main_name as main_name_of, next_name};
 ghost use Rattle.ux_grammars.specs.Reading.{AreWholeGraphs, IsGiven, IsGivenGraph, IsReading};
 
@@ -18,33 +20,34 @@ use crate::naming::{file_of, main_name};
 use indexmap::IndexSet;
 use std::alloc::Global;
 use ux_base::{Folder, Mem, Txt};
-use ux_grf::{Graph, GrfError, needs, read_grf};
+use ux_grf::{Graph, GraphKind, GrfError, needs, read_grf, read_marked};
 use ux_plan::{Stop, decode_file, read_bytes, refused};
 use ux_reasons::Reason;
 
 /// The most graphs that a grammar may have.
 const MAX_GRAPHS: usize = 65_535;
 
-/// Reads the graphs of the grammar whose main graph's file the word names, each once.
+/// Reads the graphs of this kind, of the grammar whose main graph's file the word names, each once.
 #[tactic(auto, using(ux_plan::proofs::PlanSteps::plan_steps))]
 pub fn read_graphs<F: Folder>(
     alloc: Global,
+    kind: GraphKind,
     word: &str,
     folder: &mut F,
 ) -> Result<Vec<(String, Graph)>, Stop<Reason>>
     ensures later { IsLater (F.seen folder.old) (F.seen folder.new) }
     ensures ok { IfOk result (λ graphs. Comes
-        (graphs_plan word.now) (F.seen folder.old).files
+        (graphs_plan kind word.now) (F.seen folder.old).files
         (drawn graphs.items)) }
     ensures whole { IfOk result (λ graphs. AreWholeGraphs graphs.items) }
-    ensures err { IfErr result (Halts (graphs_plan word.now)
+    ensures err { IfErr result (Halts (graphs_plan kind word.now)
         (F.seen folder.old) (F.seen folder.new)) }
 {
     let mut names = IndexSet::new(alloc);
     add_main(alloc, word, &mut names)?;
     let mut graphs = Vec::new(alloc);
     while graphs.len() < names.len() {
-        read_next(alloc, word, &mut names, &mut graphs, folder)?;
+        read_next(alloc, kind, word, &mut names, &mut graphs, folder)?;
     }
     Ok(graphs)
 }
@@ -62,6 +65,7 @@ fn add_main(alloc: Global, word: &str, names: &mut IndexSet<Txt>) -> Mem<()>
 #[tactic(auto, using(crate::proofs::ReadingLemmas::memory_next))]
 fn read_next<F: Folder>(
     alloc: Global,
+    kind: GraphKind,
     word: &str,
     names: &mut IndexSet<Txt>,
     graphs: &mut Vec<(String, Graph)>,
@@ -73,16 +77,16 @@ fn read_next<F: Folder>(
     ensures reading { OnOk result (IsReading word.now names.new.keys graphs.new.items) }
     ensures few { OnOk result (length graphs.old.items < MOST_GRAPHS) }
     ensures ok { OnOk result (ReadsNext (next_name word.now) (file_of_graph word.now)
-        graph_format (F.seen folder.old).files
+        (graph_format kind) (F.seen folder.old).files
         (drawn graphs.old.items) (drawn graphs.new.items)) }
     ensures err { IfErr result (StopsNext (next_name word.now) (file_of_graph word.now)
-        graph_format (drawn graphs.old.items)
+        (graph_format kind) (drawn graphs.old.items)
         (F.seen folder.old) (F.seen folder.new)) }
 {
     let count = graphs.len();
     let name = name_at(names, count)?;
     let file = file_of(alloc, word, count, name.as_str())?;
-    let graph = read_graph(alloc, file.as_str(), count, name, folder)?;
+    let graph = read_graph(alloc, kind, file.as_str(), count, name, folder)?;
     add_needs(alloc, &graph.1, names)?;
     graphs.push(graph)?;
     Ok(())
@@ -103,6 +107,7 @@ fn name_at(names: &IndexSet<Txt>, place: usize) -> Mem<String>
 #[tactic(auto, using(crate::proofs::DrawingLemmas::drawings))]
 fn read_graph<F: Folder>(
     alloc: Global,
+    kind: GraphKind,
     file: &str,
     count: usize,
     name: String,
@@ -112,18 +117,18 @@ fn read_graph<F: Folder>(
     ensures few { OnOk result (count < MOST_GRAPHS) }
     ensures named { IfOk result (λ graph. string_bytes graph.0 ≡ string_bytes name) }
     ensures ok { IfOk result (λ graph. Reads
-        (graph_format count (string_bytes name)) file.now
+        (graph_format kind count (string_bytes name)) file.now
         (F.seen folder.old).files (drawn_of graph)) }
     ensures given { IfOk result IsGiven }
     ensures err { IfErr result (StopsFile
-        (graph_format count (string_bytes name)) file.now
+        (graph_format kind count (string_bytes name)) file.now
         (F.seen folder.old) (F.seen folder.new)) }
 {
     let bytes = read_bytes(alloc, file, folder)?;
     if count >= MAX_GRAPHS {
         return Err(refused(alloc, file, Reason::TooManyGraphs));
     }
-    let graph = drawn_graph(alloc, file, bytes)?;
+    let graph = graph_of_kind(alloc, kind, file, bytes)?;
     Ok((name, graph))
 }
 
@@ -135,11 +140,40 @@ pub fn drawn_graph(alloc: Global, file: &str, bytes: Vec<u8>) -> Result<Graph, S
     ensures err { IfErr result (StopsTest (refusing (λ named reason. (named ≡ file.now)
         × drawing_format.Refuses bytes.items reason))) }
 {
+    graph_of_kind(alloc, GraphKind::Plain, file, bytes)
+}
+
+/// The graph of this kind that the bytes of the file of this name draw.
+fn graph_of_kind(
+    alloc: Global,
+    kind: GraphKind,
+    file: &str,
+    bytes: Vec<u8>,
+) -> Result<Graph, Stop<Reason>>
+    requires { length bytes.items ≤ MAX }
+    ensures ok { IfOk result ((drawing_of kind).Is bytes.items) }
+    ensures given { IfOk result IsGivenGraph }
+    ensures err { IfErr result (StopsTest (refusing (λ named reason. (named ≡ file.now)
+        × (drawing_of kind).Refuses bytes.items reason))) }
+{
     let text = decode_file(alloc, file, bytes)?;
-    match read_grf(alloc, text.as_str()) {
+    match graph_in(alloc, kind, text.as_str()) {
         Ok(graph) => Ok(graph),
         Err(GrfError::NoMemory) => Err(Stop::NoMemory),
         Err(error) => Err(refused(alloc, file, Reason::Grf(error))),
+    }
+}
+
+/// The graph of this kind that the text draws.
+fn graph_in(alloc: Global, kind: GraphKind, text: &str) -> Result<Graph, GrfError>
+    ensures ok { IfOk result (IsGraphOf kind text.now) }
+    ensures well_formed { IfOk result IsWellFormed }
+    ensures size { IfOk result (λ graph. size_of graph ≤ 4 * length text.now) }
+    ensures err { IfErr result (Refuses kind text.now) }
+{
+    match kind {
+        GraphKind::Plain => read_grf(alloc, text),
+        GraphKind::Morphological => read_marked(alloc, text),
     }
 }
 

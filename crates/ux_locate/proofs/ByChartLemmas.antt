@@ -1,53 +1,17 @@
--- The hits that come from starts, all of them, and what a chart tells of contexts.
+-- The hits that come from starts, all of them.
 use Rattle.std.proofs.Common.{arith, ◌≡◌, ℕ, ◌+◌, ◌≤◌, List, [], ◌∷◌, ◌++◌, inl, inr, length, refl, sym, subst}
-use Rattle.std.specs.Prelude.{Contains}
 use Rattle.std.proofs.lemmas.List.Elements.{Contains-append_left, Contains-append_right, Contains-append_cases}
 use Rattle.ux_base.specs.declared.settings.Policy.TheVariants.{All}
-use Rattle.ux_meaning.proofs.Levels.{in_the_end}
-use Rattle.ux_net.specs.Nets.{net_grammar}
 use Rattle.ux_outputs.specs.declared.event.Event.{Event}
 use Rattle.ux_outputs.specs.declared.hit.Hit.{Hit}
-use Rattle.ux_text_chart.specs.declared.text_chart.TextChart.{TextChart}
-use Rattle.ux_text_chart.specs.Leading.{input_of}
-use Rattle.ux_text_chart.specs.TextCharts.{IsTextChart, chart_setting}
 use Rattle.ux_walk.proofs.Collecting.{includes_nothing, none_in}
-use Rattle.ux_walk.specs.Contexts.{ContextsTold}
 use Rattle.ux_walk.specs.Noting.{Includes}
-use Rattle.ux_walk.specs.Settings.{Derives, Setting}
+use Rattle.ux_walk.specs.Settings.{Derives}
 use Rattle.ux_locate.specs.declared.search.Search.{Search}
-use Rattle.ux_locate.specs.ByChart.{AsksChart, Levelled, levelled, tells_in}
 use Rattle.ux_locate.specs.Finding.{AreAllHits, AreHitsBefore, IsHitAt, IsHitFrom, setting_in}
 use Rattle.ux_locate.specs.Hits.{IsStart}
 use Rattle.ux_locate.specs.Keeping.{AreBest, last_of}
 use Rattle.ux_locate.proofs.StartLemmas.{found_all, found_splits}
-
--- the contexts that a chart of a setting tells are those that are meant
-pub chart_told : (chart : TextChart) (setting : Setting) → IsTextChart chart →
-    chart_setting chart ≡ setting → (told : Levelled) → told ≡ levelled chart →
-    ContextsTold setting (AsksChart told) (tells_in told)
-chart_told chart setting filled made told is =
-    subst (λ (t : Levelled). ContextsTold setting (AsksChart t) (tells_in t)) (sym is)
-    (subst (λ (s : Setting). ContextsTold s (AsksChart (levelled chart)) (tells_in (levelled chart)))
-    made (record {
-      asked = λ g edge at opening inside. record { opening = opening; inside = inside };
-      meant = record {
-        level = filled.parts.level;
-        levels = chart.parts.levels;
-        nested = filled.parts.levels;
-        exact = λ g label opening at c opens. (λ applies. applies, λ applies. applies);
-        entered = λ h at end events derives asked. (
-          end,
-          events,
-          (in_the_end (input_of (chart_setting chart)) (net_grammar (chart_setting chart).net)
-              filled.parts.level chart.parts.levels filled.parts.levels h at end events).0 derives,
-        );
-      };
-    }))
-
--- a list that isn't empty has an item
-pub some_item : (items : List ℕ) → (length items ≡ 0 → ⊥) → (item : ℕ) × Contains items item
-some_item [] some = absurd (some refl)
-some_item (x ∷ items) some = (x, (0, omega arith, refl))
 
 module _ (search : Search) where
   -- before the first position there is none

@@ -5,4 +5,3 @@ pub mod Spans
 pub mod Finding
 pub mod Keeping
 pub mod Order
-pub mod ByChart

@@ -11,12 +11,12 @@ ghost use Rattle.ux_walk.specs.Noting.{Includes};
 ghost use Rattle.ux_walk.specs.Settings.{Derives};
 ghost use Rattle.ux_locate.specs.Finding.{AreAllHits, AreKeptFor, HasMasks, IsHitAt, setting_in, tokens_in};
 
-use crate::chart_contexts::{ChartContexts, derives_some};
 use crate::from_start::best_hits;
 use crate::search::Search;
 use crate::walks::is_start;
 use std::alloc::Global;
 use ux_base::{Mem, Policy};
+use ux_chart_contexts::{ChartContexts, derives_some};
 use ux_outputs::Hit;
 use ux_parts::Parts;
 use ux_text_chart::TextChart;

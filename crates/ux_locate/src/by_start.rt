@@ -12,7 +12,6 @@ ghost use Rattle.ux_walk.specs.Contexts.{ContextsTold};
 ghost use Rattle.ux_locate.specs.Finding.{AreKeptFor, HasMasks, IsFound, IsHitFrom, setting_in, tokens_in};
 ghost use Rattle.ux_locate.specs.Keeping.{AreKept, first_of, last_of};
 
-use crate::chart_contexts::ChartContexts;
 use crate::ends::{ChartEnds, Ends};
 use crate::expanding::{has_calls, suits_walks};
 use crate::from_start::best_hits;
@@ -21,6 +20,7 @@ use crate::search::Search;
 use crate::walks::{find_first_end, may_find};
 use std::alloc::Global;
 use ux_base::Mem;
+use ux_chart_contexts::ChartContexts;
 use ux_outputs::Hit;
 use ux_parts::Parts;
 use ux_text_chart::TextChart;

@@ -25,7 +25,6 @@
 mod best;
 mod by_chart;
 mod by_start;
-mod chart_contexts;
 mod ends;
 mod expanding;
 mod from_start;

@@ -23,8 +23,12 @@ use Rattle.ux_inflect.specs.declared.error.InflectError.{InflectError}
 use Rattle.ux_inflect.specs.declared.error.InflectError.TheVariants as inflect_error
 use Rattle.ux_flatten.specs.declared.error.FlattenError.{FlattenError}
 use Rattle.ux_flatten.specs.declared.error.FlattenError.TheVariants as flatten_error
+use Rattle.ux_marks.specs.declared.error.MorphError.{MorphError}
+use Rattle.ux_marks.specs.declared.error.MorphError.TheVariants as morph_error
+use Rattle.ux_reading_match.specs.declared.error.TfstError.{TfstError}
+use Rattle.ux_reading_match.specs.declared.error.TfstError.TheVariants as tfst_error
 use Rattle.ux_reasons.specs.declared.reason.Reason.{Reason}
-use Rattle.ux_reasons.specs.declared.reason.Reason.TheVariants.{Decode, Alphabet, Grf, Net, Fst2, Dela, Image, Sentence, Rule, Inflect, Flatten, TooManyGraphs}
+use Rattle.ux_reasons.specs.declared.reason.Reason.TheVariants.{Decode, Alphabet, Grf, Net, Fst2, Dela, Image, Sentence, Rule, Inflect, Flatten, Morph, Tfst, TooManyGraphs}
 
 -- texts, one after the other
 abbrev pub joined : List (List ℕ) → List ℕ
@@ -134,6 +138,17 @@ flatten_reason (flatten_error.NegativeCut graph node) =
     at_node (codes "NegativeCut graph=") graph node
 flatten_reason flatten_error.NoMemory = codes "NoMemory" ∷ []
 
+-- the same of a grammar that isn't matched inside words
+abbrev pub morph_reason : MorphError → List (List ℕ)
+morph_reason (morph_error.BadMarks graph node) = at_node (codes "BadMarks graph=") graph node
+morph_reason (morph_error.BadOutput token) = codes "BadOutput token=" ∷ token ∷ []
+morph_reason morph_error.NoMemory = codes "NoMemory" ∷ []
+
+-- the same of a grammar that isn't sought in sentence automata
+abbrev pub tfst_reason : TfstError → List (List ℕ)
+tfst_reason (tfst_error.BadItem graph node) = at_node (codes "BadItem graph=") graph node
+tfst_reason tfst_error.NoMemory = codes "NoMemory" ∷ []
+
 -- the same of any file
 abbrev pub reason_of : Reason → List (List ℕ)
 reason_of (Decode error) = decode_reason error
@@ -147,6 +162,8 @@ reason_of (Sentence error) = sentence_reason error
 reason_of (Rule error) = rule_reason error
 reason_of (Inflect error) = inflect_reason error
 reason_of (Flatten error) = flatten_reason error
+reason_of (Morph error) = morph_reason error
+reason_of (Tfst error) = tfst_reason error
 reason_of TooManyGraphs = codes "TooManyGraphs" ∷ []
 
 -- the line of a file that is refused, by its reason

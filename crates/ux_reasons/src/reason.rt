@@ -9,7 +9,9 @@ use ux_fst2::Fst2Error;
 use ux_grf::GrfError;
 use ux_image_reader::ImageError;
 use ux_inflect::InflectError;
+use ux_marks::MorphError;
 use ux_plan::OfDecode;
+use ux_reading_match::TfstError;
 use ux_rules::RuleError;
 use ux_sentence::SentenceError;
 
@@ -38,6 +40,10 @@ pub enum Reason {
     Inflect(InflectError),
     /// The reason of a grammar that isn't flattened.
     Flatten(FlattenError),
+    /// The reason of a grammar of the morphological mode.
+    Morph(MorphError),
+    /// The reason of a grammar that isn't sought in sentence automata.
+    Tfst(TfstError),
     /// The grammar has 65,535 graphs before this one.
     TooManyGraphs,
 }

@@ -6,7 +6,7 @@
 ghost use Rattle.std.specs.Prelude.{◌≤◌, ◌∷◌, [], OnOk, OnErr, codes, map};
 ghost use Rattle.std.specs.Fmt.{decimal};
 ghost use Rattle.ux_base.specs.Outside.{Rose, Appended, AppendedFront};
-ghost use Rattle.ux_reasons.specs.Reasons.{joined, refusal, reason_of, at_node, bad_mask, decode_reason, alphabet_reason, fst2_reason, grf_reason, net_reason, at_place, dela_reason, image_reason, sentence_reason, rule_reason, inflect_reason, flatten_reason};
+ghost use Rattle.ux_reasons.specs.Reasons.{joined, refusal, reason_of, at_node, bad_mask, decode_reason, alphabet_reason, fst2_reason, grf_reason, net_reason, at_place, dela_reason, image_reason, sentence_reason, rule_reason, inflect_reason, flatten_reason, morph_reason, tfst_reason};
 
 use crate::reason::Reason;
 use itoa::Buffer;
@@ -20,6 +20,8 @@ use ux_fst2::Fst2Error;
 use ux_grf::GrfError;
 use ux_image_reader::ImageError;
 use ux_inflect::InflectError;
+use ux_marks::MorphError;
+use ux_reading_match::TfstError;
 use ux_rules::RuleError;
 use ux_sentence::SentenceError;
 
@@ -59,6 +61,8 @@ pub fn say_refusal<E: Sink>(err: &mut E, file: &str, reason: &Reason) -> Result<
         Reason::Rule(error) => say_rule_error(err, file, error),
         Reason::Inflect(error) => say_inflect_error(err, file, error),
         Reason::Flatten(error) => say_flatten_error(err, file, error),
+        Reason::Morph(error) => say_morph_error(err, file, error),
+        Reason::Tfst(error) => say_tfst_error(err, file, error),
         Reason::TooManyGraphs => say_name(err, file, "TooManyGraphs"),
     }
 }
@@ -508,5 +512,38 @@ fn say_flatten_error<E: Sink>(
             say_node(err, file, "NegativeCut graph=", graph, *node)
         },
         FlattenError::NoMemory => say_name(err, file, "NoMemory"),
+    }
+}
+
+/// Writes the line of a grammar that isn't matched inside words.
+fn say_morph_error<E: Sink>(err: &mut E, file: &str, error: &MorphError) -> Result<(), SinkError>
+    ensures later { E.faults err.old ≤ E.faults err.new }
+    ensures cause { OnErr result (Rose (E.faults err.old) (E.faults err.new)) }
+    ensures line { OnOk result (Appended (E.written err.old) (E.written err.new)
+        (refusal file.now (morph_reason error.now))) }
+    ensures front { OnErr result (AppendedFront (E.written err.old) (E.written err.new)
+        (refusal file.now (morph_reason error.now))) }
+{
+    match error {
+        MorphError::BadMarks { graph, node } => {
+            say_node(err, file, "BadMarks graph=", graph, *node)
+        },
+        MorphError::BadOutput { token } => say_named(err, file, "BadOutput token=", token),
+        MorphError::NoMemory => say_name(err, file, "NoMemory"),
+    }
+}
+
+/// Writes the line of a grammar that isn't sought in sentence automata.
+fn say_tfst_error<E: Sink>(err: &mut E, file: &str, error: &TfstError) -> Result<(), SinkError>
+    ensures later { E.faults err.old ≤ E.faults err.new }
+    ensures cause { OnErr result (Rose (E.faults err.old) (E.faults err.new)) }
+    ensures line { OnOk result (Appended (E.written err.old) (E.written err.new)
+        (refusal file.now (tfst_reason error.now))) }
+    ensures front { OnErr result (AppendedFront (E.written err.old) (E.written err.new)
+        (refusal file.now (tfst_reason error.now))) }
+{
+    match error {
+        TfstError::BadItem { graph, node } => say_node(err, file, "BadItem graph=", graph, *node),
+        TfstError::NoMemory => say_name(err, file, "NoMemory"),
     }
 }

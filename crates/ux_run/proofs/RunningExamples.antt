@@ -65,6 +65,11 @@ a_flat_grammar = tt
 a_flat_file : IsAsked (asked_by (codes "flatten" ∷ codes "g.fst2" ∷ codes "a.txt" ∷ []))
 a_flat_file = tt
 
+-- a grammar of either kind is searched in the automata of sentences
+a_searched_file :
+    IsAsked (asked_by (codes "tfind" ∷ codes "g.grf" ∷ codes "t.tfst" ∷ codes "a.txt" ∷ []))
+a_searched_file = tt
+
 -- lemmas of a file of any name are inflected
 some_forms : IsAsked (asked_by (codes "inflect" ∷ codes "s.dic" ∷ []))
 some_forms = tt
@@ -135,10 +140,14 @@ never_applied : IsAsked (asked_by (codes "cascade" ∷ codes "t.txt" ∷ codes "
     ∷ codes "merge0:g.grf" ∷ [])) → ⊥
 never_applied is = is
 
--- the last commands are read, and not built
-a_search_of_sentences : IsAsked (asked_by (codes "tfind" ∷ codes "g.grf" ∷ codes "t.tfst"
+-- words are analysed by a drawn graph, and not by a compiled one
+a_morphological_graph : IsAsked (asked_by (codes "morpho" ∷ codes "g.grf" ∷ codes "t.txt"
+    ∷ codes "a.txt" ∷ codes "d.dic" ∷ []))
+a_morphological_graph = tt
+
+a_compiled_graph : IsAsked (asked_by (codes "morpho" ∷ codes "g.fst2" ∷ codes "t.txt"
     ∷ codes "a.txt" ∷ [])) → ⊥
-a_search_of_sentences is = is
+a_compiled_graph is = is
 
 some_help : IsAsked (asked_by (codes "--help" ∷ []))
 some_help = tt

@@ -1,6 +1,6 @@
 -- What a run has to answer, and how it ends. This file carries the crate's public meaning: `asked_of`
 -- is the table of requests.
-use Rattle.std.specs.Prelude.{◌≡◌, ◌⊎◌, ⊤, ℕ, Bool, true, false, List, Option, Some, None, Result, Ok, Err, Vec}
+use Rattle.std.specs.Prelude.{◌≡◌, ◌⊎◌, ⊤, ℕ, true, false, List, Option, Some, None, Result, Ok, Err, Vec}
 use Rattle.std.specs.declared.alloc.Global.{Global}
 use Rattle.ux_base.specs.Outside.{Files, Seen}
 use Rattle.ux_base.specs.declared.settings.Sort.{Sort}
@@ -25,7 +25,9 @@ use Rattle.ux_cmd_compress.specs.Compress.{compress}
 use Rattle.ux_cmd_dico.specs.Dico.{dico}
 use Rattle.ux_cmd_fst2.specs.Fst2.{fst2}
 use Rattle.ux_cmd_flatten.specs.Flatten.{flatten}
+use Rattle.ux_cmd_tfind.specs.Tfind.{tfind}
 use Rattle.ux_cmd_inflect.specs.Inflect.{inflect}
+use Rattle.ux_cmd_morpho.specs.Morpho.{morpho}
 use Rattle.ux_cmd_txt2tfst.specs.Tfst.{txt2tfst}
 use Rattle.ux_cmd_elag.specs.Elag.{elag}
 use Rattle.ux_cmd_bench.specs.Bench.{IsSummaryOf}
@@ -62,7 +64,7 @@ concordance_command search left right sort =
     concord search.graph search.text search.alphabet search.dics search.mode search.policy
     search.novar search.chars (record { left = left; right = right; sort = sort })
 
--- what a request asks for: a command where it is built
+-- the command for which a request asks
 abbrev pub asked_of : Request → Asked
 asked_of (Locate search) = asks (index_command search)
 asked_of (Concord search left right sort) = asks (concordance_command search left right sort)
@@ -75,13 +77,13 @@ asked_of (Dico text alphabet dics chars) = asks (dico text alphabet dics chars)
 asked_of (Fst2 graph alphabet chars) = asks (fst2 graph alphabet chars)
 asked_of (Flatten graph alphabet depth) = asks (flatten graph alphabet depth)
 asked_of (Inflect stems) = asks (inflect stems)
+asked_of (Morpho graph text alphabet dics) = asks (morpho graph text alphabet dics)
 asked_of (Tfst text alphabet dics chars) = asks (txt2tfst text alphabet dics chars)
 asked_of (Elag tfst rules) = asks (elag tfst rules)
 asked_of (Bench n) = asks (unread_command (IsSummaryOf n))
 asked_of Help = asks (text_command HELP.now)
 asked_of Version = asks (text_command VERSION.now)
-asked_of (Tfind graph tfst alphabet) = nothing
-asked_of (Morpho graph text alphabet dics) = nothing
+asked_of (Tfind graph tfst alphabet) = asks (tfind graph tfst alphabet)
 
 -- what a request asks for, if the words are one
 abbrev pub asked_if : Option Request → Asked

@@ -21,6 +21,8 @@ use ux_cmd_flatten::flatten;
 use ux_cmd_fst2::fst2;
 use ux_cmd_inflect::inflect;
 use ux_cmd_locate::locate;
+use ux_cmd_morpho::morpho;
+use ux_cmd_tfind::tfind;
 use ux_cmd_tokenize::tokenize;
 use ux_cmd_txt2tfst::txt2tfst;
 use ux_command_line::{HELP, Request, Search, VERSION};
@@ -80,6 +82,16 @@ pub fn answer_to<F: Folder>(
             depth,
         } => by_command(flatten(alloc, graph.as_str(), alphabet.as_str(), *depth, folder)),
         Request::Inflect { stems } => by_command(inflect(alloc, stems.as_str(), folder)),
+        Request::Morpho {
+            graph,
+            text,
+            alphabet,
+            dics,
+        } => {
+            let (graph, text) = (graph.as_str(), text.as_str());
+            let (alphabet, dics) = (alphabet.as_str(), dics.as_slice());
+            by_command(morpho(alloc, graph, text, alphabet, dics, folder))
+        }
         Request::Tfst {
             text,
             alphabet,
@@ -106,7 +118,14 @@ pub fn answer_to<F: Folder>(
         Request::Bench { n } => summary_of(alloc, *n),
         Request::Help => text_of(alloc, HELP),
         Request::Version => text_of(alloc, VERSION),
-        Request::Tfind { .. } | Request::Morpho { .. } => Err(Status::Usage),
+        Request::Tfind {
+            graph,
+            tfst,
+            alphabet,
+        } => {
+            let (graph, tfst, alphabet) = (graph.as_str(), tfst.as_str(), alphabet.as_str());
+            by_command(tfind(alloc, graph, tfst, alphabet, folder))
+        }
     }
 }
 

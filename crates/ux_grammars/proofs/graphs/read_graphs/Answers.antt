@@ -31,8 +31,8 @@ loop-alloc-preserved g c =
         length-append graphs (read.ok.value ∷ []),
       );
       rest = loop_more (next_name c.args.word.now) (file_of c.args.word.now)
-          graph_format MOST_READS
-          (graphs_plan c.args.word.now) (seen c.args.folder.now)
+          (graph_format c.args.kind) MOST_READS
+          (graphs_plan c.args.kind c.args.word.now) (seen c.args.folder.now)
           (seen l.folder) l.invariant.later graphs few l.invariant.rest (drawn all) read.ok;
     }
 
@@ -46,8 +46,8 @@ returns-in_err-read_next-clause-err g c =
     let len = length-map l.graphs.items drawn_of in
     let few : length graphs < MOST_READS = omega (arith, l.invariant.few, len) in
     rw (p.1, p.2) (loop_stops (next_name c.args.word.now) (file_of c.args.word.now)
-    graph_format MOST_READS
-    (graphs_plan c.args.word.now)
+    (graph_format c.args.kind) MOST_READS
+    (graphs_plan c.args.kind c.args.word.now)
     (seen c.args.folder.now) (seen l.folder) l.invariant.later graphs few l.invariant.rest
     (seen c.read_next.new.folder) c.in_err-read_next.field-0.0 c.in_err-read_next.ensures.err)
 
@@ -66,8 +66,8 @@ returns-clause-ok g c =
       l.graphs.ok.0,
     ) in
     loop_ends (next_name c.args.word.now) (file_of c.args.word.now)
-    graph_format MOST_READS
-    (graphs_plan c.args.word.now)
+    (graph_format c.args.kind) MOST_READS
+    (graphs_plan c.args.kind c.args.word.now)
     (seen c.args.folder.now) (seen l.folder) l.invariant.later graphs few l.invariant.rest
     (none_left c.args.word.now l.names.keys l.graphs.items l.invariant.reading past)
 

@@ -13,9 +13,9 @@ invariant-loop-alloc g l = record {
   reading : IsReading l.word l.names.keys l.graphs.items;
   few : length l.graphs.items ≤ MOST_GRAPHS;
   rest : IsRest (g.F.Folder.seen l.fn.folder).files
-      (graphs_from l.word
+      (graphs_from l.kind l.word
       (MOST_READS - length (drawn l.graphs.items)) (drawn l.graphs.items))
-      (graphs_plan l.word);
+      (graphs_plan l.kind l.word);
 }
 
 -- a grammar has no more graphs than it may have

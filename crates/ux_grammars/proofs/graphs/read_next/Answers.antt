@@ -15,7 +15,7 @@ returns-in_err-graph-clause-err g c =
     let file = c.as_str-2.ensures.value ∙ (c.in_ok-file.ensures
     ∙ ap (file_of word count) c.as_str.ensures.value) in
     rw (p.1, p.2) (stops_next word c.args.names.now.keys c.args.graphs.now.items c.requires.reading
-    graph_format count
+    (graph_format c.args.kind) count
     (string_bytes c.in_ok-name.name) c.as_str-2.result.now
     (c.len-count.ensures ∙ c.args.graphs.now.ok.0) c.in_ok-name.ensures file
     (seen c.args.folder.now) (seen c.read_graph.new.folder) c.in_err-graph.field-0.0
@@ -28,7 +28,7 @@ returns-clause-ok g c =
     let file = c.as_str-2.ensures.value ∙ (c.in_ok-file.ensures
     ∙ ap (file_of word count) c.as_str.ensures.value) in
     reads_next word c.args.names.now.keys c.args.graphs.now.items c.requires.reading
-    graph_format count
+    (graph_format c.args.kind) count
     (string_bytes c.in_ok-name.name) c.as_str-2.result.now
     (c.len-count.ensures ∙ c.args.graphs.now.ok.0) c.in_ok-name.ensures file
     (g.F.Folder.seen c.args.folder.now).files c.in_ok-graph.graph c.push.new.self.items

@@ -3,7 +3,8 @@ use Rattle.std.proofs.lemmas.Bool.{false≢true}
 use Rattle.ux_outputs.specs.declared.event.Event.{Event}
 use Rattle.ux_walk.specs.Settings.{Derives, Setting}
 use Rattle.ux_locate.specs.Finding.{setting_in}
-use Rattle.ux_locate.proofs.ByChartLemmas.{chart_told, hits_added, hits_of_no_end, hits_of_no_start}
+use Rattle.ux_chart_contexts.proofs.ToldLemmas.{chart_told}
+use Rattle.ux_locate.proofs.ByChartLemmas.{hits_added, hits_of_no_end, hits_of_no_start}
 use Rattle.ux_locate.proofs.by_chart.add_hits.Goals as goal
 
 pub best_hits-requires-clause-told : goal.best_hits-requires-clause-told

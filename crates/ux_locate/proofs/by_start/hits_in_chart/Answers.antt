@@ -1,5 +1,5 @@
 use Rattle.ux_locate.specs.Finding.{setting_in}
-use Rattle.ux_locate.proofs.ByChartLemmas.{chart_told}
+use Rattle.ux_chart_contexts.proofs.ToldLemmas.{chart_told}
 use Rattle.ux_locate.proofs.by_start.hits_in_chart.Goals as goal
 
 pub hits_by_ends-requires-clause-told : goal.hits_by_ends-requires-clause-told

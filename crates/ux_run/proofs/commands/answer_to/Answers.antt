@@ -3,6 +3,7 @@ use Rattle.ux_command_line.specs.declared.help.TheConstants.{HELP, VERSION}
 use Rattle.ux_cmd_bench.specs.Bench.{IsSummaryOf}
 use Rattle.ux_cmd_cascade.specs.Cascade.{cascade}
 use Rattle.ux_cmd_dico.specs.Dico.{dico}
+use Rattle.ux_cmd_morpho.specs.Morpho.{morpho}
 use Rattle.ux_cmd_txt2tfst.specs.Tfst.{txt2tfst}
 use Rattle.ux_run.proofs.Ending.{told_answers, told_denies, unread_answers, unread_denies}
 use Rattle.ux_run.proofs.commands.answer_to.Goals as goal
@@ -54,7 +55,7 @@ returns-in-Cascade-clause-ok g c =
     let r = c.in-Cascade in
     let called = c.by_command-in-Cascade in
     let files = (g.F.Folder.seen c.args.folder.now).files in
-    let answers = rw (c.as_str-text-in-Cascade.ensures, c.as_str-alphabet-in-Cascade.ensures, c.as_slice-steps.ensures, c.as_slice-dics.ensures) at
+    let answers = rw (c.as_str-text-in-Cascade.ensures, c.as_str-alphabet-in-Cascade.ensures, c.as_slice-steps.ensures, c.as_slice-dics-in-Cascade.ensures) at
     c.cascade.ensures.ok in
     rw r.is (told_answers (cascade r.text r.alphabet r.steps r.dics r.trace) c.cascade.result
     called.result called.ensures files answers)
@@ -64,10 +65,31 @@ returns-in-Cascade-clause-err g c =
     let r = c.in-Cascade in
     let called = c.by_command-in-Cascade in
     let seen = g.F.Folder.seen in
-    let halts = rw (c.as_str-text-in-Cascade.ensures, c.as_str-alphabet-in-Cascade.ensures, c.as_slice-steps.ensures, c.as_slice-dics.ensures) at
+    let halts = rw (c.as_str-text-in-Cascade.ensures, c.as_str-alphabet-in-Cascade.ensures, c.as_slice-steps.ensures, c.as_slice-dics-in-Cascade.ensures) at
     c.cascade.ensures.err in
     rw r.is (told_denies (cascade r.text r.alphabet r.steps r.dics r.trace) c.cascade.result
     called.result called.ensures (seen c.args.folder.now) (seen c.cascade.new.folder) halts)
+
+-- and those of a grammar that is matched inside words
+pub returns-in-Morpho-clause-ok : goal.returns-in-Morpho-clause-ok
+returns-in-Morpho-clause-ok g c =
+    let r = c.in-Morpho in
+    let called = c.by_command-in-Morpho in
+    let files = (g.F.Folder.seen c.args.folder.now).files in
+    let answers = rw (c.as_str-graph.ensures, c.as_str-text-in-Morpho.ensures, c.as_str-alphabet-in-Morpho.ensures, c.as_slice-dics.ensures) at
+    c.morpho.ensures.ok in
+    rw r.is (told_answers (morpho r.graph r.text r.alphabet r.dics) c.morpho.result called.result
+    called.ensures files answers)
+
+pub returns-in-Morpho-clause-err : goal.returns-in-Morpho-clause-err
+returns-in-Morpho-clause-err g c =
+    let r = c.in-Morpho in
+    let called = c.by_command-in-Morpho in
+    let seen = g.F.Folder.seen in
+    let halts = rw (c.as_str-graph.ensures, c.as_str-text-in-Morpho.ensures, c.as_str-alphabet-in-Morpho.ensures, c.as_slice-dics.ensures) at
+    c.morpho.ensures.err in
+    rw r.is (told_denies (morpho r.graph r.text r.alphabet r.dics) c.morpho.result called.result
+    called.ensures (seen c.args.folder.now) (seen c.morpho.new.folder) halts)
 
 pub returns-in-Help-clause-ok : goal.returns-in-Help-clause-ok
 returns-in-Help-clause-ok g c =

@@ -1,0 +1,3 @@
+pub mod AnsweringLemmas
+pub mod GoingLemmas
+pub mod ReadingLemmas

@@ -1,0 +1,3 @@
+pub mod FindingLemmas
+pub mod PrintingLemmas
+pub mod TfindSteps

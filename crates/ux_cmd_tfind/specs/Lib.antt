@@ -1,0 +1,6 @@
+pub mod Files
+pub mod Laws
+pub mod Lines
+pub mod Reading
+pub mod Refusing
+pub mod Tfind

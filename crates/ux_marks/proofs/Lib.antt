@@ -1,0 +1,3 @@
+pub mod BadLemmas
+pub mod MarksLaws
+pub mod MeetingLemmas

@@ -1,0 +1,7 @@
+use Rattle.std.proofs.Common.{ℕ, ◌<◌}
+use Rattle.ux_marks.specs.Marks.{IsBadState}
+use Rattle.ux_marks.proofs.checking.first_in.Given as goal
+
+-- no state so far is bad
+abbrev pub invariant-loop-node : goal.invariant-loop-node
+invariant-loop-node l = (m : ℕ) → m < l.node → IsBadState l.net l.graph m → ⊥

@@ -1,0 +1,4 @@
+pub mod AnalysesLemmas
+pub mod FewLemmas
+pub mod LineLemmas
+pub mod PuttingLemmas

@@ -1,0 +1,2 @@
+pub mod Analyses
+pub mod Putting

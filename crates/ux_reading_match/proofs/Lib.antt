@@ -1,0 +1,4 @@
+pub mod AcceptingLemmas
+pub mod FittingLemmas
+pub mod UsableLaws
+pub mod UsableLemmas

@@ -1,0 +1,4 @@
+pub mod Cases
+pub mod Matching
+pub mod Readings
+pub mod Usable

@@ -1,0 +1,141 @@
+-- Links that become arcs between positions, one after another.
+use Rattle.std.proofs.Common.{arith, ◌≡◌, ℕ, ◌+◌, ◌<◌, ◌≤◌, ◌↔◌, List, [], ◌∷◌, ◌++◌, Bool, true, false, ◌&&◌, inl, inr, refl, sym, ◌∙◌, ap, subst, length, get_or, set, eqb}
+use Rattle.std.specs.Prelude.{◌==◌, All, Contains, Some, flat_map, map, slice_get}
+use Rattle.std.specs.Ordering.{nat_cmp, ordering_then}
+use Rattle.std.specs.declared.cmp.Ordering.TheVariants.{Less, Equal}
+use Rattle.std.specs.List.Sorted.{IsStrictlySortedBy}
+use Rattle.std.proofs.lemmas.Bool.{eqb-true}
+use Rattle.std.proofs.lemmas.List.{get_or-set_other, get_or-set_same, get_or_default}
+use Rattle.std.proofs.lemmas.List.Elements.{Contains-push, Contains-push_cases, Contains-append_left}
+use Rattle.std.proofs.lemmas.Map.Keys.{Less-from_sorted}
+use Rattle.std.proofs.lemmas.Option.{get_or_from_slice_get, slice_get_within}
+use Rattle.ux_base.proofs.JoinedLists.{contained_joined, contains_joined}
+use Rattle.ux_base.proofs.Lists.{contains_first, contains_later, nothing_in, same_or}
+use Rattle.ux_base.proofs.OrderedLists.{Contains-at}
+use Rattle.ux_tfst_locate.specs.declared.lattice.Arc.{Arc}
+use Rattle.ux_tfst_locate.specs.declared.lattice.Place.{Place}
+use Rattle.ux_tfst_locate.specs.declared.lattice.SentenceLink.{SentenceLink}
+use Rattle.ux_tfst_locate.specs.Lattices.{AreRising, HasEnds, HaveArcs, IsArcOf, IsAt, ends_of, from_of, place_cmp, row_at, to_of}
+
+first : (s t : Bool) → (s && t) ≡ true → s ≡ true
+first true t h = refl
+first false t h = h
+
+second : (s t : Bool) → (s && t) ≡ true → t ≡ true
+second true t h = h
+second false t h = cc
+
+-- places that are equal by their parts are the same
+pub same_place : (x y : Place) → (x.sentence == y.sentence && (x.state == y.state && x.last == y.last)) ≡ true →
+    x ≡ y
+same_place x y h =
+    let a = x.sentence == y.sentence in
+    let b = x.state == y.state in
+    let d = x.last == y.last in
+    let later = second a (b && d) h in
+    let sentence = eqb-true x.sentence y.sentence (first a (b && d) h) in
+    let state = eqb-true x.state y.state (first b d later) in
+    let last = eqb-true x.last y.last (second b d later) in
+    λ i. record { sentence = sentence i; state = state i; last = last i }
+
+-- places in order rise
+pub rising_from_sorted : (places : List Place) → IsStrictlySortedBy place_cmp places → AreRising places
+rising_from_sorted places sorted i j one other less at then =
+    let inside = slice_get_within places j other then in
+    let d = one in
+    let here = get_or_from_slice_get places i one d at in
+    let there = get_or_from_slice_get places j other d then in
+    subst (λ (x : Place). place_cmp x other ≡ Less) here
+    (subst (λ (y : Place). place_cmp (get_or places i d) y ≡ Less) there
+    (Less-from_sorted place_cmp places i j d sorted less inside))
+
+module _ (links : List SentenceLink) (places : List Place)
+    (same : (place : Place) → Contains places place ↔ Contains (flat_map ends_of links) place) where
+  -- the states of each link have positions
+  pub ends_there : All (HasEnds places) links
+  ends_there k d less =
+      let link = get_or links k d in
+      let inside : Contains links link = (k, less, get_or_default links k link d less) in (
+        (same (from_of link)).1 (contains_joined ends_of links link (from_of link) inside
+            (contains_first (from_of link) (to_of link ∷ []))),
+        (same (to_of link)).1 (contains_joined ends_of links link (to_of link) inside
+            (contains_later (from_of link) (to_of link ∷ []) (to_of link)
+            (contains_first (to_of link) []))),
+      )
+
+  -- and each position is that of a link's state
+  pub owned : (i : ℕ) (place : Place) → IsAt places i place →
+      (link : SentenceLink) × Contains links link × Contains (ends_of link) place
+  owned i place at = contained_joined ends_of links place
+      ((same place).0 (Contains-at places place i at))
+
+module _ (places : List Place) where
+  -- no link has an arc yet
+  pub arcs_none : (rows : List (List Arc)) → ((i : ℕ) → get_or rows i [] ≡ []) →
+      HaveArcs places [] rows
+  arcs_none rows empty = record {
+    each = λ i arc has. absurd (nothing_in (subst (λ (row : List Arc). Contains row arc) (empty i) has));
+    all = λ link has. absurd (nothing_in has);
+  }
+
+  -- one more link has its arc
+  pub arcs_more : (links : List SentenceLink) (rows new : List (List Arc)) (link : SentenceLink)
+      (i : ℕ) (arc : Arc) → i < length rows → IsArcOf places link i arc →
+      new ≡ set rows i (get_or rows i [] ++ arc ∷ []) → HaveArcs places links rows →
+      HaveArcs places (links ++ link ∷ []) new
+  arcs_more links rows new link i arc inside is put have =
+      subst (HaveArcs places (links ++ link ∷ [])) (sym put) (record {
+        each = λ k one has. elim (same_or k i) [
+          | inl e ↦
+              let here : row_at (set rows i (get_or rows i [] ++ arc ∷ [])) k
+              ≡ get_or rows i [] ++ arc ∷ [] =
+              ap (row_at (set rows i (get_or rows i [] ++ arc ∷ []))) e
+              ∙ get_or-set_same rows i (get_or rows i [] ++ arc ∷ []) [] inside in
+              elim (Contains-push_cases (get_or rows i []) arc one
+              (subst (λ (row : List Arc). Contains row one) here has)) [
+                | inl before ↦
+                    let told = have.each i one before in (
+                      told.0,
+                      Contains-append_left links (link ∷ []) told.0 told.1,
+                      subst (λ n. IsArcOf places told.0 n one) (sym e) told.2,
+                    )
+                | inr new ↦ (
+                  link,
+                  Contains-push links link,
+                  subst (λ n. IsArcOf places link n one) (sym e)
+                      (subst (λ (a : Arc). IsArcOf places link i a) new is),
+                )
+              ]
+          | inr other ↦
+              let there = get_or-set_other rows i k (get_or rows i [] ++ arc ∷ []) [] other in
+              let told = have.each k one (subst (λ (row : List Arc). Contains row one) there has) in
+              (told.0, Contains-append_left links (link ∷ []) told.0 told.1, told.2)
+        ];
+        all = λ one has. elim (Contains-push_cases links link one has) [
+          | inl before ↦
+              let told = have.all one before in
+              (told.0, told.1, kept told.0 told.1 told.2, told.3)
+          | inr new ↦ (
+            i,
+            arc,
+            subst (λ (row : List Arc). Contains row arc)
+                (sym (get_or-set_same rows i (get_or rows i [] ++ arc ∷ []) [] inside))
+                (Contains-push (get_or rows i []) arc),
+            subst (λ (l : SentenceLink). IsArcOf places l i arc) new is,
+          )
+        ];
+      })
+    where
+      kept : (k : ℕ) (one : Arc) → Contains (row_at rows k) one →
+          Contains (row_at (set rows i (get_or rows i [] ++ arc ∷ [])) k) one
+      kept k one has = elim (same_or k i) [
+        | inl e ↦
+            subst (λ (row : List Arc). Contains row one)
+            (sym (ap (row_at (set rows i (get_or rows i [] ++ arc ∷ []))) e
+            ∙ get_or-set_same rows i (get_or rows i [] ++ arc ∷ []) [] inside))
+            (Contains-append_left (get_or rows i []) (arc ∷ []) one
+            (subst (λ n. Contains (row_at rows n) one) e has))
+        | inr other ↦
+            subst (λ (row : List Arc). Contains row one)
+            (sym (get_or-set_other rows i k (get_or rows i [] ++ arc ∷ []) [] other)) has
+      ]

@@ -1,0 +1,11 @@
+pub mod AheadLemmas
+pub mod BasisLemmas
+pub mod LatticeLemmas
+pub mod LatticeMeanings
+pub mod ListingLemmas
+pub mod Meanings
+pub mod PlacesLemmas
+pub mod RanksLemmas
+pub mod ReachingLemmas
+pub mod SentencesLemmas
+pub mod SpansLemmas
