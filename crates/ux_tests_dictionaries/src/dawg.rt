@@ -5,7 +5,6 @@
 
 use crate::comparing::compare;
 use std::alloc::{AllocError, Global};
-use std::test::Fail;
 use ux_base::{Lst, Mem};
 use ux_dawg::{
     Builder, Dawg, Edge, Form, Items, State, are_sorted, are_states, build, have_few_letters,
@@ -24,15 +23,6 @@ fn forms_of(alloc: Global, row: Forms) -> Result<Vec<Form>, AllocError> {
         })?;
     }
     Ok(forms)
-}
-
-/// The automaton of the forms, or none where they aren't sorted or are too long.
-fn automaton_of(alloc: Global, row: Forms) -> Mem<Option<Dawg>> {
-    let forms = forms_of(alloc, row)?;
-    if !are_sorted(&forms) || !have_few_letters(&forms) {
-        return Ok(None);
-    }
-    Ok(Some(build(alloc, &forms)?))
 }
 
 /// The automaton of those forms that may be added, one after another.
@@ -69,36 +59,56 @@ fn states_of(alloc: Global, row: States) -> Mem<Vec<State>> {
     Ok(states)
 }
 
-/// The automaton of the states, or none where they make none.
-fn automaton_of_states(alloc: Global, row: States) -> Mem<Option<Dawg>> {
-    let states = states_of(alloc, row)?;
-    if !are_states(&states) {
-        return Ok(None);
+/// The state of this number: its number of a form or `-`, and its edges.
+fn state_text(alloc: Global, automaton: &Dawg, number: usize) -> Mem<String> {
+    let mut text = match automaton.final_of(number) {
+        Some(code) => format!(in alloc; "{code}")?,
+        None => String::from_str(alloc, "-")?,
+    };
+    for edge in automaton.edges(number) {
+        text.push_str(format!(in alloc; "{}{}", edge.letter, edge.target)?.as_str())?;
     }
-    Ok(Some(Dawg::of_states(alloc, &states)?))
+    Ok(text)
 }
 
-/// The states by number, each with its number of a form or `-`, and its edges: `0 -s0 `.
-fn shown(alloc: Global, automaton: Option<Dawg>) -> Mem<String> {
+/// The states by number: `0 -s0 `.
+fn shown(alloc: Global, automaton: &Dawg) -> Mem<String> {
     let mut text = String::new(alloc);
-    let Some(automaton) = automaton else {
-        return Ok(text);
-    };
     for number in 0..automaton.len() {
-        match automaton.final_of(number) {
-            Some(code) => text.push_str(format!(in alloc; "{code}")?.as_str())?,
-            None => text.push('-')?,
-        }
-        for edge in automaton.edges(number) {
-            text.push_str(format!(in alloc; "{}{}", edge.letter, edge.target)?.as_str())?;
-        }
+        text.push_str(state_text(alloc, automaton, number)?.as_str())?;
         text.push(' ')?;
     }
     Ok(text)
 }
 
+/// The automaton of the forms, or nothing where they aren't sorted or are too long.
+fn built(alloc: Global, row: Forms) -> Mem<String> {
+    let forms = forms_of(alloc, row)?;
+    if !are_sorted(&forms) || !have_few_letters(&forms) {
+        return Ok(String::new(alloc));
+    }
+    let automaton = build(alloc, &forms)?;
+    shown(alloc, &automaton)
+}
+
+/// The automaton of those forms that may be added.
+fn shown_added(alloc: Global, row: Forms) -> Mem<String> {
+    let automaton = added(alloc, row)?;
+    shown(alloc, &automaton)
+}
+
+/// The automaton of the states, or nothing where they make none.
+fn kept(alloc: Global, row: States) -> Mem<String> {
+    let states = states_of(alloc, row)?;
+    if !are_states(&states) {
+        return Ok(String::new(alloc));
+    }
+    let automaton = Dawg::of_states(alloc, &states)?;
+    shown(alloc, &automaton)
+}
+
 #[test]
-fn adds_the_forms_that_may_follow(rt: HostRuntime) -> Result<(), Fail> {
+fn adds_the_forms_that_may_follow(rt: HostRuntime) {
     // Forms, the automaton of all of them, if they are sorted, and that of those that may follow.
     const ROWS: &[(&str, Forms, &str, &str)] = &[
         ("no form", &[], "- ", "- "),
@@ -125,16 +135,15 @@ fn adds_the_forms_that_may_follow(rt: HostRuntime) -> Result<(), Fail> {
         ),
     ];
     for (name, forms, all, some) in ROWS {
-        let built = shown(rt.alloc(), automaton_of(rt.alloc(), forms)?)?;
-        compare(&rt, name, built.as_str(), *all);
-        let added = shown(rt.alloc(), Some(added(rt.alloc(), forms)?))?;
-        compare(&rt, name, added.as_str(), *some);
+        let got = built(rt.alloc(), forms).ok();
+        compare(&rt, name, got.as_deref(), Some(*all));
+        let got = shown_added(rt.alloc(), forms).ok();
+        compare(&rt, name, got.as_deref(), Some(*some));
     }
-    Ok(())
 }
 
 #[test]
-fn keeps_the_states_that_are_given(rt: HostRuntime) -> Result<(), Fail> {
+fn keeps_the_states_that_are_given(rt: HostRuntime) {
     const ROWS: &[(&str, States, &str)] = &[
         ("one state", &[(Some(7), &[])], "7 "),
         (
@@ -170,32 +179,42 @@ fn keeps_the_states_that_are_given(rt: HostRuntime) -> Result<(), Fail> {
         ),
     ];
     for (name, states, want) in ROWS {
-        let got = shown(rt.alloc(), automaton_of_states(rt.alloc(), states)?)?;
-        compare(&rt, name, got.as_str(), *want);
+        let got = kept(rt.alloc(), states).ok();
+        compare(&rt, name, got.as_deref(), Some(*want));
     }
-    Ok(())
+}
+
+/// The states of `ab` with 0 and `c` with 1: `0 -b0 1 -a1c2 `.
+const TWO: Forms = &[("ab", 0), ("c", 1)];
+
+/// The state to which the characters lead, if they lead to one.
+fn reached(automaton: &Dawg, letters: &[char]) -> Option<usize> {
+    let mut state = automaton.root();
+    for letter in letters {
+        state = automaton.step(state, *letter)? as usize;
+    }
+    Some(state)
 }
 
 /// The number of the form, if it is one, as the steps tell it, and as the automaton does.
-fn found(alloc: Global, automaton: &Dawg, form: &str) -> Mem<(Option<u32>, Option<u32>)> {
-    let mut state = Some(automaton.root());
-    for letter in form.chars() {
-        state = match state {
-            Some(number) => automaton.step(number, letter).map(|next| next as usize),
-            None => None,
-        };
-    }
+fn found(alloc: Global, form: &str) -> Mem<(Option<u32>, Option<u32>)> {
     let letters = form.chars().collect::<Vec<_>>(alloc)?;
-    let by_steps = match state {
+    let automaton = added(alloc, TWO)?;
+    let by_steps = match reached(&automaton, &letters) {
         Some(number) => automaton.final_of(number),
         None => None,
     };
     Ok((by_steps, automaton.number_of(&letters)))
 }
 
+/// The character and the target of an edge of a state.
+fn edge(alloc: Global, number: usize, place: usize) -> Mem<Option<(char, u32)>> {
+    let edge = added(alloc, TWO)?.edge(number, place);
+    Ok(edge.map(|edge| (edge.letter, edge.target)))
+}
+
 #[test]
-fn finds_the_forms_and_their_edges(rt: HostRuntime) -> Result<(), Fail> {
-    // The states of `ab` with 0 and `c` with 1: `0 -b0 1 -a1c2 `.
+fn finds_the_forms_and_their_edges(rt: HostRuntime) {
     const FORMS: &[(&str, Option<u32>)] = &[
         ("ab", Some(0)),
         ("c", Some(1)),
@@ -212,23 +231,12 @@ fn finds_the_forms_and_their_edges(rt: HostRuntime) -> Result<(), Fail> {
         ("of an end", 0, 0, None),
         ("past the root", 4, 0, None),
     ];
-    let automaton = added(rt.alloc(), &[("ab", 0), ("c", 1)])?;
     for (form, want) in FORMS {
-        compare(
-            &rt,
-            form,
-            found(rt.alloc(), &automaton, form)?,
-            (*want, *want),
-        );
+        let got = found(rt.alloc(), form).ok();
+        compare(&rt, form, got, Some((*want, *want)));
     }
     for (name, number, place, want) in EDGES {
-        let edge = automaton.edge(*number, *place);
-        compare(
-            &rt,
-            name,
-            edge.map(|edge| (edge.letter, edge.target)),
-            *want,
-        );
+        let got = edge(rt.alloc(), *number, *place).ok();
+        compare(&rt, name, got, Some(*want));
     }
-    Ok(())
 }

@@ -1,4 +1,5 @@
-//! Rows on lines, folders and sinks.
+//! Texts and lists that are copied, folders and sinks. How files are cut into lines is shown by rows
+//! of `unitex_rows`.
 
 use crate::comparing::compare;
 use std::alloc::{AllocError, Global};
@@ -7,37 +8,26 @@ use std::process::Abort;
 use std::rt::Files;
 use std::test::Fail;
 use std::{env, fs, io, process};
-use ux_base::{
-    Folder, FolderError, Lst, MemFolder, MemSink, RealFolder, Sink, StdSink, Txt, lines,
-};
+use ux_base::{Folder, FolderError, Lst, MemFolder, MemSink, RealFolder, Sink, StdSink, Txt};
 
-#[test]
-fn lines_lose_one_carriage_return(rt: HostRuntime) -> Result<(), Fail> {
-    const ROWS: &[(&str, &[&str])] = &[
-        ("", &[]),
-        ("a\nb", &["a", "b"]),
-        ("a\r\nb\r", &["a", "b"]),
-        ("a\n\r", &["a", ""]),
-        ("\n", &[""]),
-        ("a\r\r\n", &["a\r"]),
-    ];
-    for (text, want) in ROWS {
-        let got = lines(text).collect::<Vec<_>>(rt.alloc())?;
-        compare(&rt, text, got.as_slice(), *want);
-    }
-    Ok(())
+/// A list of one text.
+fn texts(alloc: Global, text: &str) -> Result<Lst<Txt>, AllocError> {
+    let mut texts = Vec::new(alloc);
+    texts.push(Txt::from_str(alloc, text)?)?;
+    Ok(Lst::new(texts))
+}
+
+/// Whether a copy of a list of one text is the same.
+fn is_copied(alloc: Global, text: &str) -> Result<bool, AllocError> {
+    let texts = texts(alloc, text)?;
+    let copy = texts.clone()?;
+    Ok(copy == texts)
 }
 
 #[test]
-fn texts_and_lists_are_copied(rt: HostRuntime) -> Result<(), Fail> {
-    let text = Txt::from_str(rt.alloc(), "élan")?;
-    let texts = Lst::new(vec![in rt.alloc(); text.clone()?, text]?);
-    let copy = texts.clone()?;
-    compare(&rt, "a copy", copy == texts, true);
-    for text in copy.into_vec() {
-        compare(&rt, "its text", text.into_string().as_str(), "élan");
-    }
-    Ok(())
+fn texts_and_lists_are_copied(rt: HostRuntime) {
+    let got = is_copied(rt.alloc(), "élan").ok();
+    compare(&rt, "a copy", got, Some(true));
 }
 
 /// A file of this name and text.
@@ -50,11 +40,11 @@ fn file(alloc: Global, name: &str, text: &str) -> Result<(String, Vec<u8>), Allo
 
 /// A folder of three files, whose third read fails.
 fn folder_of_three(alloc: Global) -> Result<MemFolder, AllocError> {
-    let files = vec![in alloc;
-        file(alloc, "a", "1")?,
-        file(alloc, "a", "2")?,
-        file(alloc, "b", "")?,
-    ]?;
+    const FILES: &[(&str, &str)] = &[("a", "1"), ("a", "2"), ("b", "")];
+    let mut files = Vec::new(alloc);
+    for (name, text) in FILES {
+        files.push(file(alloc, name, text)?)?;
+    }
     Ok(MemFolder::new(files, vec![in alloc; 2]?))
 }
 
@@ -168,32 +158,39 @@ fn ending(
     Ok((bytes.len(), bytes.last().copied()))
 }
 
-/// Writes a file that is longer than the first room of a read, so that the buffer grows.
-fn write_long<R: Abort + AllocGlobal + Files>(rt: &R, path: &str) -> Result<(), Fail> {
-    let bytes = vec![in rt.alloc(); b'x'; 70_000]?;
-    let mut sink = StdSink::new(fs::create(rt, path)?);
-    compare(rt, "all but the last", sink.write_all(&bytes), Ok(()));
-    compare(rt, "the last byte", sink.write_all(b"y"), Ok(()));
-    Ok(())
+/// Whether a sink takes these bytes, and one more.
+fn are_written(sink: &mut impl Sink, bytes: &[u8]) -> bool {
+    sink.write_all(bytes).is_ok() && sink.write_all(b"y").is_ok()
 }
 
-/// A file is absent, and gives back its bytes once it is written. A directory can't be read.
-fn check_folder<R: Abort + AllocGlobal + Files>(
+/// Writes a file that is longer than the first room of a read, so that the buffer grows.
+fn is_long_written<R: AllocGlobal + Files>(rt: &R, path: &str) -> Result<bool, Fail> {
+    let bytes = vec![in rt.alloc(); b'x'; 70_000]?;
+    let mut sink = StdSink::new(fs::create(rt, path)?);
+    Ok(are_written(&mut sink, &bytes))
+}
+
+/// What the reads of a path give: where nothing is there, of a long file, and of a directory.
+type Readings = (
+    Result<(usize, Option<u8>), FolderError>,
+    Result<(usize, Option<u8>), FolderError>,
+    Result<(usize, Option<u8>), FolderError>,
+);
+
+/// What the folder reads at a path, before and after a long file is written, and where a directory is.
+fn readings<R: AllocGlobal + Files>(
     rt: &R,
     folder: &mut impl Folder,
     path: &str,
-) -> Result<(), Fail> {
+) -> Result<(bool, Readings), Fail> {
     let absent = ending(rt.alloc(), folder, path);
-    compare(rt, "no file", absent, Err(FolderError::Absent));
-    write_long(rt, path)?;
-    let written = ending(rt.alloc(), folder, path);
-    compare(rt, "a file", written, Ok((70_001, Some(b'y'))));
+    let is_written = is_long_written(rt, path)?;
+    let file = ending(rt.alloc(), folder, path);
     fs::remove_file(rt, path)?;
     fs::create_dir(rt, path)?;
-    let fault = ending(rt.alloc(), folder, path);
+    let directory = ending(rt.alloc(), folder, path);
     fs::remove_dir(rt, path)?;
-    compare(rt, "a directory", fault, Err(FolderError::Fault));
-    Ok(())
+    Ok((is_written, (absent, file, directory)))
 }
 
 #[test]
@@ -201,5 +198,17 @@ fn the_system_gives_back_what_was_written(rt: HostRuntime) -> Result<(), Fail> {
     let path = own_path(&rt)?;
     fs::remove_file(&rt, path.as_str()).is_ok();
     let mut folder = RealFolder::new(&rt);
-    check_folder(&rt, &mut folder, path.as_str())
+    let (is_written, got) = readings(&rt, &mut folder, path.as_str())?;
+    compare(&rt, "a long file", is_written, true);
+    compare(
+        &rt,
+        "no file, the long one, and a directory",
+        got,
+        (
+            Err(FolderError::Absent),
+            Ok((70_001, Some(b'y'))),
+            Err(FolderError::Fault),
+        ),
+    );
+    Ok(())
 }

@@ -3,7 +3,6 @@
 
 use crate::comparing::compare;
 use std::alloc::{AllocError, Global};
-use std::test::Fail;
 use ux_base::{Lst, Mem};
 use ux_digraph::{Rule, are_edges_inside, are_rules_inside, closure, components, reached};
 
@@ -27,19 +26,21 @@ fn rows(
 }
 
 /// The marks of the nodes that the start leads to, or none where the start or an edge is outside.
-fn marks(alloc: Global, edges: &[Lst<usize>], start: usize) -> Mem<Vec<bool>> {
-    if !are_edges_inside(edges) || start >= edges.len() {
+fn marks(alloc: Global, size: usize, edges: &[(usize, usize)], start: usize) -> Mem<Vec<bool>> {
+    let edges = rows(alloc, size, edges)?;
+    if !are_edges_inside(&edges) || start >= edges.len() {
         return Ok(Vec::new(alloc));
     }
-    reached(alloc, edges, start)
+    reached(alloc, &edges, start)
 }
 
 /// The numbers of the components, or none where an edge is outside.
-fn numbers(alloc: Global, edges: &[Lst<usize>]) -> Mem<Vec<usize>> {
-    if !are_edges_inside(edges) {
+fn numbers(alloc: Global, size: usize, edges: &[(usize, usize)]) -> Mem<Vec<usize>> {
+    let edges = rows(alloc, size, edges)?;
+    if !are_edges_inside(&edges) {
         return Ok(Vec::new(alloc));
     }
-    components(alloc, edges)
+    components(alloc, &edges)
 }
 
 /// The marks of the places that follow, or none where a rule or a fact is outside.
@@ -63,7 +64,7 @@ type Search = (
 const DRAWING: &[(usize, usize)] = &[(0, 1), (1, 2), (2, 1), (2, 3)];
 
 #[test]
-fn marks_the_nodes_that_a_path_leads_to(rt: HostRuntime) -> Result<(), Fail> {
+fn marks_the_nodes_that_a_path_leads_to(rt: HostRuntime) {
     const ROWS: &[Search] = &[
         // The drawing of the crate's doc.
         (
@@ -108,11 +109,9 @@ fn marks_the_nodes_that_a_path_leads_to(rt: HostRuntime) -> Result<(), Fail> {
         ("a start outside", 2, &[], 2, &[]),
     ];
     for row in ROWS {
-        let edges = rows(rt.alloc(), row.1, row.2)?;
-        let got = marks(rt.alloc(), &edges, row.3)?;
-        compare(&rt, row.0, got.as_slice(), row.4);
+        let got = marks(rt.alloc(), row.1, row.2, row.3).ok();
+        compare(&rt, row.0, got.as_deref(), Some(row.4));
     }
-    Ok(())
 }
 
 /// A name, the number of nodes, the edges, and the nodes' components.
@@ -124,7 +123,7 @@ type Numbering = (
 );
 
 #[test]
-fn numbers_the_components(rt: HostRuntime) -> Result<(), Fail> {
+fn numbers_the_components(rt: HostRuntime) {
     const ROWS: &[Numbering] = &[
         // The drawing of the crate's doc.
         ("a cycle within a chain", 4, DRAWING, &[2, 1, 1, 0]),
@@ -160,11 +159,9 @@ fn numbers_the_components(rt: HostRuntime) -> Result<(), Fail> {
         ("nodes alone", 3, &[], &[0, 1, 2]),
     ];
     for row in ROWS {
-        let edges = rows(rt.alloc(), row.1, row.2)?;
-        let got = numbers(rt.alloc(), &edges)?;
-        compare(&rt, row.0, got.as_slice(), row.3);
+        let got = numbers(rt.alloc(), row.1, row.2).ok();
+        compare(&rt, row.0, got.as_deref(), Some(row.3));
     }
-    Ok(())
 }
 
 /// A name, the rules, the facts, and the marks of the places that follow.
@@ -176,7 +173,7 @@ type Deduction = (
 );
 
 #[test]
-fn marks_the_places_that_follow(rt: HostRuntime) -> Result<(), Fail> {
+fn marks_the_places_that_follow(rt: HostRuntime) {
     const BOTH: Rule = Rule {
         place: 2,
         first: 0,
@@ -256,8 +253,7 @@ fn marks_the_places_that_follow(rt: HostRuntime) -> Result<(), Fail> {
         ("a fact outside", &[], &[5], &[]),
     ];
     for row in ROWS {
-        let got = places(rt.alloc(), 5, row.1, row.2)?;
-        compare(&rt, row.0, got.as_slice(), row.3);
+        let got = places(rt.alloc(), 5, row.1, row.2).ok();
+        compare(&rt, row.0, got.as_deref(), Some(row.3));
     }
-    Ok(())
 }

@@ -14,8 +14,6 @@ mod base;
 #[cfg(test)]
 mod comparing;
 #[cfg(test)]
-mod decode;
-#[cfg(test)]
 mod digraph;
 #[cfg(test)]
 mod grf;
