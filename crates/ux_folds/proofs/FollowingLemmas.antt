@@ -1,5 +1,5 @@
 -- What is kept after an event, by what is kept after its step.
-use Rattle.std.proofs.Common.{arith, ◌≡◌, ℕ, ◌<◌, ◌≤◌, List, ◌⊎◌, inl, inr, refl, sym, ap, subst, ◌∙◌, length}
+use Rattle.std.proofs.Common.{◌≡◌, ℕ, ◌<◌, ◌≤◌, List, ◌⊎◌, inl, inr, refl, sym, subst, ◌∙◌, length}
 use Rattle.std.specs.Prelude.{Option, Some, None, slice_get}
 use Rattle.std.proofs.lemmas.Option.{none-some, same_Some}
 use Rattle.ux_base.specs.declared.settings.Mode.{Mode}
@@ -11,9 +11,8 @@ use Rattle.ux_outputs.specs.declared.event.Event.TheVariants.{Take, Put, Value}
 use Rattle.ux_outputs.specs.Rendering.{State, after_event, after_put, after_take}
 use Rattle.ux_folds.specs.declared.kept.Kept.{Kept}
 use Rattle.ux_folds.specs.declared.tables.Tables.{Tables}
-use Rattle.ux_folds.specs.Folding.{Grows}
-use Rattle.ux_folds.specs.Following.{AreBoth, AreNumbered, Fits, Follows, IsAnswered, IsFollowed, IsNext}
-use Rattle.ux_folds.specs.Tables.{AreTables, IsGrown, IsState, Stands, Turns, states_of, texts_of, variables_of}
+use Rattle.ux_folds.specs.Following.{AreBoth, AreNumbered, Fits, IsAnswered, IsFollowed, IsNext}
+use Rattle.ux_folds.specs.Tables.{AreTables, IsGrown, IsState, Stands, Turns, states_of}
 use Rattle.ux_folds.proofs.TablesLemmas.{grown_same, grown_then, stands_kept}
 
 module _ (tokens : List Token) (mode : Mode) (novar : NoVar) (names : List (List ℕ)) where

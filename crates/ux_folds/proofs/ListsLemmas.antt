@@ -1,11 +1,11 @@
 -- Links that are added keep what is named.
 use Rattle.std.proofs.Common.{arith, ◌≡◌, ℕ, zero, suc, ◌+◌, ◌<◌, ◌≤◌, List, [], ◌∷◌, ◌++◌, ◌⊎◌, inl, inr, refl, sym, ◌∙◌, ap, subst, length, get_or, take, reverse, append-nil, append_assoc}
 use Rattle.std.specs.Prelude.{Some, None, slice_get}
-use Rattle.std.proofs.lemmas.List.{take_more, take_all, reverse-append, reverse-reverse}
+use Rattle.std.proofs.lemmas.List.{take_more, reverse-append}
 use Rattle.std.proofs.lemmas.Option.{same_Some, none-some, slice_get_within}
 use Rattle.ux_folds.specs.declared.lists.Link.{Link}
 use Rattle.ux_folds.specs.ListNumbers.{no_link}
-use Rattle.ux_folds.specs.Lists.{link_at, Names, Spells, AreBelow, AreOnce, AreSound, Keeps, IsConsed, IsMore}
+use Rattle.ux_folds.specs.Lists.{link_at, Names, Spells, AreBelow, AreOnce, Keeps, IsConsed, IsMore}
 
 module _ {A : Type 0} where
   get_extended : (xs ys : List A) → Keeps xs (xs ++ ys)

@@ -1,13 +1,13 @@
 -- What is kept where a text is put out, and where an output is answered.
-use Rattle.std.proofs.Common.{arith, ◌≡◌, ℕ, zero, suc, ◌+◌, ◌<◌, ◌≤◌, Bool, true, false, not, List, [], ◌∷◌, ◌++◌, ◌⊎◌, inl, inr, refl, sym, ap, subst, ◌∙◌, length, get_or}
+use Rattle.std.proofs.Common.{arith, ◌≡◌, ℕ, ◌+◌, ◌<◌, ◌≤◌, Bool, true, false, not, List, [], ◌∷◌, ◌++◌, inl, inr, refl, sym, ap, subst, ◌∙◌, length, get_or}
 use Rattle.std.specs.Prelude.{Option, Some, None, is_some, is_none, slice_get, if◌then◌else◌}
 use Rattle.std.specs.Str.{IsUtf8}
 use Rattle.std.proofs.lemmas.List.{length-append}
-use Rattle.std.proofs.lemmas.Option.{same_Some, none-some, slice_get_within, slice_get-get_or}
+use Rattle.std.proofs.lemmas.Option.{same_Some, slice_get_within, slice_get-get_or}
 use Rattle.std.proofs.lemmas.Str.{IsUtf8-append}
 use Rattle.ux_base.specs.declared.settings.NoVar.{NoVar}
 use Rattle.ux_tokens.specs.Tokens.{Token}
-use Rattle.ux_outputs.specs.Variables.{Asked, Variable, Variables, asked_by, collecting, is_set, is_unset, value_of}
+use Rattle.ux_outputs.specs.Variables.{Asked, Variables, asked_by, collecting, is_set, is_unset, value_of}
 use Rattle.ux_outputs.specs.Rendering.{State, after_asked, after_put, after_test, after_value}
 use Rattle.ux_folds.specs.declared.kept.Kept.{Kept}
 use Rattle.ux_folds.specs.declared.kept.Known.{Known}
@@ -16,9 +16,9 @@ use Rattle.ux_folds.specs.declared.tables.Tables.{Tables}
 use Rattle.ux_folds.specs.Following.{AreBoth, IsAnswered, IsAnsweredBy}
 use Rattle.ux_folds.specs.Lists.{IsMore, Spells}
 use Rattle.ux_folds.specs.Names.{asked_name}
-use Rattle.ux_folds.specs.Tables.{AreTables, AreVariables, Counts, IsCollected, IsCollecting, IsGrown, IsKnown, IsPushed, IsText, IsVariable, Stands, Turns, states_of, texts_of, variables_of}
+use Rattle.ux_folds.specs.Tables.{AreTables, AreVariables, IsCollected, IsCollecting, IsGrown, IsKnown, IsPushed, IsText, IsVariable, Stands, Turns, states_of, texts_of, variables_of}
 use Rattle.ux_folds.proofs.ListsLemmas.{get_pushed, spells_kept}
-use Rattle.ux_folds.proofs.TablesLemmas.{grown_same, grown_then, knowns_pushed, stands_kept, variable_kept, variables_kept}
+use Rattle.ux_folds.proofs.TablesLemmas.{grown_same, grown_then, knowns_pushed, stands_kept, variable_kept}
 use Rattle.ux_folds.proofs.VariablesLemmas.{AreRead}
 
 -- an output that is open collects a text

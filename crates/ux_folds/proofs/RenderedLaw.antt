@@ -1,23 +1,20 @@
 -- The law of the fold that renders: a state's hit is the one that the events before it render, and a
 -- derivation that is dropped renders none. The events take tokens that follow each other, and ask what
 -- counts.
-use Rattle.std.proofs.Common.{◌≡◌, ℕ, ◌<◌, ◌≤◌, length, List, [], ◌∷◌, ◌⊎◌, inl, inr, refl, sym, ap, subst, ◌∙◌}
+use Rattle.std.proofs.Common.{◌≡◌, ℕ, ◌<◌, ◌≤◌, length, List, [], ◌∷◌, inl, inr, refl, sym, subst}
 use Rattle.std.specs.Prelude.{Option, Some, None, option_and_then}
-use Rattle.std.proofs.lemmas.Option.{none-some, same_Some}
 use Rattle.ux_base.specs.declared.settings.Mode.{Mode}
-use Rattle.ux_base.specs.declared.settings.Mode.TheVariants.{Ignore, Merge, Replace}
 use Rattle.ux_base.specs.declared.settings.NoVar.{NoVar}
 use Rattle.ux_tokens.specs.Tokens.{Token}
 use Rattle.ux_outputs.specs.declared.event.Event.{Event}
 use Rattle.ux_outputs.specs.declared.event.Event.TheVariants.{Take, Put, Value, Begin, End, Cut}
-use Rattle.ux_outputs.specs.declared.hit.Hit.{Hit}
 use Rattle.ux_outputs.specs.Following.{FollowWithin}
 use Rattle.ux_outputs.specs.Rendering.{State, after_event, hit_of, render, rendered_from, state_at}
 use Rattle.ux_outputs.proofs.FollowingLemmas.{FollowWithin-first, FollowWithin-later, after_event-position}
 use Rattle.ux_folds.specs.declared.rendering.RenderingFold.{RenderingFold}
 use Rattle.ux_folds.specs.declared.tables.Tables.{Tables}
 use Rattle.ux_folds.specs.Folding.{Folds, Next}
-use Rattle.ux_folds.specs.Following.{AreAsked, AreNumbered, Fits, IsNext, Means, NextBy, Rendered, Renders, rendered_by}
+use Rattle.ux_folds.specs.Following.{AreAsked, AreNumbered, Fits, IsNext, Means, NextBy, Renders, rendered_by}
 use Rattle.ux_folds.specs.Laws.{AgreeBoth, after_agree, agree_state, state_agree}
 use Rattle.ux_folds.specs.Tables.{IsState}
 use Rattle.ux_folds.proofs.FoldLemmas.{folds_from_none}

@@ -1,20 +1,19 @@
 -- A fold whose tables grow keeps what its states stand for, and what becomes of them.
-use Rattle.std.proofs.Common.{◌≡◌, ℕ, ◌≤◌, List, refl, sym, ap, subst, ◌∙◌, length}
-use Rattle.std.specs.Prelude.{Option, Some, None, Result, Ok, Err, IfOk, OnOk, slice_get}
+use Rattle.std.proofs.Common.{◌≡◌, ℕ, ◌≤◌, List, refl, sym, subst, ◌∙◌, length}
+use Rattle.std.specs.Prelude.{Some, None, Result, Ok, Err, IfOk, OnOk, slice_get}
 use Rattle.std.proofs.lemmas.Option.{none-some, same_Some}
 use Rattle.std.proofs.lemmas.Str.{IsUtf8-nil}
 use Rattle.ux_tokens.specs.Tokens.{Token}
 use Rattle.ux_outputs.specs.declared.event.Event.{Event}
-use Rattle.ux_outputs.specs.declared.hit.Hit.{Hit}
-use Rattle.ux_outputs.specs.Rendering.{State, hit_of, state_at}
+use Rattle.ux_outputs.specs.Rendering.{State, state_at}
 use Rattle.ux_folds.specs.declared.kept.Kept.{Kept}
 use Rattle.ux_folds.specs.declared.rendering.RenderingFold.{RenderingFold}
 use Rattle.ux_folds.specs.declared.tables.Tables.{Tables}
 use Rattle.ux_folds.specs.Folding.{Grows}
 use Rattle.ux_folds.specs.Following.{IsFollowed, Means, NextBy, Rendered, rendered_by}
-use Rattle.ux_folds.specs.Tables.{AreTables, IsGrown, IsNothing, IsState, Stands, states_of}
+use Rattle.ux_folds.specs.Tables.{AreTables, IsGrown, IsNothing, Stands, states_of}
 use Rattle.ux_folds.proofs.FollowingLemmas.{dropped, next_kept, numbered, state_kept}
-use Rattle.ux_folds.proofs.TablesLemmas.{grown_then, started}
+use Rattle.ux_folds.proofs.TablesLemmas.{started}
 
 -- two facts of a value
 pub if_both : {A E : Type 0} (r : Result A E) (P Q R : A → Type 0) →

@@ -1,28 +1,22 @@
 -- Tables that grow keep what their numbers stand for.
-use Rattle.std.proofs.Common.{arith, ◌≡◌, ℕ, zero, suc, ◌+◌, ◌-◌, ◌<◌, ◌≤◌, Bool, true, false, List, [], ◌∷◌, ◌++◌, ◌⊎◌, inl, inr, refl, sym, ap, subst, ◌∙◌, length, get_or, set, append-nil}
-use Rattle.std.specs.Prelude.{Option, Some, None, IfSome, option_map, slice_get, if◌then◌else◌}
-use Rattle.std.specs.Option.{option_or}
-use Rattle.std.specs.Str.{IsUtf8, bytes_eq}
-use Rattle.std.proofs.lemmas.Bool.Decides.{nat_tests}
-use Rattle.std.proofs.lemmas.List.{get_or-set_same, get_or-set_other, length-set}
-use Rattle.std.proofs.lemmas.Option.{same_Some, none-some, slice_get_within, slice_get-get_or, slice_get_read}
-use Rattle.std.proofs.lemmas.Slice.Eq.{bytes_eq-Decides}
+use Rattle.std.proofs.Common.{arith, ◌≡◌, ℕ, ◌-◌, ◌<◌, ◌≤◌, List, [], ◌++◌, refl, sym, ap, subst, ◌∙◌, length, append-nil}
+use Rattle.std.specs.Prelude.{Option, Some, None, IfSome, slice_get}
+use Rattle.std.specs.Str.{IsUtf8}
+use Rattle.std.proofs.lemmas.Option.{slice_get_within}
 use Rattle.std.proofs.lemmas.Str.{IsUtf8-append}
-use Rattle.ux_base.specs.Distinct.{StandOnce}
 use Rattle.ux_base.specs.declared.settings.Mode.{Mode}
 use Rattle.ux_tokens.specs.Tokens.{Token}
 use Rattle.ux_outputs.specs.declared.hit.Hit.{Hit}
 use Rattle.ux_outputs.specs.declared.span.Span.{Span}
-use Rattle.ux_outputs.specs.Variables.{Variable, Variables, NO_VARIABLES, changed_at, collecting, ended_input, ended_output, noted_at, opened}
-use Rattle.ux_outputs.specs.Rendering.{State, after_cut, after_put, after_take, begin_of, changing, hit_of, span_after, state_at, text_taken}
+use Rattle.ux_outputs.specs.Variables.{Variable, Variables}
+use Rattle.ux_outputs.specs.Rendering.{State, after_cut, after_take, begin_of, hit_of, span_after, state_at, text_taken}
 use Rattle.ux_folds.specs.declared.kept.Kept.{Kept}
 use Rattle.ux_folds.specs.declared.kept.Known.{Known}
 use Rattle.ux_folds.specs.declared.lists.Link.{Link}
 use Rattle.ux_folds.specs.declared.tables.Tables.{Tables}
-use Rattle.ux_folds.specs.Known.{NOTHING_KNOWN}
 use Rattle.ux_folds.specs.Lists.{AreOnce, AreSound, IsFirstOf, IsMore, Keeps, Spells}
-use Rattle.ux_folds.specs.Tables.{AreTables, AreVariables, Counts, IsCollected, IsGrown, IsKnown, IsNothing, IsPushed, IsText, IsVariable, Stands, Turns, span_to, states_of, texts_of, variables_of}
-use Rattle.ux_folds.proofs.ListsLemmas.{get_pushed, keeps_more, keeps_same, spells_kept}
+use Rattle.ux_folds.specs.Tables.{AreTables, AreVariables, IsGrown, IsNothing, IsPushed, IsText, IsVariable, Stands, Turns, span_to, states_of, texts_of, variables_of}
+use Rattle.ux_folds.proofs.ListsLemmas.{keeps_more, keeps_same, spells_kept}
 
 module _ (old new : List (Link ℕ)) (keeps : Keeps old new) where
   text_kept : (number : Option ℕ) (text : Option (List ℕ)) → IsText old number text →

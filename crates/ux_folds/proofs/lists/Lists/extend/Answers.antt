@@ -1,4 +1,4 @@
-use Rattle.std.proofs.Common.{List, subst, sym, take}
+use Rattle.std.proofs.Common.{List, subst}
 use Rattle.std.proofs.lemmas.List.{take_all}
 use Rattle.ux_folds.specs.Lists.{IsMore}
 use Rattle.ux_folds.proofs.ListsLemmas.{more_none, more_taken}

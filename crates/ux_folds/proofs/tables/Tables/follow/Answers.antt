@@ -1,5 +1,5 @@
 use Rattle.std.proofs.Common.{refl, subst, sym}
-use Rattle.std.specs.Prelude.{IfOk, Some}
+use Rattle.std.specs.Prelude.{Some}
 use Rattle.std.proofs.lemmas.Result.{IfOk-weaker}
 use Rattle.ux_outputs.specs.declared.event.Event.TheVariants.{Begin, End, Cut}
 use Rattle.ux_outputs.specs.Variables.{named_by}

@@ -1,4 +1,4 @@
-use Rattle.ux_folds.proofs.TablesLemmas.{has_hit, no_hit}
+use Rattle.ux_folds.proofs.TablesLemmas.{no_hit}
 use Rattle.ux_folds.proofs.tables.Tables.hit.Goals as goal
 
 pub returns-in_default : goal.returns-in_default

@@ -1,5 +1,4 @@
-use Rattle.std.proofs.Common.{List, ℕ, subst, sym}
-use Rattle.std.specs.Prelude.{[]}
+use Rattle.std.proofs.Common.{subst, sym}
 use Rattle.std.specs.Str.{IsUtf8}
 use Rattle.std.proofs.lemmas.Str.{IsUtf8-nil}
 use Rattle.ux_base.specs.declared.settings.Mode.{Mode}

@@ -2,8 +2,7 @@ use Rattle.std.proofs.Common.{refl, subst, sym}
 use Rattle.std.specs.Prelude.{Some}
 use Rattle.ux_base.specs.declared.settings.Mode.{Mode}
 use Rattle.ux_outputs.specs.declared.event.Event.TheVariants.{Put}
-use Rattle.ux_base.specs.declared.settings.Mode.TheVariants.{Ignore, Merge, Replace}
-use Rattle.ux_outputs.specs.Rendering.{after_put}
+use Rattle.ux_base.specs.declared.settings.Mode.TheVariants.{Ignore}
 use Rattle.ux_folds.specs.Following.{IsFollowed}
 use Rattle.ux_folds.proofs.FollowingLemmas.{followed, puts_out, stays}
 use Rattle.ux_folds.proofs.tables.Tables.put_if.Goals as goal

@@ -1,4 +1,4 @@
-use Rattle.std.proofs.Common.{◌∙◌, sym, subst, refl}
+use Rattle.std.proofs.Common.{◌∙◌}
 use Rattle.ux_folds.proofs.PuttingLemmas.{answered_value, answered_without}
 use Rattle.ux_folds.proofs.tables.Tables.put_value.Goals as goal
 

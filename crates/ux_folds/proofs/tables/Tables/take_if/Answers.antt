@@ -1,5 +1,5 @@
-use Rattle.std.proofs.Common.{arith, sym}
-use Rattle.ux_folds.proofs.FollowingLemmas.{takes, unfit}
+use Rattle.std.proofs.Common.{arith}
+use Rattle.ux_folds.proofs.FollowingLemmas.{takes}
 use Rattle.ux_folds.proofs.tables.Tables.take_if.Goals as goal
 
 pub returns : goal.returns
