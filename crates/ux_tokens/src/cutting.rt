@@ -44,7 +44,7 @@ pub fn cut_text(alloc: Global, alphabet: &Alphabet, text: &str) -> Result<Cut, T
 {
     let classes = classes(alloc, alphabet)?;
     let mut numbers: IndexSet<&str> = IndexSet::new(alloc);
-    let mut known = Known::new(alloc)?;
+    let mut known = Known::new(alloc, text.len())?;
     cut_with(alloc, alphabet, &classes, &mut numbers, &mut known, text)
 }
 

@@ -13,7 +13,8 @@ ghost use Rattle.ux_tokens.specs.Known.{AreKnown, HasNumber};
 use std::alloc::{AllocError, Global};
 
 /// How many slots there are: two megabytes. Of half as many the nearer memory of a processor would
-/// hold more, but half as many tokens again would be looked up in the table.
+/// hold more, but half as many tokens again would be looked up in the table. A text of fewer bytes has
+/// none: to empty them would take longer than to look its tokens up.
 const SLOTS: usize = 65_536;
 
 /// The bits of a hash that aren't the number of a slot.
@@ -52,11 +53,12 @@ pub struct Known {
 }
 
 impl Known {
-    /// No number.
-    pub fn new(alloc: Global) -> Result<Known, AllocError>
+    /// No number yet, for a text of so many bytes.
+    pub fn new(alloc: Global, len: usize) -> Result<Known, AllocError>
         ensures { IfOk result (AreKnown []) }
     {
-        let slots = empty_slots(alloc)?;
+        let count = if len < SLOTS { 0 } else { SLOTS };
+        let slots = empty_slots(alloc, count)?;
         Ok(Known { space: None, slots })
     }
 
@@ -91,11 +93,12 @@ impl Known {
     }
 }
 
-fn empty_slots(alloc: Global) -> Result<Vec<Slot>, AllocError>
+/// So many slots with nothing in them.
+fn empty_slots(alloc: Global, count: usize) -> Result<Vec<Slot>, AllocError>
     ensures { IfOk result (λ slots. All (HasNumber []) slots.items) }
 {
-    let mut slots = Vec::with_capacity(alloc, SLOTS)?;
-    for _ in 0..SLOTS {
+    let mut slots = Vec::with_capacity(alloc, count)?;
+    for _ in 0..count {
         slots.push(Slot {
             bytes: 0,
             len: 0,

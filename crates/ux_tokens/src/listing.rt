@@ -40,7 +40,7 @@ fn different_tokens<'a>(
     ensures err { IfErr result (RefusesCut alphabet.now text.now) }
 {
     let mut texts: IndexSet<&str> = IndexSet::new(alloc);
-    let mut known = Known::new(alloc)?;
+    let mut known = Known::new(alloc, text.len())?;
     add_tokens(alphabet, &mut texts, &mut known, text)?;
     Ok(texts)
 }
