@@ -5,3 +5,4 @@ pub mod Alike
 pub mod Places
 pub mod ClosingStates
 pub mod Search
+pub mod Prepared

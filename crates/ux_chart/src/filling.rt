@@ -7,6 +7,7 @@ ghost use Rattle.ux_parts.specs.Parts.{ArePartsOf};
 ghost use Rattle.ux_chart.specs.Alike.{IsSharing};
 ghost use Rattle.ux_chart.specs.ClosingStates.{AreClosing};
 ghost use Rattle.ux_chart.specs.Likely.{AreKnown, AreLikely};
+ghost use Rattle.ux_chart.specs.Prepared.{IsPrepared};
 ghost use Rattle.ux_chart.specs.Rows.{IsAnswer, IsFilled, IsChart, IsWholeRow, AreBegun, begun_at};
 ghost use Rattle.ux_chart.specs.Tables.{IsPut};
 
@@ -15,6 +16,7 @@ use crate::chart::{Begun, Chart};
 use crate::closing_states::ClosingStates;
 use crate::config::Config;
 use crate::gathering::{closers_in, ends_in};
+use crate::prepared::PreparedNet;
 use crate::reaching::reach;
 use crate::seen::Seen;
 use crate::sharing::Sharing;
@@ -36,19 +38,25 @@ impl Chart {
     ///
     /// It holds what is found, and a stretch of two numbers of 32 bits a position. Each part that
     /// is likely at a position is searched there once, and none where the position shares the row
-    /// of a later one. Besides, each edge of the net is looked at twice at most.
-    pub fn fill<B: Basis>(alloc: Global, basis: &B, net: &Net, parts: &Parts) -> Mem<Chart>
-        requires parts { ArePartsOf net.now parts.now }
+    /// of a later one. No step is taken for the net by itself.
+    pub fn fill<B: Basis>(alloc: Global, basis: &B, net: &Net, prepared: &PreparedNet) -> Mem<Chart>
+        requires prepared { IsPrepared net.now prepared.now }
         requires ahead { GoesAhead (B.input basis.now) (B.last basis.now) }
-        requires serves { B.serves basis.now net.now parts.now }
+        requires serves { B.serves basis.now net.now prepared.now.parts }
         requires known { AreKnown (B.knows basis.now) net.now }
         ensures { IfOk result (λ chart.
-            IsChart (B.input basis.now) net.now parts.now (B.last basis.now) chart) }
+            IsChart (B.input basis.now) net.now prepared.now.parts (B.last basis.now) chart) }
     {
         let mut chart = empty_chart(alloc, basis.last());
-        let closing = ClosingStates::of(alloc, net)?;
-        let sharing = Sharing::of(net);
-        fill_rows(alloc, basis, net, parts, &closing, sharing, &mut chart)?;
+        fill_rows(
+            alloc,
+            basis,
+            net,
+            &prepared.parts,
+            &prepared.closing,
+            prepared.sharing,
+            &mut chart,
+        )?;
         Ok(chart)
     }
 }

@@ -6,7 +6,7 @@
 //! holds for calls and for contexts of both signs alike, and nothing here calls itself.
 //!
 //! ```text
-//! Basis: what labels take, which parts are likely      Net, Parts
+//! Basis: what labels take, which parts are likely      Net, PreparedNet
 //!         \                                             /        \
 //!          following: one edge --> reaching: a whole search       closing_states: where closers are
 //!                                                   |            /
@@ -23,7 +23,8 @@
 //! tells to be alike, as those before and behind a space, share a row (`sharing`): nothing is
 //! searched for the earlier one.
 //!
-//! Nothing here knows of tokens: what is matched is a `Basis`. It also tells which parts are worth
+//! What a chart asks of the net alone (`prepared`) is made once for all charts of that net. Nothing
+//! here knows of tokens: what is matched is a `Basis`. It also tells which parts are worth
 //! a search at a position. Begin with `filling`, and with `specs/Rows.antt`, which says what a chart
 //! tells.
 #![tactic(auto)]
@@ -36,6 +37,7 @@ pub mod filling;
 pub mod following;
 pub mod gathering;
 pub mod ordering;
+pub mod prepared;
 pub mod reaching;
 pub mod seen;
 pub mod sharing;
@@ -43,3 +45,4 @@ pub mod table;
 
 pub use basis::Basis;
 pub use chart::Chart;
+pub use prepared::PreparedNet;

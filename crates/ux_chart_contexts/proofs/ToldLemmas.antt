@@ -5,7 +5,7 @@ use Rattle.ux_meaning.proofs.Levels.{in_the_end}
 use Rattle.ux_net.specs.Nets.{net_grammar}
 use Rattle.ux_text_chart.specs.declared.text_chart.TextChart.{TextChart}
 use Rattle.ux_text_chart.specs.Leading.{input_of}
-use Rattle.ux_text_chart.specs.TextCharts.{IsTextChart, chart_setting}
+use Rattle.ux_text_chart.specs.TextCharts.{IsTextChart, chart_setting, parts_of}
 use Rattle.ux_walk.specs.Contexts.{ContextsTold}
 use Rattle.ux_walk.specs.Settings.{Setting}
 use Rattle.ux_chart_contexts.specs.Telling.{AsksChart, Levelled, levelled, tells_in}
@@ -21,14 +21,14 @@ chart_told chart setting filled made told is =
       asked = λ g edge at opening inside. record { opening = opening; inside = inside };
       meant = record {
         level = filled.parts.level;
-        levels = chart.parts.levels;
+        levels = (parts_of chart).levels;
         nested = filled.parts.levels;
         exact = λ g label opening at c opens. (λ applies. applies, λ applies. applies);
         entered = λ h at end events derives asked. (
           end,
           events,
           (in_the_end (input_of (chart_setting chart)) (net_grammar (chart_setting chart).net)
-              filled.parts.level chart.parts.levels filled.parts.levels h at end events).0 derives,
+              filled.parts.level (parts_of chart).levels filled.parts.levels h at end events).0 derives,
         );
       };
     }))

@@ -8,7 +8,7 @@ use Rattle.ux_outputs.specs.declared.event.Event.{Event}
 use Rattle.ux_meaning.specs.Meaning.{Der}
 use Rattle.ux_text_chart.specs.declared.text_chart.TextChart.{TextChart}
 use Rattle.ux_text_chart.specs.Leading.{input_of}
-use Rattle.ux_text_chart.specs.TextCharts.{chart_setting}
+use Rattle.ux_text_chart.specs.TextCharts.{chart_setting, parts_of}
 use Rattle.ux_walk.specs.Contexts.{Applying}
 use Rattle.ux_walk.specs.Settings.{Setting}
 
@@ -19,7 +19,7 @@ pub record Levelled : Type 0 where
 
 -- those of a chart
 abbrev pub levelled : TextChart → Levelled
-levelled chart = record { setting = chart_setting chart; levels = chart.parts.levels }
+levelled chart = record { setting = chart_setting chart; levels = (parts_of chart).levels }
 
 -- the chart may be asked of an edge that opens a context, at a position in its text
 pub record AsksChart (told : Levelled) (g : ℕ) (edge : Edge) (at : ℕ) : Type 0 where

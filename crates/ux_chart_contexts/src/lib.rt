@@ -5,7 +5,7 @@
 //! meant stands in `proofs/ToldLemmas.antt`. Begin with `contexts`.
 //!
 //! ```text
-//! let chart = TextChart::fill(alloc, &masked, parts)?;
+//! let chart = TextChart::fill(alloc, &masked, &tables)?;
 //! let found = walk(alloc, &masked, &ChartContexts::of(&chart), 0)?;
 //! ```
 #![tactic(auto)]

@@ -7,11 +7,15 @@ use Rattle.std.specs.List.Sorted.{IsStrictlySortedBy}
 use Rattle.std.specs.Ordering.{nat_cmp}
 use Rattle.std.proofs.lemmas.List.Elements.{Contains-append_cases, Contains-append_left, Contains-append_right}
 use Rattle.std.proofs.lemmas.Option.{same_Some, slice_get_within}
+use Rattle.ux_alphabet.specs.Letters.{Letters}
+use Rattle.ux_apply.specs.declared.priority.Priority.{Priority}
 use Rattle.ux_base.proofs.JoinedLists.{joined_push}
 use Rattle.ux_base.proofs.Lists.{less_or, nothing_in, take_more}
+use Rattle.ux_dela.specs.declared.entry.Entry.{Entry}
 use Rattle.ux_marks.specs.declared.error.MorphError.{MorphError}
 use Rattle.ux_marks.specs.declared.error.MorphError.TheVariants as morph
 use Rattle.ux_marks.specs.declared.error.MorphError.TheVariants.{BadOutput}
+use Rattle.ux_net.specs.declared.net_graph.NetGraph.{NetGraph}
 use Rattle.ux_plan.specs.declared.stop.Stop.{Stop}
 use Rattle.ux_plan.specs.declared.stop.Stop.TheVariants.{Absent, NoMemory, ReadFault, Refused, TooLarge}
 use Rattle.ux_plan.specs.Plans.{StopsTest, refusing}
@@ -23,6 +27,14 @@ use Rattle.ux_tokens.specs.Numbers.{different_texts}
 use Rattle.ux_tokens.specs.Tokens.{Token}
 use Rattle.ux_cmd_morpho.specs.Answering.{IsFileOfWords, IsFirstBad, IsWordAt, IsWordOf, NoneIsBad, RefusesWords, line_with_feed}
 use Rattle.ux_cmd_morpho.specs.Going.{Adds, AreSoFar, IsSeen, IsWordBefore, RefusesWord}
+
+-- what is so of that of which an analyser is made is so of the files
+pub of_files : (Is : Letters → List (Priority × List Entry) → List NetGraph → Type 0) →
+    {told letters : Letters} → told ≡ letters → {lent dics : List (Priority × List Entry)} →
+    lent ≡ dics → {made net : List NetGraph} → made ≡ net → Is told lent made → Is letters dics net
+of_files Is {told} {letters} same {lent} {dics} entries {made} {net} states is =
+    subst (λ l. Is l dics net) same (subst (λ d. Is told d net) entries
+    (subst (λ n. Is told lent n) states is))
 
 pub some_and : {A : Type 0} (o : Option A) (P : A → Type 0) → IsSomeAnd o P →
     (x : A) × (o ≡ Some x) × P x

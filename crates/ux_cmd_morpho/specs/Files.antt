@@ -9,6 +9,8 @@ use Rattle.ux_dictionaries.specs.Dictionaries.{contents_of}
 use Rattle.ux_grammars.specs.Reading.{Compiles}
 use Rattle.ux_grammars.specs.Sources.{of_boxes}
 use Rattle.ux_marks.specs.Marks.{KeepsMarks}
+use Rattle.ux_morpho.specs.Analysers.{IsAnalyser}
+use Rattle.ux_morpho.specs.declared.analyser.Analyser.{Analyser}
 use Rattle.ux_morpho.specs.Analyses.{GivesBadLine, IsEntryLine}
 use Rattle.ux_net.specs.Nets.{net_grammar}
 use Rattle.ux_net.specs.declared.net_graph.NetGraph.{NetGraph}
@@ -46,3 +48,9 @@ IsLineIn files word line =
 abbrev pub IsBadIn : Files → (word : List ℕ) → Type 0
 IsBadIn files word =
     GivesBadLine files.alphabet (contents_of files.dics.items) (net_grammar files.net) word
+
+-- the analyser is made of the net, for any token
+pub record IsAnalyserOf (files : Files) (analyser : Analyser) : Type 0 where
+  pub net_is : analyser.net.now ≡ files.net
+  pub alphabet_is : analyser.alphabet.now ≡ files.alphabet
+  pub ready : IsAnalyser analyser

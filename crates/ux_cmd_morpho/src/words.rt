@@ -10,18 +10,18 @@ ghost use Rattle.ux_tokens.specs.Numbers.{different_texts};
 ghost use Rattle.ux_tokens.specs.Reading.{HasTooManyTokens};
 ghost use Rattle.ux_tokens.specs.Tokens.{Token};
 ghost use Rattle.ux_cmd_morpho.specs.Answering.{IsFileOfWords, IsWordAt, NoneIsBad, RefusesWords, line_with_feed};
-ghost use Rattle.ux_cmd_morpho.specs.Files.{IsBadIn, IsLineIn};
+ghost use Rattle.ux_cmd_morpho.specs.Files.{IsAnalyserOf, IsBadIn, IsLineIn};
 ghost use Rattle.ux_cmd_morpho.specs.Going.{Adds, AreSoFar, IsSeen, RefusesWord};
 ghost use Rattle.ux_cmd_morpho.specs.Reading.{HasLongWord};
 
 use crate::files::Files;
 use std::alloc::Global;
-use ux_base::{Mem, Txt};
+use ux_base::{Mem, NoMemory, Txt};
 use ux_marks::MorphError;
-use ux_morpho::{analyse, sort_once};
+use ux_morpho::{Analyser, sort_once};
 use ux_plan::{Stop, refused};
 use ux_reasons::Reason;
-use ux_tokens::Kind;
+use ux_tokens::{Kind, Text, TextError};
 
 /// The lines of the entries of the words, each with its line feed. The stop names the graph's file, and the
 /// first word that is refused.
@@ -33,14 +33,56 @@ pub(crate) fn word_lines(alloc: Global, graph: &str, files: &Files) -> Result<St
     ensures err { IfErr result (StopsTest (refusing
         (RefusesWords files.now.text (IsBadIn files.now) graph.now))) }
 {
+    let letters = letters_of(alloc, files)?;
+    // Too many letters tell no text; the words of the text serve as well.
+    let known = match &letters {
+        Some(letters) => letters,
+        None => &files.text,
+    };
+    let analyser = Analyser::of(alloc, &files.net, &files.alphabet, known)?;
+    lines_by(alloc, graph, files, &analyser)
+}
+
+/// The same, by what was made of the grammar.
+fn lines_by(
+    alloc: Global,
+    graph: &str,
+    files: &Files,
+    analyser: &Analyser,
+) -> Result<String, Stop<Reason>>
+    requires short { HasLongWord files.now.alphabet files.now.text → ⊥ }
+    requires analyser { IsAnalyserOf files.now analyser.now }
+    ensures ok { IfOk result (λ lines.
+        IsFileOfWords files.now.text (IsLineIn files.now) (string_bytes lines)) }
+    ensures accepted { OnOk result (NoneIsBad files.now.text (IsBadIn files.now)) }
+    ensures err { IfErr result (StopsTest (refusing
+        (RefusesWords files.now.text (IsBadIn files.now) graph.now))) }
+{
     let mut seen = none_seen(alloc, files.text.different())?;
     let mut lines = Vec::new(alloc);
     for place in 0..files.text.len() {
-        go_on(alloc, graph, files, place, &mut seen, &mut lines)?;
+        go_on(alloc, graph, files, analyser, place, &mut seen, &mut lines)?;
     }
     sort_once(&mut lines);
     let file = joined(alloc, &lines)?;
     Ok(file)
+}
+
+/// The letters of the different words, as the tokens of a text, unless there are too many for one.
+fn letters_of(alloc: Global, files: &Files) -> Mem<Option<Text>> {
+    let mut seen = none_seen(alloc, files.text.different())?;
+    let mut words = String::new(alloc);
+    for place in 0..files.text.len() {
+        if is_next(files, place, &seen) {
+            words.push_str(files.text.token(place))?;
+            see(files, place, &mut seen);
+        }
+    }
+    match Text::read(alloc, words, &files.alphabet) {
+        Ok(letters) => Ok(Some(letters)),
+        Err(TextError::TooManyTokens) => Ok(None),
+        Err(TextError::NoMemory) => Err(NoMemory),
+    }
 }
 
 /// None of so many words was seen.
@@ -56,11 +98,13 @@ fn go_on(
     alloc: Global,
     graph: &str,
     files: &Files,
+    analyser: &Analyser,
     place: usize,
     seen: &mut Vec<bool>,
     lines: &mut Vec<Txt>,
 ) -> Result<(), Stop<Reason>>
     requires short { HasLongWord files.now.alphabet files.now.text → ⊥ }
+    requires analyser { IsAnalyserOf files.now analyser.now }
     requires inside { place < length files.now.text }
     requires so_far { AreSoFar files.now.text (IsLineIn files.now) (IsBadIn files.now) place
         seen.old.items lines.old.items }
@@ -72,7 +116,7 @@ fn go_on(
     if !is_next(files, place, seen) {
         return Ok(());
     }
-    add_lines(alloc, graph, files, place, lines)?;
+    add_lines(alloc, graph, files, analyser, place, lines)?;
     see(files, place, seen);
     Ok(())
 }
@@ -126,10 +170,12 @@ fn add_lines(
     alloc: Global,
     graph: &str,
     files: &Files,
+    analyser: &Analyser,
     place: usize,
     lines: &mut Vec<Txt>,
 ) -> Result<(), Stop<Reason>>
     requires short { HasLongWord files.now.alphabet files.now.text → ⊥ }
+    requires analyser { IsAnalyserOf files.now analyser.now }
     requires word { (word : List ℕ) × IsWordAt files.now.text place word }
     ensures lines { OnOk result ((word : List ℕ) → IsWordAt files.now.text place word →
         Adds (IsLineIn files.now word) lines.old.items lines.new.items) }
@@ -138,13 +184,20 @@ fn add_lines(
     ensures err { IfErr result (StopsTest (refusing
         (RefusesWord files.now.text (IsBadIn files.now) graph.now place))) }
 {
-    let mut more = lines_of(alloc, graph, files, files.text.token(place))?;
+    let mut more = lines_of(alloc, graph, files, analyser, files.text.token(place))?;
     lines.append(&mut more)?;
     Ok(())
 }
 
 /// The lines of a word.
-fn lines_of(alloc: Global, graph: &str, files: &Files, word: &str) -> Result<Vec<Txt>, Stop<Reason>>
+fn lines_of(
+    alloc: Global,
+    graph: &str,
+    files: &Files,
+    analyser: &Analyser,
+    word: &str,
+) -> Result<Vec<Txt>, Stop<Reason>>
+    requires analyser { IsAnalyserOf files.now analyser.now }
     requires few { HasTooManyTokens files.now.alphabet word.now → ⊥ }
     ensures lines { IfOk result (λ lines. (line : List ℕ) → Contains lines.items line
         ↔ IsLineIn files.now word.now line) }
@@ -152,7 +205,7 @@ fn lines_of(alloc: Global, graph: &str, files: &Files, word: &str) -> Result<Vec
     ensures err { IfErr result (StopsTest (refusing (λ file reason. (file ≡ graph.now)
         × (reason ≡ Reason.Morph (MorphError.BadOutput word.now)) × IsBadIn files.now word.now))) }
 {
-    match analyse(alloc, &files.net, word, &files.alphabet, &files.dics) {
+    match analyser.analyse(alloc, word, &files.dics) {
         Ok(lines) => Ok(lines),
         Err(error) => Err(refused_word(alloc, graph, error)),
     }

@@ -18,8 +18,7 @@ use std::alloc::Global;
 use ux_base::{Mem, Policy};
 use ux_chart_contexts::{ChartContexts, derives_some};
 use ux_outputs::Hit;
-use ux_parts::Parts;
-use ux_text_chart::TextChart;
+use ux_text_chart::{NetTables, TextChart};
 use ux_walk::look_ups::LookUps;
 
 /// The hits from all starts, in no order. Equal ones may stand there twice.
@@ -28,8 +27,9 @@ pub fn all_hits(alloc: Global, search: &Search) -> Mem<Vec<Hit>>
     ensures { IfOk result (λ hits. AreAllHits search.now hits.items) }
 {
     // The chart is let go at one place alone: each costs the prover a look at all of its parts.
-    let parts = Parts::of(alloc, search.masked.net)?;
-    let chart = TextChart::fill(alloc, search.masked, parts)?;
+    let masked = search.masked;
+    let tables = NetTables::of(alloc, masked.net, masked.text, masked.alphabet)?;
+    let chart = TextChart::fill(alloc, masked, &tables)?;
     hits_by_chart(alloc, search, &chart)
 }
 

@@ -22,8 +22,7 @@ use std::alloc::Global;
 use ux_base::Mem;
 use ux_chart_contexts::ChartContexts;
 use ux_outputs::Hit;
-use ux_parts::Parts;
-use ux_text_chart::TextChart;
+use ux_text_chart::{NetTables, TextChart};
 use ux_walk::look_ups::LookUps;
 use ux_walk::{Contexts, NoContexts};
 use ux_walker::Walker;
@@ -67,8 +66,9 @@ fn hits_by_chart(alloc: Global, search: &Search) -> Mem<Vec<Hit>>
         (IsFound (tokens_in search.now) (IsHitFrom search.now)) hits.items) }
 {
     // So is the chart.
-    let parts = Parts::of(alloc, search.masked.net)?;
-    let chart = TextChart::fill(alloc, search.masked, parts)?;
+    let masked = search.masked;
+    let tables = NetTables::of(alloc, masked.net, masked.text, masked.alphabet)?;
+    let chart = TextChart::fill(alloc, masked, &tables)?;
     hits_in_chart(alloc, search, &chart)
 }
 

@@ -7,6 +7,7 @@
 ghost use Rattle.std.specs.Prelude.{ℕ, ◌+◌, ◌*◌, ◌≤◌, IfOk, length};
 ghost use Rattle.ux_lexical_tables.specs.Belonging.{Belongs};
 ghost use Rattle.ux_mask_table.specs.MaskedTexts.{HasTable};
+ghost use Rattle.ux_mask_table.specs.NetMasks.{AreNetMasks};
 ghost use Rattle.ux_net.specs.Masks.{IsMaskCount};
 ghost use Rattle.ux_net.specs.Nets.{net_grammar};
 ghost use Rattle.ux_locate.specs.Finding.{HasMasks, IsFound, IsHitFrom, tokens_in};
@@ -23,7 +24,7 @@ use std::sync::ledger::Ledger;
 use ux_alphabet::Alphabet;
 use ux_base::{Mem, Mode, NoVar, Policy, Steps};
 use ux_lexical_tables::LexicalTables;
-use ux_mask_table::MaskedText;
+use ux_mask_table::{MaskedText, NetMasks};
 use ux_net::Net;
 use ux_outputs::Hit;
 use ux_tokens::Text;
@@ -55,7 +56,34 @@ pub fn locate<L: Ledger>(
     ensures steps { (count : ℕ) → IsMaskCount net.now count →
         steps.new ≤ steps.old + count * (length text.now + 1) }
 {
-    let masked = MaskedText::of(alloc, net, text, alphabet, applied, steps)?;
+    let masks = NetMasks::of(alloc, net)?;
+    locate_by(
+        alloc, net, &masks, text, alphabet, applied, mode, novar, policy, steps,
+    )
+}
+
+/// The same, by the masks of the net.
+fn locate_by<L: Ledger>(
+    alloc: Global,
+    net: &Net,
+    masks: &NetMasks,
+    text: &Text,
+    alphabet: &Alphabet,
+    applied: &LexicalTables,
+    mode: Mode,
+    novar: NoVar,
+    policy: Policy,
+    steps: &mut Steps<L>,
+) -> Mem<Vec<Hit>>
+    requires masks { AreNetMasks net.now masks.now }
+    requires belongs { Belongs alphabet.now text.now applied.now }
+    ensures hits { IfOk result (λ hits. IsKeptListing policy
+        (IsHit alphabet.now text.now applied.now (net_grammar net.now) mode novar)
+        hits.items) }
+    ensures steps { (count : ℕ) → IsMaskCount net.now count →
+        steps.new ≤ steps.old + count * (length text.now + 1) }
+{
+    let masked = MaskedText::of(alloc, net, masks, text, alphabet, applied, steps)?;
     hits_in(alloc, &masked, mode, novar, policy)
 }
 

@@ -10,6 +10,7 @@ ghost use Rattle.ux_base.specs.declared.settings.Mode.TheVariants.{Ignore};
 ghost use Rattle.ux_base.specs.declared.settings.NoVar.{NoVar};
 ghost use Rattle.ux_lexical_tables.specs.Belonging.{Belongs};
 ghost use Rattle.ux_mask_table.specs.MaskedTexts.{HasTable};
+ghost use Rattle.ux_mask_table.specs.NetMasks.{AreNetMasks};
 ghost use Rattle.ux_net.specs.Masks.{IsMaskCount};
 ghost use Rattle.ux_net.specs.Nets.{ArePlain, CutNothing, net_grammar};
 ghost use Rattle.ux_text_chart.specs.TextCharts.{IsTextChart, chart_setting};
@@ -31,11 +32,10 @@ use std::sync::ledger::Ledger;
 use ux_alphabet::Alphabet;
 use ux_base::{Mem, Policy, Steps};
 use ux_lexical_tables::LexicalTables;
-use ux_mask_table::MaskedText;
+use ux_mask_table::{MaskedText, NetMasks};
 use ux_net::Net;
 use ux_outputs::Span;
-use ux_parts::Parts;
-use ux_text_chart::TextChart;
+use ux_text_chart::{NetTables, TextChart};
 use ux_tokens::Text;
 use ux_walker::Walker;
 
@@ -61,7 +61,32 @@ pub fn locate_spans<L: Ledger>(
     ensures steps { (count : ℕ) → IsMaskCount net.now count →
         steps.new ≤ steps.old + count * (length text.now + 1) }
 {
-    let masked = MaskedText::of(alloc, net, text, alphabet, applied, steps)?;
+    let masks = NetMasks::of(alloc, net)?;
+    spans_by(alloc, net, &masks, text, alphabet, applied, policy, steps)
+}
+
+/// The same, by the masks of the net.
+fn spans_by<L: Ledger>(
+    alloc: Global,
+    net: &Net,
+    masks: &NetMasks,
+    text: &Text,
+    alphabet: &Alphabet,
+    applied: &LexicalTables,
+    policy: Policy,
+    steps: &mut Steps<L>,
+) -> Mem<Vec<Span>>
+    requires masks { AreNetMasks net.now masks.now }
+    requires belongs { Belongs alphabet.now text.now applied.now }
+    requires uncut { CutNothing net.now }
+    ensures listing { IfOk result (λ spans. (novar : NoVar) → IsKeptListing policy
+        (IsHit alphabet.now text.now applied.now (net_grammar net.now) Ignore novar)
+        (map (hit_at text.now) spans.items)) }
+    ensures within { IfOk result (λ spans. All (LiesIn text.now) spans.items) }
+    ensures steps { (count : ℕ) → IsMaskCount net.now count →
+        steps.new ≤ steps.old + count * (length text.now + 1) }
+{
+    let masked = MaskedText::of(alloc, net, masks, text, alphabet, applied, steps)?;
     spans_in(alloc, &masked, policy)
 }
 
@@ -112,8 +137,8 @@ fn spans_by_chart(alloc: Global, masked: &MaskedText, policy: Policy) -> Mem<Vec
         (IsFound masked.now.text.now (IsSpanFrom (masked_setting masked.now))) spans.items) }
 {
     // So is the chart.
-    let parts = Parts::of(alloc, masked.net)?;
-    let chart = TextChart::fill(alloc, masked, parts)?;
+    let tables = NetTables::of(alloc, masked.net, masked.text, masked.alphabet)?;
+    let chart = TextChart::fill(alloc, masked, &tables)?;
     spans_in_chart(alloc, policy, masked.text, &chart)
 }
 

@@ -29,6 +29,7 @@ use Rattle.ux_net.specs.Masks.{AreMasksOf, IsMaskCount, masks_in, masks_of}
 use Rattle.ux_mask_table.specs.declared.mask_table.MaskTable.{MaskTable}
 use Rattle.ux_mask_table.specs.declared.rows.Row.{Row}
 use Rattle.ux_mask_table.specs.declared.spans.Spans.{Spans}
+use Rattle.ux_mask_table.specs.NetMasks.{AreNetMasks}
 use Rattle.ux_mask_table.specs.Spans.{HasEnd, IsRow}
 use Rattle.ux_mask_table.specs.MaskTables.{AddsRow, AreAlike, AreKnown, AreTold, Grows, IsEndOf, IsFirst, IsLike, IsMaskTable, IsNumbered, TellsEnds}
 use Rattle.ux_mask_table.proofs.RowsLemmas.{accepts_iff}
@@ -145,8 +146,8 @@ token_at tokens place kind is = go (slice_get tokens place) refl is
 
 module _ (alphabet : Letters) (tokens : List Token) (tables : Tables) where
   -- a net without masks has the table without rows
-  pub table_of_none : (net : List NetGraph) (table : MaskTable) → AreMasksOf net (masks_in table.masks) →
-      masks_in table.masks ≡ [] → table.rows.list.items ≡ [] →
+  pub table_of_none : (net : List NetGraph) (table : MaskTable) → AreNetMasks net table.masks.now →
+      masks_in table.masks.now.set ≡ [] → table.rows.list.items ≡ [] →
       IsMaskTable alphabet tokens tables net table
   table_of_none net table are none empty = record {
     masks = are;

@@ -1,3 +1,4 @@
+pub mod NetMasks
 pub mod Spans
 pub mod MaskTables
 pub mod MaskedTexts

@@ -9,7 +9,8 @@ use Rattle.ux_masks.specs.declared.mask.Mask.{Mask}
 use Rattle.ux_lexical_tables.specs.Accepting.{Accepts, IsAlone}
 use Rattle.ux_lexical_tables.specs.Tables.{Tables}
 use Rattle.ux_net.specs.declared.net_graph.NetGraph.{NetGraph}
-use Rattle.ux_net.specs.Masks.{AreMasksOf, masks_in, masks_of}
+use Rattle.ux_net.specs.Masks.{masks_in, masks_of}
+use Rattle.ux_mask_table.specs.NetMasks.{AreNetMasks}
 use Rattle.ux_mask_table.specs.declared.rows.Row.{Row}
 use Rattle.ux_mask_table.specs.declared.spans.Spans.{Spans}
 use Rattle.ux_mask_table.specs.declared.mask_table.MaskTable.{MaskTable}
@@ -78,7 +79,7 @@ module _ (alphabet : Letters) (tokens : List Token) (tables : Tables) where
 
   -- the table has the masks of the net, and if there are any, a row for each place
   pub record IsMaskTable (net : List NetGraph) (table : MaskTable) : Type 0 where
-    pub masks : AreMasksOf net (masks_in table.masks)
-    pub rows : AreRows (masks_in table.masks) table.rows.spans table.rows.list.items
+    pub masks : AreNetMasks net table.masks.now
+    pub rows : AreRows (masks_in table.masks.now.set) table.rows.spans table.rows.list.items
     pub told : (mask : Mask) → Contains (masks_of net) mask →
         AreTold table.rows.list.items table.numbers.items (length tokens)

@@ -1,6 +1,6 @@
 //! The spans that the masks of a net accept in a text, each mask tried once.
 //!
-//! A net and a text with its entries go in; a text with a table of its masks comes out (`MaskedText`),
+//! A net, its masks and a text with its entries go in; a text with a table of its masks comes out (`MaskedText`),
 //! which tells the ends of each mask's spans from each place and takes no step more.
 //!
 //! ```text
@@ -20,7 +20,8 @@
 //! Begin with `masked_text`, and with `specs/MaskTables.antt`.
 //!
 //! ```text
-//! let masked = MaskedText::of(alloc, &net, &text, &alphabet, &applied, &mut steps)?;
+//! let masks = NetMasks::of(alloc, &net)?;
+//! let masked = MaskedText::of(alloc, &net, &masks, &text, &alphabet, &applied, &mut steps)?;
 //! let ends = masked.mask_ends(alloc, mask, place)?;
 //! ```
 #![tactic(auto)]
@@ -34,3 +35,4 @@ pub mod spans;
 
 pub use mask_table::MaskTable;
 pub use masked_text::MaskedText;
+pub use net_masks::NetMasks;

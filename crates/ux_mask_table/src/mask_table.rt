@@ -2,7 +2,7 @@
 //!
 //! A place has the row of the first equal token, where both stand alone, and else a row of its own.
 
-ghost use Rattle.std.specs.Prelude.{◌≡◌, ℕ, ◌+◌, ◌*◌, ◌<◌, ◌≤◌, ◌↔◌, [], Some, Contains, IfOk, IfSome, OnOk, true, length, slice_get};
+ghost use Rattle.std.specs.Prelude.{◌≡◌, ℕ, ◌+◌, ◌*◌, ◌<◌, ◌≤◌, ◌↔◌, [], List, Some, Contains, IfOk, IfSome, OnOk, true, length, slice_get};
 ghost use Rattle.std.specs.List.Sorted.{IsStrictlyIncreasing};
 ghost use Rattle.ux_alphabet.specs.Letters.{Letters};
 ghost use Rattle.ux_lexical_tables.specs.Accepting.{Accepts, IsAlone};
@@ -11,10 +11,12 @@ ghost use Rattle.ux_lexical_tables.specs.Digits.{IsDigitRun};
 ghost use Rattle.ux_lexical_tables.specs.Tables.{Tables};
 ghost use Rattle.ux_mask_table.specs.MaskTables.{AddsRow, AreKnown, AreRows, AreTold, Grows, IsLike, IsMaskTable, IsNumbered, TellsEnds};
 ghost use Rattle.ux_mask_table.specs.Spans.{ArePaired};
-ghost use Rattle.ux_net.specs.Masks.{IsMaskCount, masks_in, masks_of};
+ghost use Rattle.ux_mask_table.specs.NetMasks.{AreNetMasks};
+ghost use Rattle.ux_net.specs.Masks.{masks_in, masks_of};
+ghost use Rattle.ux_net.specs.declared.net_graph.NetGraph.{NetGraph};
 
 use crate::alone::is_alone;
-use crate::net_masks::masks_of_net;
+use crate::net_masks::NetMasks;
 use crate::rows::{Row, Rows};
 use indexmap::IndexSet;
 use std::alloc::Global;
@@ -29,8 +31,8 @@ use ux_tokens::{Kind, Text};
 /// The spans that the masks of a net accept in a text.
 #[derive(Drop)]
 pub struct MaskTable<'n> {
-    /// The different masks of the net. The place of each is its number.
-    pub masks: IndexSet<&'n Mask>,
+    /// The masks of the net.
+    pub masks: &'n NetMasks<'n>,
     /// What they accept.
     pub rows: Rows,
     /// For each place of the text the number of its row. Of a net without masks there are none.
@@ -47,26 +49,26 @@ pub struct Told<'t> {
 }
 
 impl<'n> MaskTable<'n> {
-    /// The table of a net over a text. Each different mask takes one step for each different token, and
+    /// The table of a net's masks over a text. Each mask takes one step for each different token, and
     /// one for each place at which a span of several tokens begins; never more than one a place. A run of
-    /// digits is gone along once. A net without masks takes no time in the text.
+    /// digits is gone along once. Where there are no masks, it takes no time in the text.
     pub fn fill<L: Ledger>(
         alloc: Global,
-        net: &'n Net,
+        masks: &'n NetMasks<'n>,
         text: &Text,
         alphabet: &Alphabet,
         applied: &LexicalTables,
         steps: &mut Steps<L>,
     ) -> Mem<MaskTable<'n>>
         requires belongs { Belongs alphabet.now text.now applied.now }
-        ensures table { IfOk result (IsMaskTable alphabet.now text.now applied.now net.now) }
-        ensures steps { (count : ℕ) → IsMaskCount net.now count →
-            steps.new ≤ steps.old + count * (length text.now + 1) }
+        ensures table { (net : List NetGraph) → AreNetMasks net masks.now →
+            IfOk result (IsMaskTable alphabet.now text.now applied.now net) }
+        ensures steps { steps.new ≤ steps.old
+            + length (masks_in masks.now.set) * (length text.now + 1) }
     {
-        let masks = masks_of_net(alloc, net)?;
         let mut rows = Rows::new(alloc);
         let mut numbers = Vec::new(alloc);
-        if masks.is_empty() {
+        if masks.set.is_empty() {
             return Ok(MaskTable {
                 masks,
                 rows,
@@ -75,7 +77,7 @@ impl<'n> MaskTable<'n> {
         }
         fill_rows(
             alloc,
-            &masks,
+            &masks.set,
             text,
             alphabet,
             applied,
@@ -107,7 +109,7 @@ impl<'n> MaskTable<'n> {
         ensures { TellsEnds (Accepts alphabet.now text.now applied.now mask.now) place result.from
             result.ends.now }
     {
-        match self.masks.get_index_of(&mask) {
+        match self.masks.set.get_index_of(&mask) {
             Some(number) => {
                 let row = self.rows.list[self.numbers[place] as usize];
                 Told {

@@ -6,9 +6,11 @@ ghost use Rattle.ux_lexical_tables.specs.Accepting.{Accepts};
 ghost use Rattle.ux_lexical_tables.specs.Belonging.{Belongs};
 ghost use Rattle.ux_mask_table.specs.MaskTables.{TellsEnds};
 ghost use Rattle.ux_mask_table.specs.MaskedTexts.{AddsEnds, HasTable, IsOver, accepts_in};
+ghost use Rattle.ux_mask_table.specs.NetMasks.{AreNetMasks};
 ghost use Rattle.ux_net.specs.Masks.{IsMaskCount, masks_of};
 
 use crate::mask_table::{MaskTable, Told};
+use crate::net_masks::NetMasks;
 use std::alloc::Global;
 use std::sync::ledger::Ledger;
 use ux_alphabet::Alphabet;
@@ -39,18 +41,20 @@ impl<'a> MaskedText<'a> {
     pub fn of<L: Ledger>(
         alloc: Global,
         net: &'a Net,
+        masks: &'a NetMasks<'a>,
         text: &'a Text,
         alphabet: &'a Alphabet,
         applied: &'a LexicalTables,
         steps: &mut Steps<L>,
     ) -> Mem<MaskedText<'a>>
+        requires masks { AreNetMasks net.now masks.now }
         requires belongs { Belongs alphabet.now text.now applied.now }
         ensures over { IfOk result (IsOver net.now text.now alphabet.now applied.now) }
         ensures table { IfOk result (λ masked. HasTable masked) }
         ensures steps { (count : ℕ) → IsMaskCount net.now count →
             steps.new ≤ steps.old + count * (length text.now + 1) }
     {
-        let masks = MaskTable::fill(alloc, net, text, alphabet, applied, steps)?;
+        let masks = MaskTable::fill(alloc, masks, text, alphabet, applied, steps)?;
         Ok(MaskedText {
             net,
             text,

@@ -3,7 +3,8 @@
 ghost use Rattle.std.specs.Prelude.{◌≤◌, [], ◌∷◌, IfOk, OnOk, length};
 ghost use Rattle.std.specs.List.{flat_map};
 ghost use Rattle.ux_base.specs.Distinct.{GrowsBy};
-ghost use Rattle.ux_net.specs.Masks.{AreMasksOf, masks_of_edge, masks_of_state, masks_in};
+ghost use Rattle.ux_mask_table.specs.NetMasks.{AreNetMasks};
+ghost use Rattle.ux_net.specs.Masks.{masks_of_edge, masks_of_state, masks_in};
 ghost use Rattle.ux_net.specs.Nets.{states_of};
 
 use indexmap::IndexSet;
@@ -12,15 +13,24 @@ use ux_base::Mem;
 use ux_masks::Mask;
 use ux_net::{Edge, Label, Net};
 
-/// The masks on the edges of a net, each once, in the order of their first edges.
-pub fn masks_of_net(alloc: Global, net: &Net) -> Mem<IndexSet<&Mask>>
-    ensures { IfOk result (λ masks. AreMasksOf net.now (masks_in masks)) }
-{
-    let mut masks = IndexSet::new(alloc);
-    for before in 0..net.graphs() {
-        note_graph(&mut masks, net, before + 1)?;
+/// The masks on the edges of a net, each once. They are found once, and serve any number of texts.
+#[derive(Drop)]
+pub struct NetMasks<'n> {
+    /// The masks, in the order of their first edges. The place of each is its number.
+    pub set: IndexSet<&'n Mask>,
+}
+
+impl<'n> NetMasks<'n> {
+    /// The masks of a net. Looks at each edge once.
+    pub fn of(alloc: Global, net: &'n Net) -> Mem<NetMasks<'n>>
+        ensures { IfOk result (λ masks. AreNetMasks net.now masks) }
+    {
+        let mut set = IndexSet::new(alloc);
+        for before in 0..net.graphs() {
+            note_graph(&mut set, net, before + 1)?;
+        }
+        Ok(NetMasks { set })
     }
-    Ok(masks)
 }
 
 /// Notes the masks on the edges of the graph.

@@ -14,6 +14,8 @@ use Rattle.ux_outputs.specs.declared.hit.Hit.{Hit}
 use Rattle.ux_outputs.specs.Rendering.{render}
 use Rattle.ux_tokens.specs.Tokens.{Token}
 use Rattle.ux_walk.specs.Noting.{Includes}
+use Rattle.ux_text_chart.specs.NetTables.{AreTablesFor}
+use Rattle.ux_text_chart.specs.declared.net_tables.NetTables.{NetTables}
 use Rattle.ux_walk.specs.Settings.{Derives, Setting, masked_setting, setting_of}
 use Rattle.ux_walk.proofs.Collecting.{Among, none_in}
 use Rattle.ux_morpho.specs.Analyses.{RendersAs}
@@ -100,3 +102,14 @@ over_setting net tokens alphabet tables text over =
     ∙ (ap (λ t. setting_of net t text.alphabet.now text.applied.now) over.text_is
     ∙ (ap (λ a. setting_of net tokens a text.applied.now) over.alphabet_is
     ∙ ap (λ t. setting_of net tokens alphabet t) over.applied_is))
+
+-- tables for a text serve it with its masks
+pub over_tables : (net : List NetGraph) (tokens : List Token) (alphabet : Letters) (tables : Tables)
+    (text : MaskedText) → IsOver net tokens alphabet tables text → (looked : NetTables) →
+    AreTablesFor alphabet tokens net looked →
+    AreTablesFor text.alphabet.now text.text.now text.net.now looked
+over_tables net tokens alphabet tables text over looked are =
+    subst (λ (n : List NetGraph). AreTablesFor text.alphabet.now text.text.now n looked)
+    (sym over.net_is)
+    (subst (λ (t : List Token). AreTablesFor text.alphabet.now t net looked) (sym over.text_is)
+    (subst (λ (a : Letters). AreTablesFor a tokens net looked) (sym over.alphabet_is) are))

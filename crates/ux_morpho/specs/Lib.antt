@@ -1,2 +1,3 @@
+pub mod Analysers
 pub mod Analyses
 pub mod Putting

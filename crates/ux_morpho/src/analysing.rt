@@ -5,8 +5,10 @@ ghost use Rattle.ux_apply.specs.Applying.{contents};
 ghost use Rattle.ux_net.specs.Nets.{net_grammar};
 ghost use Rattle.ux_tokens.specs.Reading.{HasTooManyTokens};
 ghost use Rattle.ux_tokens.specs.Tokens.{AreTokens};
+ghost use Rattle.ux_morpho.specs.Analysers.{IsAnalyser};
 ghost use Rattle.ux_morpho.specs.Analyses.{AreEntryLines, GivesBadLine};
 
+use crate::analyser::Analyser;
 use crate::lines::entry_lines;
 use crate::outputs::outputs_of;
 use std::alloc::Global;
@@ -15,37 +17,39 @@ use ux_apply::{Priority, apply};
 use ux_base::{Mem, NoMemory, Txt};
 use ux_lexicon::Lexicon;
 use ux_marks::MorphError;
-use ux_net::Net;
 use ux_tokens::{Text, TextError};
 
 /// As many letters a token may have.
 const MOST_LETTERS: usize = 67_108_864;
 
-/// The lines of the entries that the grammar gives to the token, by bytes, each once. The alphabet cuts
-/// the token into its letters. The dictionaries stand for parts of it.
-///
-/// Takes time linear in the net, a chart of the letters, and a step for each derivation from the first
-/// letter if the main graph takes all letters.
-pub fn analyse<L: Lexicon>(
-    alloc: Global,
-    net: &Net,
-    token: &str,
-    alphabet: &Alphabet,
-    dics: &[(Priority, L)],
-) -> Result<Vec<Txt>, MorphError>
-    requires few { HasTooManyTokens alphabet.now token.now → ⊥ }
-    ensures ok { IfOk result (λ lines. AreEntryLines alphabet.now (contents L.content dics.now)
-        (net_grammar net.now) token.now lines.items) }
-    ensures accepted { OnOk result (GivesBadLine alphabet.now (contents L.content dics.now)
-        (net_grammar net.now) token.now → ⊥) }
-    ensures err { IfErr result (λ error. (error ≡ MorphError.NoMemory) ⊎ ((error ≡ MorphError.BadOutput token.now)
-        × GivesBadLine alphabet.now (contents L.content dics.now) (net_grammar net.now)
-        token.now)) }
-{
-    let letters = letters_of(alloc, token, alphabet)?;
-    let applied = apply(alloc, &letters, alphabet, dics)?;
-    let outputs = outputs_of(alloc, net, &letters, alphabet, &applied)?;
-    entry_lines(alloc, token, &outputs)
+impl<'a> Analyser<'a> {
+    /// The lines of the entries that the grammar gives to the token, by bytes, each once. The alphabet
+    /// cuts the token into its letters. The dictionaries stand for parts of it.
+    ///
+    /// Takes a step for each letter and each different mask of the net, a chart of the letters, and a
+    /// step for each derivation from the first letter if the main graph takes all letters.
+    pub fn analyse<L: Lexicon>(
+        &self,
+        alloc: Global,
+        token: &str,
+        dics: &[(Priority, L)],
+    ) -> Result<Vec<Txt>, MorphError>
+        requires ready { IsAnalyser self.now }
+        requires few { HasTooManyTokens self.now.alphabet.now token.now → ⊥ }
+        ensures ok { IfOk result (λ lines. AreEntryLines self.now.alphabet.now
+            (contents L.content dics.now) (net_grammar self.now.net.now) token.now lines.items) }
+        ensures accepted { OnOk result (GivesBadLine self.now.alphabet.now
+            (contents L.content dics.now) (net_grammar self.now.net.now) token.now → ⊥) }
+        ensures err { IfErr result (λ error. (error ≡ MorphError.NoMemory)
+            ⊎ ((error ≡ MorphError.BadOutput token.now)
+            × GivesBadLine self.now.alphabet.now (contents L.content dics.now)
+            (net_grammar self.now.net.now) token.now)) }
+    {
+        let letters = letters_of(alloc, token, self.alphabet)?;
+        let applied = apply(alloc, &letters, self.alphabet, dics)?;
+        let outputs = outputs_of(alloc, self, &letters, &applied)?;
+        entry_lines(alloc, token, &outputs)
+    }
 }
 
 /// The letters of a token, as the tokens of a text.

@@ -3,14 +3,18 @@
 ghost use Rattle.std.specs.Prelude.{◌≡◌, ◌<◌, ◌≤◌, ◌↔◌, ℕ, List, Contains, IfOk, IsTrue, OnOk, Some, length};
 ghost use Rattle.ux_lexical_tables.specs.Belonging.{Belongs};
 ghost use Rattle.ux_mask_table.specs.MaskedTexts.{HasTable};
+ghost use Rattle.ux_mask_table.specs.NetMasks.{AreNetMasks};
 ghost use Rattle.ux_outputs.specs.Following.{FollowWithin};
 ghost use Rattle.ux_outputs.specs.declared.event.Event.{Event};
 ghost use Rattle.ux_text_chart.specs.TextCharts.{IsTextChart, chart_setting};
 ghost use Rattle.ux_walk.specs.Settings.{Derives, masked_setting, setting_of};
+ghost use Rattle.ux_text_chart.specs.NetTables.{AreTablesFor};
+ghost use Rattle.ux_morpho.specs.Analysers.{IsAnalyser};
 ghost use Rattle.ux_morpho.specs.Analyses.{RendersAs};
 ghost use Rattle.ux_walk.specs.Noting.{Includes};
 ghost use Rattle.ux_morpho.specs.Putting.{PutsIn, RendersWhole};
 
+use crate::analyser::Analyser;
 use std::alloc::Global;
 use std::marker::Brand;
 use std::sync::ledger::{Blank, Ledger};
@@ -18,11 +22,10 @@ use ux_alphabet::Alphabet;
 use ux_base::{Lst, Mem, Mode, NoVar, Steps, Txt};
 use ux_chart_contexts::ChartContexts;
 use ux_lexical_tables::LexicalTables;
-use ux_mask_table::MaskedText;
+use ux_mask_table::{MaskedText, NetMasks};
 use ux_net::Net;
 use ux_outputs::{Event, render};
-use ux_parts::Parts;
-use ux_text_chart::TextChart;
+use ux_text_chart::{NetTables, TextChart};
 use ux_tokens::Text;
 use ux_walk::walk;
 
@@ -30,23 +33,35 @@ use ux_walk::walk;
 /// stand there twice.
 pub(crate) fn outputs_of(
     alloc: Global,
-    net: &Net,
+    analyser: &Analyser,
     letters: &Text,
-    alphabet: &Alphabet,
     applied: &LexicalTables,
 ) -> Mem<Vec<Txt>>
-    requires belongs { Belongs alphabet.now letters.now applied.now }
+    requires ready { IsAnalyser analyser.now }
+    requires belongs { Belongs analyser.now.alphabet.now letters.now applied.now }
     ensures { IfOk result (λ outputs. (output : List ℕ) → Contains outputs.items output
-        ↔ PutsIn (setting_of net.now letters.now alphabet.now applied.now) output) }
+        ↔ PutsIn (setting_of analyser.now.net.now letters.now analyser.now.alphabet.now applied.now)
+        output) }
 {
     let blank = Blank::new(1);
-    counted_outputs::<Brand>(alloc, net, letters, alphabet, applied, blank)
+    counted_outputs::<Brand>(
+        alloc,
+        analyser.net,
+        &analyser.masks,
+        &analyser.tables,
+        letters,
+        analyser.alphabet,
+        applied,
+        blank,
+    )
 }
 
 /// The same, with no step taken before.
 fn counted_outputs<L: Ledger>(
     alloc: Global,
     net: &Net,
+    masks: &NetMasks,
+    tables: &NetTables,
     letters: &Text,
     alphabet: &Alphabet,
     applied: &LexicalTables,
@@ -55,24 +70,27 @@ fn counted_outputs<L: Ledger>(
     requires name { blank.name ≡ L.name }
     requires parts { blank.parts ≡ L.parts }
     requires some { 0 < blank.parts }
+    requires masks { AreNetMasks net.now masks.now }
+    requires tables { AreTablesFor alphabet.now letters.now net.now tables.now }
     requires belongs { Belongs alphabet.now letters.now applied.now }
     ensures { IfOk result (λ outputs. (output : List ℕ) → Contains outputs.items output
         ↔ PutsIn (setting_of net.now letters.now alphabet.now applied.now) output) }
 {
     let mut steps = Steps::<L>::new(blank);
-    let masked = MaskedText::of(alloc, net, letters, alphabet, applied, &mut steps)?;
-    masked_outputs(alloc, &masked)
+    let masked = MaskedText::of(alloc, net, masks, letters, alphabet, applied, &mut steps)?;
+    masked_outputs(alloc, &masked, tables)
 }
 
 /// The same, with what the masks accept.
-fn masked_outputs(alloc: Global, masked: &MaskedText) -> Mem<Vec<Txt>>
+fn masked_outputs(alloc: Global, masked: &MaskedText, tables: &NetTables) -> Mem<Vec<Txt>>
     requires masks { HasTable masked.now }
+    requires tables { AreTablesFor masked.now.alphabet.now masked.now.text.now masked.now.net.now
+        tables.now }
     ensures { IfOk result (λ outputs. (output : List ℕ) → Contains outputs.items output
         ↔ PutsIn (masked_setting masked.now) output) }
 {
     // The chart is let go at one place alone: each costs the prover a look at all of its parts.
-    let parts = Parts::of(alloc, masked.net)?;
-    let chart = TextChart::fill(alloc, masked, parts)?;
+    let chart = TextChart::fill(alloc, masked, tables)?;
     outputs_by(alloc, masked, &chart)
 }
 

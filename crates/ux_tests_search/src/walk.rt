@@ -6,6 +6,7 @@
 //! space, `x`. A row has the main graph of a compiled grammar and its tags behind tag 0.
 
 ghost use Rattle.std.specs.Prelude.{◌≡◌, ◌<◌, length};
+ghost use Rattle.ux_mask_table.specs.NetMasks.{AreNetMasks};
 ghost use Rattle.ux_lexical_tables.specs.Belonging.{Belongs};
 ghost use Rattle.ux_mask_table.specs.MaskedTexts.{HasTable};
 
@@ -20,7 +21,7 @@ use ux_apply::{Priority, apply};
 use ux_base::{Lst, Mem, Steps};
 use ux_dict::ListLexicon;
 use ux_lexical_tables::LexicalTables;
-use ux_mask_table::MaskedText;
+use ux_mask_table::{MaskedText, NetMasks};
 use ux_net::Net;
 use ux_outputs::Event;
 use ux_tokens::Text;
@@ -101,7 +102,27 @@ fn told_by<L: Ledger>(
     requires belongs { Belongs alphabet.now text.now applied.now }
 {
     let mut steps = Steps::<L>::new(blank);
-    let masked = MaskedText::of(alloc, net, text, alphabet, applied, &mut steps)?;
+    let masks = NetMasks::of(alloc, net)?;
+    told_with(
+        alloc, net, &masks, text, alphabet, applied, start, &mut steps,
+    )
+}
+
+/// The same, by the masks of the net.
+fn told_with<L: Ledger>(
+    alloc: Global,
+    net: &Net,
+    masks: &NetMasks,
+    text: &Text,
+    alphabet: &Alphabet,
+    applied: &LexicalTables,
+    start: usize,
+    steps: &mut Steps<L>,
+) -> Result<Ends, Fail>
+    requires masks { AreNetMasks net.now masks.now }
+    requires belongs { Belongs alphabet.now text.now applied.now }
+{
+    let masked = MaskedText::of(alloc, net, masks, text, alphabet, applied, steps)?;
     told(alloc, &masked, start)
 }
 

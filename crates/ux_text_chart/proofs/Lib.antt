@@ -3,3 +3,4 @@ pub mod PartIndexLemmas
 pub mod StateIndexLemmas
 pub mod LikelyLemmas
 pub mod AlikeLemmas
+pub mod NetTablesLemmas

@@ -21,6 +21,7 @@ use Rattle.ux_net.specs.Nets.{net_grammar, states_of}
 use Rattle.ux_net.specs.Words.{Step, mark_of, closes}
 use Rattle.ux_base.proofs.Lists.{less_or}
 use Rattle.ux_meaning.specs.Inputs.{Input}
+use Rattle.ux_meaning.specs.Texts.{Folds}
 use Rattle.ux_parts.specs.declared.part.Part.{Part}
 use Rattle.ux_parts.specs.declared.parts.Parts.{Parts}
 use Rattle.ux_parts.specs.Ordered.{GoesAhead, NeverRises}
@@ -28,7 +29,6 @@ use Rattle.ux_parts.specs.Parts.{ArePartsOf}
 use Rattle.ux_parts.specs.Runs.{Ends, NextBy}
 use Rattle.ux_parts.proofs.Running.{whole}
 use Rattle.ux_alphabet.specs.Letters.{Letters}
-use Rattle.ux_tokens.specs.Numbers.{different_texts}
 use Rattle.ux_tokens.specs.Tokens.{Token}
 use Rattle.ux_lexical_tables.specs.Tables.{Tables}
 use Rattle.ux_walk.specs.Literals.{IsFitted, IsLiteral}
@@ -36,7 +36,10 @@ use Rattle.ux_walk.specs.Settings.{applied_text}
 use Rattle.ux_chart.specs.Likely.{AreLikely, ReachesSome}
 use Rattle.ux_chart.proofs.Entering.{single}
 use Rattle.ux_text_chart.specs.Leading.{MayLead}
-use Rattle.ux_text_chart.specs.Likely.{IsLikelyRow, IsTokenAt, MayBegin, MayLeadTo, SomeLeads}
+use Rattle.ux_text_chart.specs.Likely.{IsLikelyRow, MayBegin, MayLeadTo, SomeLeads}
+use Rattle.ux_text_chart.specs.NetTables.{IsTokenAt}
+use Rattle.ux_text_chart.specs.declared.net_tables.TokenAt.{TokenAt}
+use Rattle.ux_text_chart.specs.declared.net_tables.TokenAt.TheVariants.{Number, Unknown, End}
 use Rattle.ux_text_chart.specs.PartIndexes.{IsNoLater, IsPartIndex, IsTried, begins_at}
 use Rattle.ux_text_chart.specs.declared.part_index.PartIndex.{PartIndex}
 
@@ -323,34 +326,58 @@ module _ (input : Input) (net : List NetGraph) (parts : Parts) where
         }
 
 -- a part that begins at a position is tried there
-module _ (alphabet : Letters) (tokens : List Token) (tables : Tables) (net : List NetGraph)
-    (parts : Parts) (index : PartIndex)
-    (is : IsPartIndex alphabet (different_texts tokens) net parts index) (p : ℕ)
-    (token : Option ℕ) (there : IsTokenAt tokens p token) where
+module _ (alphabet : Letters) (texts : List (List ℕ)) (tokens : List Token) (tables : Tables)
+    (net : List NetGraph) (parts : Parts) (index : PartIndex)
+    (is : IsPartIndex alphabet texts net parts index) (p : ℕ) where
+  -- a literal of its first state takes the token, so there is one, and it is listed with its number
   literal_tried : (x : Label) (row : List ℕ) (number : ℕ) → IsLiteral x →
-      ((n : ℕ) → IsFitted alphabet (different_texts tokens) x n →
+      ((n : ℕ) → IsFitted alphabet texts x n →
       Contains index.beginnings.items (begins_at n number)) →
-      MayLeadTo (applied_text alphabet tokens tables) parts row x p → IsTried index token number
-  literal_tried (label.CaseFolded text) row number literal listed (k, (t, at, (stands, fits), end)) =
-      let told = there t at in
-      inr (told.0, told.1, listed told.0 (t.text, told.2, fits))
-  literal_tried (label.CaseExact text) row number literal listed (k, (t, at, (stands, fits), end)) =
-      let told = there t at in
-      inr (told.0, told.1, listed told.0 (t.text, told.2, fits))
-  literal_tried x row number literal listed leads = absurd literal
+      MayLeadTo (applied_text alphabet tokens tables) parts row x p → (token : TokenAt) →
+      IsTokenAt texts tokens p token → number < index.count → IsTried index token number
+  literal_tried (label.CaseFolded text) row number literal listed (k, (t, at, (stands, fits), end))
+      (Number n) (there, here, told) low =
+      inr (listed n (
+        there.text,
+        told,
+        subst (λ (u : Token). Folds alphabet text u.text)
+            (same_Some t there (sym at ∙ here)) fits,
+      ))
+  literal_tried (label.CaseExact text) row number literal listed (k, (t, at, (stands, fits), end))
+      (Number n) (there, here, told) low =
+      inr (listed n (
+        there.text,
+        told,
+        subst (λ (u : Token). u.text ≡ text)
+            (same_Some t there (sym at ∙ here)) fits,
+      ))
+  literal_tried (label.CaseFolded text) row number literal listed (k, (t, at, fits, end)) End none low =
+      absurd (none-some t (sym none ∙ at))
+  literal_tried (label.CaseExact text) row number literal listed (k, (t, at, fits, end)) End none low =
+      absurd (none-some t (sym none ∙ at))
+  literal_tried x row number literal listed leads Unknown there low = low
+  literal_tried x row number literal listed leads token there low = absurd literal
 
   pub tried : (row : List ℕ) (number : ℕ) (part : Part) →
       slice_get parts.list number ≡ Some part →
-      MayBegin (applied_text alphabet tokens tables) net parts row part p →
-      IsTried index token number
-  tried row number part found may = elim (is.each number part may.state found may.found) [
-    | inl everywhere ↦ inl everywhere
+      MayBegin (applied_text alphabet tokens tables) net parts row part p → (token : TokenAt) →
+      IsTokenAt texts tokens p token → IsTried index token number
+  tried row number part found may token there = elim (is.each number part may.state found may.found) [
+    | inl everywhere ↦ all token everywhere
     | inr (literals, listed) ↦ elim may.so [
       | inl final ↦ absurd (literals.not_final final)
       | inr (edge, inside, leads) ↦ literal_tried edge.label row number
-          (literals.literals edge inside) (listed edge inside) leads
+          (literals.literals edge inside) (listed edge inside) leads token there low
     ]
   ]
+    where
+      low : number < index.count
+      low = subst (λ n. number < n) (sym is.count) (slice_get_within parts.list number part found)
+
+      all : (seen : TokenAt) → Contains index.everywhere.items number → IsTried index seen number
+      all (Number n) everywhere = inl everywhere
+      all Unknown everywhere = low
+      all End everywhere = everywhere
 
 -- no part before the next one is tried
 pub none_earlier : (next : Option ℕ) (number found : ℕ) → next ≡ Some found → number < found →

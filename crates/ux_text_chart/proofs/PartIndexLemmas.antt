@@ -110,13 +110,14 @@ module _ (alphabet : Letters) (texts : List (List ℕ)) where
 
     -- all parts, with what was found in order
     pub indexed_all : (index : PartIndex) (old : List Beginning) →
-        IsPermutation old index.beginnings.items →
+        index.count ≡ length parts.list → IsPermutation old index.beginnings.items →
         IsNonDecreasingBy (λ (b : Beginning). b.token * 4294967296 + b.part)
         index.beginnings.items →
         AreIndexed alphabet texts net parts (length parts.list) old index.everywhere.items →
         IsPartIndex alphabet texts net parts index
-    indexed_all index old moved ordered are = record {
+    indexed_all index old count moved ordered are = record {
       few = are.few;
+      count = count;
       ordered = ordered;
       rises = are.rises;
       each = λ number part state found there.

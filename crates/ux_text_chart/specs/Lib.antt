@@ -1,5 +1,6 @@
 pub mod Leading
 pub mod PartIndexes
+pub mod NetTables
 pub mod Likely
 pub mod TextBases
 pub mod TextCharts

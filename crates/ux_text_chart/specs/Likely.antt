@@ -1,6 +1,6 @@
 -- Which parts may reach something from a position, told by the edges of their first states. Public:
 -- the contracts of the chart of a text speak of it.
-use Rattle.std.specs.Prelude.{◌≡◌, ℕ, ◌<◌, ◌⊎◌, List, Option, Some, slice_get, Contains, IsTrue}
+use Rattle.std.specs.Prelude.{◌≡◌, ℕ, ◌<◌, ◌⊎◌, List, Some, slice_get, Contains, IsTrue}
 use Rattle.std.specs.List.Sorted.{IsStrictlyIncreasing}
 use Rattle.ux_net.specs.declared.label.Label.{Label}
 use Rattle.ux_net.specs.declared.label.Label.TheVariants.{Call}
@@ -13,9 +13,6 @@ use Rattle.ux_parts.specs.declared.part.Part.{Part}
 use Rattle.ux_parts.specs.declared.parts.Parts.{Parts}
 use Rattle.ux_parts.specs.Parts.{number_of}
 use Rattle.ux_chart.specs.Likely.{ReachesSome}
-use Rattle.ux_outputs.specs.Rendering.{skip}
-use Rattle.ux_tokens.specs.Numbers.{different_texts}
-use Rattle.ux_tokens.specs.Tokens.{Token}
 use Rattle.ux_text_chart.specs.Leading.{MayLead}
 
 -- the part of the graph, where there is one, stands in the row
@@ -48,9 +45,3 @@ module _ (input : Input) (net : List NetGraph) (parts : Parts) where
     pub whole : (number : ℕ) (part : Part) → number < bound →
         slice_get parts.list number ≡ Some part → ReachesSome input net parts part i →
         Contains row number
-
--- the number of the token at position p, after an optional space
-abbrev pub IsTokenAt : List Token → (p : ℕ) → Option ℕ → Type 0
-IsTokenAt tokens p token = (there : Token) → slice_get tokens (skip tokens p) ≡ Some there →
-    (number : ℕ) × (token ≡ Some number)
-    × (slice_get (different_texts tokens) number ≡ Some there.text)

@@ -12,6 +12,8 @@ use Rattle.ux_parts.specs.declared.parts.Parts.{Parts}
 use Rattle.ux_walk.specs.Literals.{IsFitted, IsLiteral}
 use Rattle.ux_text_chart.specs.declared.part_index.Beginning.{Beginning}
 use Rattle.ux_text_chart.specs.declared.part_index.PartIndex.{PartIndex}
+use Rattle.ux_text_chart.specs.declared.net_tables.TokenAt.{TokenAt}
+use Rattle.ux_text_chart.specs.declared.net_tables.TokenAt.TheVariants.{Number, Unknown, End}
 
 -- the part of a number may begin at the token of a number
 abbrev pub begins_at : (token part : ℕ) → Beginning
@@ -53,6 +55,7 @@ module _ (alphabet : Letters) (texts : List (List ℕ)) where
     -- each part is indexed, and the lists are in order
     pub record IsPartIndex (index : PartIndex) : Type 0 where
       pub few : length parts.list ≤ 4294967296
+      pub count : index.count ≡ length parts.list
       pub ordered : IsNonDecreasingBy order_of index.beginnings.items
       pub rises : IsNonDecreasing index.everywhere.items
       pub each : (number : ℕ) (part : Part) (state : State) →
@@ -60,11 +63,12 @@ module _ (alphabet : Letters) (texts : List (List ℕ)) where
           slice_get (states_of net part.graph) part.first ≡ Some state →
           IsIndexed index.beginnings.items index.everywhere.items number state
 
--- the part is tried everywhere, or at the token
-abbrev pub IsTried : PartIndex → (token : Option ℕ) → (part : ℕ) → Type 0
-IsTried index token part = Contains index.everywhere.items part
-    ⊎ ((number : ℕ) × (token ≡ Some number)
-    × Contains index.beginnings.items (begins_at number part))
+-- the part is tried everywhere, or at the token; where that is unknown, each part is
+abbrev pub IsTried : PartIndex → TokenAt → (part : ℕ) → Type 0
+IsTried index (Number number) part = Contains index.everywhere.items part
+    ⊎ Contains index.beginnings.items (begins_at number part)
+IsTried index Unknown part = part < index.count
+IsTried index End part = Contains index.everywhere.items part
 
 -- the number, where there is one, is no later than this one
 abbrev pub IsNoLater : Option ℕ → ℕ → Type 0

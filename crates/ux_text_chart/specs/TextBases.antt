@@ -3,23 +3,18 @@ use Rattle.std.specs.Prelude.{◌≡◌, List, length}
 use Rattle.ux_net.specs.declared.net_graph.NetGraph.{NetGraph}
 use Rattle.ux_parts.specs.declared.parts.Parts.{Parts}
 use Rattle.ux_parts.specs.Ordered.{GoesAhead}
-use Rattle.ux_parts.specs.Parts.{ArePartsOf}
 use Rattle.ux_chart.specs.Likely.{AreKnown}
 use Rattle.ux_mask_table.specs.MaskedTexts.{IsKnown}
-use Rattle.ux_tokens.specs.Numbers.{different_texts}
-use Rattle.ux_walk.specs.LookUps.{AreSound}
 use Rattle.ux_text_chart.specs.Leading.{input_of}
 use Rattle.ux_walk.specs.Settings.{masked_setting}
-use Rattle.ux_text_chart.specs.PartIndexes.{IsPartIndex}
+use Rattle.ux_text_chart.specs.NetTables.{AreTablesFor}
 use Rattle.ux_text_chart.specs.declared.text_basis.TextBasis.{TextBasis}
 
--- the basis is made for the net, its index lists these parts, and the indexes of states are the net's
+-- the basis is made for the net, and its tables are the net's and have these parts
 pub record TellsParts (basis : TextBasis) (net : List NetGraph) (parts : Parts) : Type 0 where
   pub net_is : basis.text.now.net.now ≡ net
+  pub parts_are : basis.tables.now.prepared.parts ≡ parts
   pub known : AreKnown (IsKnown basis.text.now) basis.text.now.net.now
   pub ahead : GoesAhead (input_of (masked_setting basis.text.now)) (length basis.text.now.text.now)
-  pub parts_are : ArePartsOf basis.text.now.net.now parts
-  pub index_is : IsPartIndex basis.text.now.alphabet.now (different_texts basis.text.now.text.now)
-      basis.text.now.net.now parts basis.index
-  pub look_ups_are : AreSound basis.text.now.alphabet.now basis.text.now.net.now
-      (different_texts basis.text.now.text.now) basis.look_ups
+  pub tables_are : AreTablesFor basis.text.now.alphabet.now basis.text.now.text.now
+      basis.text.now.net.now basis.tables.now

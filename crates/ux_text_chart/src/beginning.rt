@@ -5,14 +5,14 @@
 //! are tried first, which takes less than a search. A call leads on only where the part that it
 //! calls is worth a search, and that part comes before.
 
-ghost use Rattle.std.specs.Prelude.{◌≡◌, ◌+◌, ◌↔◌, Some, Contains, IsTrue, OnOk, length, slice_get};
+ghost use Rattle.std.specs.Prelude.{◌≡◌, ◌+◌, ◌↔◌, ℕ, List, Some, Contains, IsTrue, OnOk, length, slice_get};
 ghost use Rattle.std.specs.List.Sorted.{IsStrictlyIncreasing};
 ghost use Rattle.ux_net.specs.declared.state.Edge.{Edge};
 ghost use Rattle.ux_parts.specs.Ordered.{GoesAhead};
 ghost use Rattle.ux_parts.specs.Parts.{ArePartsOf};
 ghost use Rattle.ux_parts.specs.declared.part.Part.{Part};
 ghost use Rattle.ux_chart.specs.Likely.{AreKnown, AreLikely};
-ghost use Rattle.ux_tokens.specs.Numbers.{different_texts};
+ghost use Rattle.ux_text_chart.specs.NetTables.{IsTokenAt};
 ghost use Rattle.ux_mask_table.specs.MaskedTexts.{IsKnown};
 ghost use Rattle.ux_text_chart.specs.Leading.{input_of};
 ghost use Rattle.ux_walk.specs.Settings.{masked_setting};
@@ -20,33 +20,34 @@ ghost use Rattle.ux_text_chart.specs.PartIndexes.{IsPartIndex};
 ghost use Rattle.ux_text_chart.specs.Likely.{IsLikelyRow, IsListed, MayBegin, MayLeadTo, SomeLeads};
 
 use crate::leading::may_lead;
+use crate::net_tables::TokenAt;
 use crate::part_index::PartIndex;
-use crate::state_indexes::token_at;
 use ux_base::Mem;
 use ux_mask_table::MaskedText;
 use ux_net::{Edge, Label};
 use ux_parts::Parts;
 
 /// Puts the numbers of the parts that may reach something from a position into the list, in place
-/// of what it has, ascending. Takes a look-up for each part that may begin at the token or is
+/// of what it has, ascending. Takes a look-up for each part that may begin at the token there or is
 /// tried everywhere.
 pub fn likely_parts(
     text: &MaskedText<'_>,
     parts: &Parts,
     index: &PartIndex,
+    token: TokenAt,
     at: usize,
     row: &mut Vec<u32>,
 ) -> Mem<()>
     requires known { AreKnown (IsKnown text.now) text.now.net.now }
     requires ahead { GoesAhead (input_of (masked_setting text.now)) (length text.now.text.now) }
     requires parts { ArePartsOf text.now.net.now parts.now }
-    requires index { IsPartIndex text.now.alphabet.now (different_texts text.now.text.now)
-        text.now.net.now parts.now index.now }
+    requires index { (texts : List (List ℕ))
+        × IsPartIndex text.now.alphabet.now texts text.now.net.now parts.now index.now
+        × IsTokenAt texts text.now.text.now at token }
     ensures { OnOk result (AreLikely (input_of (masked_setting text.now)) text.now.net.now
         parts.now at row.new.items) }
 {
     row.clear();
-    let token = token_at(text.text, at);
     let mut from = 0;
     'parts: while let Some(number) = index.next(token, from) {
         add_part(text, parts, index, number, at, row)?;

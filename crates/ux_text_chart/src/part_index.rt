@@ -16,6 +16,7 @@ ghost use Rattle.ux_walk.specs.Literals.{AreReady, IsLiteral};
 ghost use Rattle.ux_text_chart.specs.PartIndexes.{AreIndexed, AreListed, IsLiteralState, IsNoLater, IsPartIndex, IsTried, begins_at, order_of};
 ghost use Rattle.ux_text_chart.specs.declared.part_index.Beginning.{Beginning as TheBeginning};
 
+use crate::net_tables::TokenAt;
 use crate::state_indexes::has_index;
 use std::alloc::Global;
 use ux_alphabet::Alphabet;
@@ -50,6 +51,8 @@ pub struct PartIndex {
     everywhere: Vec<u32>,
     /// For each part whether it is tested where it is tried, before it is searched.
     tested: Vec<bool>,
+    /// How many parts there are.
+    count: usize,
 }
 
 impl PartIndex {
@@ -80,27 +83,33 @@ impl PartIndex {
         )?;
         sort(&mut beginnings);
         let tested = tested_parts(alloc, net, parts, everywhere.as_slice())?;
+        let count = parts.list.as_slice().len();
         Ok(PartIndex {
             beginnings,
             everywhere,
             tested,
+            count,
         })
     }
 
-    /// The least number, from one on, of a part to be tried at the token of this number, or
-    /// everywhere. Takes a look-up in both lists.
-    pub fn next(&self, token: Option<u32>, from: usize) -> Option<u32>
+    /// The least number, from one on, of a part to be tried at the token, or everywhere. Takes a
+    /// look-up in both lists.
+    pub fn next(&self, token: TokenAt, from: usize) -> Option<u32>
         requires ordered { IsNonDecreasingBy order_of self.now.beginnings.items }
         requires rises { IsNonDecreasing self.now.everywhere.items }
         ensures from { IfSome result (λ number. from ≤ number) }
         ensures least { (part : ℕ) → from ≤ part → part < 4294967296 →
             IsTried self.now token part → IsNoLater result part }
     {
-        let here = match token {
-            Some(number) => next_at(self.beginnings.as_slice(), number, from),
-            None => None,
-        };
-        least(next_in(self.everywhere.as_slice(), from), here)
+        let everywhere = self.everywhere.as_slice();
+        match token {
+            TokenAt::Number(number) => {
+                let here = next_at(self.beginnings.as_slice(), number, from);
+                least(next_in(everywhere, from), here)
+            },
+            TokenAt::Unknown => next_of_all(self.count, from),
+            TokenAt::End => next_in(everywhere, from),
+        }
     }
 
     /// Whether the part is tested where it is tried, before it is searched: not where the token tells
@@ -361,6 +370,18 @@ fn next_in(numbers: &[u32], from: usize) -> Option<u32>
         return None;
     }
     Some(numbers[place])
+}
+
+/// The number itself, if it is below how many there are and 32 bits tell it.
+fn next_of_all(count: usize, from: usize) -> Option<u32>
+    ensures from { IfSome result (λ part. from ≤ part) }
+    ensures least { (part : ℕ) → from ≤ part → part < 4294967296 → part < count →
+        IsNoLater result part }
+{
+    if count <= from {
+        return None;
+    }
+    u32::try_from(from).ok()
 }
 
 /// The lesser number, where there are two.

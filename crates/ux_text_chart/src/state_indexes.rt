@@ -4,16 +4,9 @@
 //! state, it tries those of its edges alone that may apply at the token. What they take in all is
 //! bounded (`ux_walk::look_ups`): beyond that, edges are tried one by one.
 
-ghost use Rattle.std.specs.Prelude.{◌≡◌, ◌<◌, ◌≤◌, List, IfOk, IfSome, IsSomeAnd, IsTrue, Some, length, slice_get};
-ghost use Rattle.ux_alphabet.specs.Letters.{Letters};
-ghost use Rattle.ux_lexical_tables.specs.Tables.{Tables};
-ghost use Rattle.ux_net.specs.declared.net_graph.NetGraph.{NetGraph};
-ghost use Rattle.ux_outputs.specs.Rendering.{skip as skip_of};
+ghost use Rattle.std.specs.Prelude.{◌<◌, ◌≤◌, IfOk, IsTrue, length};
 ghost use Rattle.ux_tokens.specs.Numbers.{different_texts};
-ghost use Rattle.ux_chart.specs.Places.{AreEdgesOf, AreEnough};
 ghost use Rattle.ux_walk.specs.LookUps.{AreSound};
-ghost use Rattle.ux_walk.specs.Settings.{applied_text};
-ghost use Rattle.ux_text_chart.specs.Likely.{IsTokenAt};
 
 use std::alloc::Global;
 use ux_alphabet::Alphabet;
@@ -22,7 +15,6 @@ use ux_net::{Edge, Label, Net};
 use ux_tokens::Text;
 use ux_walk::config::Frame;
 use ux_walk::look_ups::LookUps;
-use ux_walk::matching::skip;
 
 /// As many literals are tried one by one: no index of their state is made.
 const FEW: usize = 8;
@@ -106,44 +98,7 @@ fn has_many_literals(edges: &[Edge]) -> bool {
     false
 }
 
-/// The number of the token at a position, after an optional space.
-pub fn token_at(text: &Text, at: usize) -> Option<u32>
-    ensures told { IsTokenAt text.now at result }
-    ensures there { IfSome result (λ number.
-        IsSomeAnd (slice_get text.now (skip_of text.now at))
-        (λ token. slice_get (different_texts text.now) number ≡ Some token.text)) }
-{
-    let place = skip(text, at);
-    if text.len() <= place {
-        return None;
-    }
-    Some(text.number(place))
-}
-
-/// The places of those of a state's edges that may apply at a position, where an index is kept.
-pub fn places_at(
-    alloc: Global,
-    look_ups: &LookUps<'_>,
-    text: &Text,
-    state: Frame,
-    edges: &[Edge],
-    at: usize,
-) -> Mem<Option<Vec<u32>>>
-    ensures { (alphabet : Letters) (tables : Tables) (net : List NetGraph) →
-        AreSound alphabet net (different_texts text.now) look_ups.now →
-        AreEdgesOf net state.graph state.state edges.now →
-        IfOk result (λ places. IfSome places (λ places.
-        AreEnough (applied_text alphabet text.now tables) edges.now places.items at)) }
-{
-    if edges.len() <= FEW {
-        return Ok(None);
-    }
-    let Some(index) = look_ups.index(state) else {
-        return Ok(None);
-    };
-    let Some(number) = token_at(text, at) else {
-        return Ok(None);
-    };
-    let places = index.places(alloc, number)?;
-    Ok(Some(places))
+/// Whether the edges are so many that their state may have an index.
+pub(crate) fn is_looked_up(edges: &[Edge]) -> bool {
+    FEW < edges.len()
 }

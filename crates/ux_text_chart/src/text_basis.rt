@@ -1,14 +1,13 @@
 //! A text as an input of charts.
 
-ghost use Rattle.std.specs.Prelude.{◌≡◌, IfOk};
+ghost use Rattle.std.specs.Prelude.{◌≡◌};
 ghost use Rattle.ux_mask_table.specs.MaskedTexts.{HasTable};
-ghost use Rattle.ux_parts.specs.Parts.{ArePartsOf};
+ghost use Rattle.ux_text_chart.specs.NetTables.{AreTablesFor};
 ghost use Rattle.ux_text_chart.specs.TextBases.{TellsParts};
 
 use crate::beginning::likely_parts;
 use crate::leading::{add_ends, alike_after};
-use crate::part_index::PartIndex;
-use crate::state_indexes::{indexes_of, places_at};
+use crate::net_tables::NetTables;
 use std::alloc::Global;
 use ux_base::Mem;
 use ux_chart::Basis;
@@ -16,35 +15,27 @@ use ux_mask_table::MaskedText;
 use ux_net::{Edge, Label, Net};
 use ux_parts::Parts;
 use ux_walk::config::Frame;
-use ux_walk::look_ups::LookUps;
 
 /// A text, with what a chart of a net asks of it.
 #[derive(Drop)]
 pub struct TextBasis<'a> {
     /// The text, with what the masks of the net accept in it.
     pub text: &'a MaskedText<'a>,
-    /// The parts of the net, by the tokens at which they may begin.
-    pub index: PartIndex,
-    /// The indexes of the states of many literals.
-    pub look_ups: LookUps<'a>,
+    /// What is looked up of the net.
+    pub tables: &'a NetTables<'a>,
 }
 
 impl<'a> TextBasis<'a> {
-    /// The text as an input for a chart of its net. No mask is tried.
-    pub fn of(alloc: Global, masked: &'a MaskedText<'a>, parts: &Parts) -> Mem<TextBasis<'a>>
-        requires table { HasTable masked.now }
-        requires parts { ArePartsOf masked.now.net.now parts.now }
-        ensures text { IfOk result (λ basis. basis.text.now ≡ masked.now) }
-        ensures serves { IfOk result (λ basis. TellsParts basis masked.now.net.now parts.now) }
+    /// The text as an input for a chart of its net. No mask is tried. Takes no memory.
+    pub fn of(text: &'a MaskedText<'a>, tables: &'a NetTables<'a>) -> TextBasis<'a>
+        requires table { HasTable text.now }
+        requires tables { AreTablesFor text.now.alphabet.now text.now.text.now text.now.net.now
+            tables.now }
+        ensures text { result.text.now ≡ text.now }
+        ensures tables { result.tables.now ≡ tables.now }
+        ensures serves { TellsParts result text.now.net.now tables.now.prepared.parts }
     {
-        let (net, text, alphabet) = (masked.net, masked.text, masked.alphabet);
-        let index = PartIndex::of(alloc, net, parts, text, alphabet)?;
-        let look_ups = indexes_of(alloc, net, text, alphabet)?;
-        Ok(TextBasis {
-            text: masked,
-            index,
-            look_ups,
-        })
+        TextBasis { text, tables }
     }
 }
 
@@ -75,8 +66,9 @@ impl<'a> Basis for TextBasis<'a> {
         alike_after(self.text.text, at)
     }
 
-    fn likely(&self, net: &Net, parts: &Parts, at: usize, row: &mut Vec<u32>) -> Mem<()> {
-        likely_parts(self.text, parts, &self.index, at, row)
+    fn likely(&self, _net: &Net, parts: &Parts, at: usize, row: &mut Vec<u32>) -> Mem<()> {
+        let token = self.tables.token_at(self.text.text, at);
+        likely_parts(self.text, parts, &self.tables.index, token, at, row)
     }
 
     fn places(
@@ -87,13 +79,7 @@ impl<'a> Basis for TextBasis<'a> {
         edges: &[Edge],
         at: usize,
     ) -> Mem<Option<Vec<u32>>> {
-        places_at(
-            alloc,
-            &self.look_ups,
-            self.text.text,
-            Frame { graph, state },
-            edges,
-            at,
-        )
+        self.tables
+            .places(alloc, self.text.text, Frame { graph, state }, edges, at)
     }
 }

@@ -6,12 +6,13 @@ ghost use Rattle.ux_mask_table.specs.MaskedTexts.{HasTable};
 ghost use Rattle.ux_net.specs.Nets.{net_grammar};
 ghost use Rattle.ux_outputs.specs.declared.event.Event.{Event};
 ghost use Rattle.ux_meaning.specs.Meaning.{Der};
-ghost use Rattle.ux_parts.specs.Parts.{ArePartsOf};
 ghost use Rattle.ux_meaning.specs.Contexts.{Applies, IsOpening};
 ghost use Rattle.ux_text_chart.specs.Leading.{input_of};
+ghost use Rattle.ux_text_chart.specs.NetTables.{AreTablesFor};
 ghost use Rattle.ux_walk.specs.Settings.{masked_setting};
-ghost use Rattle.ux_text_chart.specs.TextCharts.{IsTextChart, chart_setting};
+ghost use Rattle.ux_text_chart.specs.TextCharts.{IsTextChart, chart_setting, parts_of};
 
+use crate::net_tables::NetTables;
 use crate::text_basis::TextBasis;
 use std::alloc::Global;
 use ux_base::Mem;
@@ -25,27 +26,27 @@ use ux_parts::Parts;
 pub struct TextChart<'a> {
     /// The text, with what the masks of the net accept in it.
     pub basis: TextBasis<'a>,
-    /// The parts of the net.
-    pub parts: Parts,
     /// What they reach.
     pub chart: Chart,
 }
 
 impl<'a> TextChart<'a> {
-    /// The chart of a text and its net. No mask is tried: what masks accept is looked up.
-    pub fn fill(alloc: Global, masked: &'a MaskedText<'a>, parts: Parts) -> Mem<TextChart<'a>>
+    /// The chart of a text and its net. No mask is tried: what masks accept is looked up. No step is
+    /// taken for the net by itself.
+    pub fn fill(
+        alloc: Global,
+        masked: &'a MaskedText<'a>,
+        tables: &'a NetTables<'a>,
+    ) -> Mem<TextChart<'a>>
         requires table { HasTable masked.now }
-        requires parts { ArePartsOf masked.now.net.now parts }
+        requires tables { AreTablesFor masked.now.alphabet.now masked.now.text.now
+            masked.now.net.now tables.now }
         ensures setting { IfOk result (λ chart. chart_setting chart ≡ masked_setting masked.now) }
         ensures chart { IfOk result (λ chart. IsTextChart chart) }
     {
-        let basis = TextBasis::of(alloc, masked, &parts)?;
-        let chart = Chart::fill(alloc, &basis, masked.net, &parts)?;
-        Ok(TextChart {
-            basis,
-            parts,
-            chart,
-        })
+        let basis = TextBasis::of(masked, tables);
+        let chart = Chart::fill(alloc, &basis, masked.net, &tables.prepared)?;
+        Ok(TextChart { basis, chart })
     }
 
     /// The positions to which a graph derives from a position, ascending. Takes no memory.
@@ -59,8 +60,13 @@ impl<'a> TextChart<'a> {
             graph at j events) }
         ensures ascending { IsStrictlyIncreasing result.now }
     {
-        self.chart
-            .ends(&self.basis, self.basis.text.net, &self.parts, graph, at)
+        self.chart.ends(
+            &self.basis,
+            self.basis.text.net,
+            &self.basis.tables.prepared.parts,
+            graph,
+            at,
+        )
     }
 
     /// The states into which the context that an edge opens is closed, where it applies at a
@@ -71,14 +77,14 @@ impl<'a> TextChart<'a> {
         requires inside { at ≤ length (chart_setting self.now).tokens }
         ensures exactly { (c : ℕ) → Contains result.now c ↔
             Applies (input_of (chart_setting self.now))
-            (net_grammar (chart_setting self.now).net) self.now.parts.levels graph
+            (net_grammar (chart_setting self.now).net) (parts_of self.now).levels graph
             edge.now.label edge.now.target at c }
         ensures ascending { IsStrictlyIncreasing result.now }
     {
         self.chart.closers(
             &self.basis,
             self.basis.text.net,
-            &self.parts,
+            &self.basis.tables.prepared.parts,
             graph,
             edge,
             at,

@@ -16,9 +16,8 @@ use std::alloc::Global;
 use std::marker::Model;
 use ux_alphabet::Alphabet;
 use ux_base::Mem;
-use ux_chart::Chart;
+use ux_chart::{Chart, PreparedNet};
 use ux_net::Net;
-use ux_parts::Parts;
 use ux_reading_match::Readings;
 use ux_reading_table::{NumberedSentence, ReadingTable};
 
@@ -28,13 +27,13 @@ use ux_reading_table::{NumberedSentence, ReadingTable};
 pub struct Finder<'a> {
     net: &'a Net,
     alphabet: &'a Alphabet,
-    parts: Parts,
+    prepared: PreparedNet,
     readings: Readings<'a>,
 }
 
 impl<'a> Model for Finder<'a> {
     ghost use Rattle.std.specs.Prelude.{map};
-    ghost use Rattle.ux_parts.specs.Parts.{ArePartsOf};
+    ghost use Rattle.ux_chart.specs.Prepared.{IsPrepared};
     ghost use Rattle.ux_sentence.specs.Written.{reading_text};
     ghost use Rattle.ux_tfst_locate.specs.Sought.{Sought, AreSpellable};
 
@@ -47,12 +46,12 @@ impl<'a> Model for Finder<'a> {
     } };
 
     ghost invariant = { λ finder.
-        ArePartsOf finder.net.now finder.parts × AreSpellable finder.readings };
+        IsPrepared finder.net.now finder.prepared × AreSpellable finder.readings };
 }
 
 impl<'a> Finder<'a> {
-    /// A finder for the sentences whose readings the table has. Each reading is read once, and the
-    /// parts of the net are found once.
+    /// A finder for the sentences whose readings the table has. Each reading is read once, and what
+    /// charts ask of the net is made once.
     pub fn of(
         alloc: Global,
         net: &'a Net,
@@ -63,19 +62,18 @@ impl<'a> Finder<'a> {
         ensures net { IfOk result (λ finder. finder.net ≡ net.now) }
         ensures texts { IfOk result (λ finder. finder.texts ≡ table.now) }
     {
-        let parts = Parts::of(alloc, net)?;
+        let prepared = PreparedNet::of(alloc, net)?;
         let readings = Readings::of(alloc, table)?;
         Ok(Finder {
             net,
             alphabet,
-            parts,
+            prepared,
             readings,
         })
     }
 
-    /// Where the main graph is found in the sentences: each span once, in order. Besides a step an
-    /// edge of the net, which is paid once for all of the sentences, it takes time in their links and
-    /// in what the graphs find there.
+    /// Where the main graph is found in the sentences: each span once, in order. It takes
+    /// time in their links, in the parts of the net that are tried there, and in what these find.
     pub fn spans(&self, alloc: Global, sentences: &[NumberedSentence]) -> Mem<Vec<Span>>
         requires { (old : List SentenceRecord) × AreTold self.now.texts old sentences.now }
         ensures { IfOk result (λ spans. (old : List SentenceRecord) →
@@ -89,14 +87,21 @@ impl<'a> Finder<'a> {
             readings: &self.readings,
             alphabet: self.alphabet,
         };
-        let chart = Chart::fill(alloc, &basis, self.net, &self.parts)?;
+        let chart = Chart::fill(alloc, &basis, self.net, &self.prepared)?;
         let reached = reached(alloc, &lattice)?;
         let leading = leading(alloc, &lattice)?;
         let paths = OnPaths {
             reached: reached.as_slice(),
             leading: leading.as_slice(),
         };
-        let found = stretches(alloc, &basis, self.net, &self.parts, &chart, &paths)?;
+        let found = stretches(
+            alloc,
+            &basis,
+            self.net,
+            &self.prepared.parts,
+            &chart,
+            &paths,
+        )?;
         spans_of(alloc, lattice.places.as_slice(), found.as_slice())
     }
 }

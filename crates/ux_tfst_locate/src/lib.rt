@@ -2,7 +2,8 @@
 //!
 //! A sentence is an input of the chart like a text: its states are the positions, and a label takes
 //! what a link reads. States are huge numbers in hostile files, so only those that links have get
-//! positions. A chart costs its net once, so some sentences are searched together, side by side.
+//! positions. A chart begins with lists of its own, so some sentences are searched together, side by
+//! side.
 //!
 //! ```text
 //! sentences --gather--> links --Lattice::of--> positions and arcs --LatticeBasis--> Chart::fill

@@ -25,7 +25,7 @@
 //! there.
 //!
 //! ```text
-//! let masked = MaskedText::of(alloc, &net, &text, &alphabet, &applied, steps)?;
+//! let masked = MaskedText::of(alloc, &net, &masks, &text, &alphabet, &applied, steps)?;
 //! let found = walk(alloc, &masked, &NoContexts, start)?;
 //! ```
 #![tactic(auto)]

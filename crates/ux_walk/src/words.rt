@@ -3,8 +3,9 @@
 //! A literal that has the text of a token fits it. Another literal fits it only where a character
 //! of the token may be an upper-case form, so most tokens are found by the literal's text alone.
 
-ghost use Rattle.std.specs.Prelude.{◌≡◌, ◌↔◌, ◌≤◌, ℕ, Some, Contains, IfOk, IsTrue, List, All, slice_get, length};
+ghost use Rattle.std.specs.Prelude.{◌≡◌, ◌↔◌, ◌≤◌, ℕ, Some, Contains, IfOk, IfSome, IsTrue, List, All, slice_get, length};
 ghost use Rattle.std.specs.Str.{IsUtf8, chars};
+ghost use Rattle.ux_alphabet.specs.Letters.{Letters};
 ghost use Rattle.ux_net.specs.declared.label.Label.{Label};
 ghost use Rattle.ux_base.specs.Distinct.{StandOnce};
 ghost use Rattle.ux_tokens.specs.Numbers.{different_texts, texts_in};
@@ -45,6 +46,14 @@ impl<'t> Words<'t> {
             counts,
             raised,
         })
+    }
+
+    /// The number of the token of this text, if it is one of them. Takes one look-up.
+    pub fn number(&self, text: &str) -> Option<u32>
+        ensures { (alphabet : Letters) (texts : List (List ℕ)) → AreReady alphabet texts self.now →
+            IfSome result (λ number. slice_get texts number ≡ Some text.now) }
+    {
+        number_at(&self.texts, text)
     }
 
     /// The numbers of the tokens that the label fits, if it is a literal.

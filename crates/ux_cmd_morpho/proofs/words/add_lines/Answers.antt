@@ -7,6 +7,7 @@ use Rattle.ux_cmd_morpho.proofs.words.add_lines.Goals as goal
 
 pub lines_of-requires : goal.lines_of-requires
 lines_of-requires c = record {
+  analyser = c.requires.analyser;
   few = λ many. c.requires.short (
     c.token.result.now,
     (

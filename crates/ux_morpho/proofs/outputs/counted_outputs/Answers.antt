@@ -3,8 +3,13 @@ use Rattle.std.specs.Prelude.{◌↔◌, Contains}
 use Rattle.std.proofs.lemmas.Result.{IfOk-weaker}
 use Rattle.ux_walk.specs.Settings.{Setting}
 use Rattle.ux_morpho.specs.Putting.{PutsIn}
-use Rattle.ux_morpho.proofs.PuttingLemmas.{over_setting}
+use Rattle.ux_morpho.proofs.PuttingLemmas.{over_setting, over_tables}
 use Rattle.ux_morpho.proofs.outputs.counted_outputs.Goals as goal
+
+pub masked_outputs-requires-clause-tables : goal.masked_outputs-requires-clause-tables
+masked_outputs-requires-clause-tables g c =
+    over_tables c.args.net.now c.args.letters.now c.args.alphabet.now c.args.applied.now
+    c.in_ok-masked.masked c.in_ok-masked.ensures.over c.args.tables.now c.requires.tables
 
 pub returns : goal.returns
 returns g c =

@@ -13,31 +13,31 @@ pub add_part-requires-clause-row : goal.add_part-requires-clause-row
 add_part-requires-clause-row c =
     let text = c.args.text.now in
     let parts = c.args.parts.now in
+    let (texts, is, there) = c.requires.index in
     likely_next (input_of (masked_setting text)) text.net.now parts (length text.text.now)
     c.requires.ahead c.requires.parts c.args.at c.parts.row.items c.parts.from c.in-Some.number
     c.in-Some.ensures.from
     (λ number part from low found may.
     let inside = slice_get_within parts.list number part found in
-    let few = c.requires.index.few in
+    let few = is.few in
     none_earlier c.next.result number c.in-Some.number c.in-Some.is low
     (c.next.ensures.least number from (omega (arith, inside, few))
-    (tried text.alphabet.now text.text.now text.applied.now text.net.now parts c.args.index.now
-    c.requires.index c.args.at c.token_at-token.result c.token_at-token.ensures.told
-    c.parts.row.items number part found may)))
+    (tried text.alphabet.now texts text.text.now text.applied.now text.net.now parts c.args.index.now
+    is c.args.at c.parts.row.items number part found may c.args.token there)))
     c.parts.invariant
 
 pub returns : goal.returns
 returns c =
     let text = c.args.text.now in
     let parts = c.args.parts.now in
+    let (texts, is, there) = c.requires.index in
     likely_whole (input_of (masked_setting text)) text.net.now parts (length text.text.now)
     c.requires.ahead c.requires.parts c.args.at c.parts.row.items c.parts.from
     (λ number part from found may.
     let inside = slice_get_within parts.list number part found in
-    let few = c.requires.index.few in
+    let few = is.few in
     none_later c.next.result number c.in_default.is
     (c.next.ensures.least number from (omega (arith, inside, few))
-    (tried text.alphabet.now text.text.now text.applied.now text.net.now parts c.args.index.now
-    c.requires.index c.args.at c.token_at-token.result c.token_at-token.ensures.told
-    c.parts.row.items number part found may)))
+    (tried text.alphabet.now texts text.text.now text.applied.now text.net.now parts c.args.index.now
+    is c.args.at c.parts.row.items number part found may c.args.token there)))
     c.parts.invariant

@@ -42,7 +42,7 @@ ends_of-requires c =
 
 pub unreachable-requires : goal.unreachable-requires
 unreachable-requires c =
-    let found = number_there c.args.self.now.masks.keys c.args.mask
+    let found = number_there c.args.self.now.masks.now.set.keys c.args.mask
     ((c.requires.table.masks.same c.args.mask.now).1 c.requires.mask) in
     let none = ap is_some c.in-None.is in
     let both = sym none ∙ (c.get_index_of.ensures.found ∙ found) in
@@ -60,9 +60,9 @@ returns c =
     ∙ get_or_from_slice_get rows.items c.index.result.now told.2.row row
     (ap (λ n. slice_get rows.items n) is ∙ told.2.found) in
     tells_ends c.args.alphabet.now c.args.text.now c.args.applied.now c.requires.belongs
-    (masks_in self.masks) self.rows.spans row c.args.mask.now c.in-Some.number c.args.place
+    (masks_in self.masks.now.set) self.rows.spans row c.args.mask.now c.in-Some.number c.args.place
     c.ends_of.result.now
-    (number_at self.masks.keys c.args.mask c.in-Some.number
+    (number_at self.masks.now.set.keys c.args.mask c.in-Some.number
     (sym c.get_index_of.ensures.index ∙ c.in-Some.is))
     (c.requires.table.rows told.0 row (told.2.found ∙ ap (λ (r : Row). Some r) (sym row_is)))
     (subst (λ (r : Row). AreAlike c.args.alphabet.now c.args.text.now c.args.applied.now r.place

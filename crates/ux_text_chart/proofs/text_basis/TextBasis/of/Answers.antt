@@ -5,15 +5,14 @@ use Rattle.ux_text_chart.proofs.text_basis.TextBasis.of.Goals as goal
 
 pub returns-clause-serves : goal.returns-clause-serves
 returns-clause-serves c =
-    let text = c.args.masked.now in
+    let text = c.args.text.now in
     record {
       net_is = refl;
+      parts_are = refl;
       known = λ h n state edge found inside. record {
         table = c.requires.table;
         mask = mask_in_net text.net.now h n state edge found inside;
       };
       ahead = goes_ahead text.alphabet.now text.text.now text.applied.now c.requires.table.belongs;
-      parts_are = c.requires.parts;
-      index_is = c.in_ok-index.ensures;
-      look_ups_are = c.in_ok-look_ups.ensures;
+      tables_are = c.requires.tables;
     }

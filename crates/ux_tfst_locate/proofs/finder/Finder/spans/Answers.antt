@@ -87,13 +87,13 @@ spans_of-requires-clause-from c =
     c.as_slice.ensures.value c.in_ok-links.ensures c.in_ok-lattice.ensures in
     let told = told_by c.args.self.now (map reading_text readings) c.requires.0 numbered
     (ap (λ (s : Sought). s.texts) c.self.view_is) c.requires.1 in
-    let parts = c.self.invariant.0 in
+    let parts = c.self.invariant.0.parts in
     subst (λ (ps : List Place). All (λ (s : Stretch). s.from < length ps) c.as_slice-5.result.now)
     (sym c.as_slice-4.ensures.value)
     (subst (λ (ss : List Stretch). All (λ (s : Stretch). s.from < length lattice.places.items) ss)
     (sym c.as_slice-5.ensures.value)
     (from_inside c.self.inside.alphabet.now c.self.inside.net.now parts.level
-    c.self.inside.parts.levels parts.levels readings c.self.invariant.1 c.requires.0 numbered told
+    c.self.inside.prepared.parts.levels parts.levels readings c.self.invariant.1 c.requires.0 numbered told
     lattice is c.as_slice-2.result.now c.as_slice-3.result.now
     (subst (λ (ms : List Bool). (i : ℕ) → IsTrue (is_marked ms i)
     ↔ IsReached lattice.places.items (rows_of lattice) i) (sym c.as_slice-2.ensures.value)
@@ -111,13 +111,13 @@ spans_of-requires-clause-to c =
     c.as_slice.ensures.value c.in_ok-links.ensures c.in_ok-lattice.ensures in
     let told = told_by c.args.self.now (map reading_text readings) c.requires.0 numbered
     (ap (λ (s : Sought). s.texts) c.self.view_is) c.requires.1 in
-    let parts = c.self.invariant.0 in
+    let parts = c.self.invariant.0.parts in
     subst (λ (ps : List Place). All (λ (s : Stretch). s.to < length ps) c.as_slice-5.result.now)
     (sym c.as_slice-4.ensures.value)
     (subst (λ (ss : List Stretch). All (λ (s : Stretch). s.to < length lattice.places.items) ss)
     (sym c.as_slice-5.ensures.value)
     (to_inside c.self.inside.alphabet.now c.self.inside.net.now parts.level
-    c.self.inside.parts.levels parts.levels readings c.self.invariant.1 c.requires.0 numbered told
+    c.self.inside.prepared.parts.levels parts.levels readings c.self.invariant.1 c.requires.0 numbered told
     lattice is c.as_slice-2.result.now c.as_slice-3.result.now
     (subst (λ (ms : List Bool). (i : ℕ) → IsTrue (is_marked ms i)
     ↔ IsReached lattice.places.items (rows_of lattice) i) (sym c.as_slice-2.ensures.value)
@@ -136,7 +136,7 @@ returns c =
     let found = c.in_ok-found.found.items in
     let is = lattice_of c.in_ok-links.links.items c.as_slice.result.now numbered lattice
     c.as_slice.ensures.value c.in_ok-links.ensures c.in_ok-lattice.ensures in
-    let parts = c.self.invariant.0 in
+    let parts = c.self.invariant.0.parts in
     IfOk-weaker c.spans_of.result _ _ (λ spans listed old told.
     let whole : spans.items ≡ map (span_of lattice.places.items) found =
     listed ∙ (ap (λ (ps : List Place). map (span_of ps) c.as_slice-5.result.now)
@@ -145,7 +145,7 @@ returns c =
     in
     subst (λ (s : Sought). AreSpans s.letters (net_grammar s.net) old spans.items) c.self.view_is
     (subst (λ (l : List Span). AreSpans letters (net_grammar net) old l) (sym whole)
-    (are_spans letters net parts.level c.self.inside.parts.levels parts.levels readings
+    (are_spans letters net parts.level c.self.inside.prepared.parts.levels parts.levels readings
     c.self.invariant.1 old numbered
     (told_by c.args.self.now (map reading_text readings) old numbered
     (ap (λ (s : Sought). s.texts) c.self.view_is) told) lattice is c.as_slice-2.result.now

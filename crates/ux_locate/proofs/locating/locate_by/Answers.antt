@@ -3,7 +3,7 @@ use Rattle.ux_net.specs.Nets.{net_grammar}
 use Rattle.ux_locate.specs.Hits.{IsHit}
 use Rattle.ux_locate.specs.Index.{IsKeptListing}
 use Rattle.ux_locate.proofs.OverLemmas.{hits_over}
-use Rattle.ux_locate.proofs.locating.locate.Goals as goal
+use Rattle.ux_locate.proofs.locating.locate_by.Goals as goal
 
 pub returns-clause-hits : goal.returns-clause-hits
 returns-clause-hits g c =

@@ -1,6 +1,6 @@
 use Rattle.ux_cmd_morpho.specs.Files.{IsBadIn, IsLineIn}
 use Rattle.ux_cmd_morpho.specs.Going.{AreSoFar}
-use Rattle.ux_cmd_morpho.proofs.words.word_lines.Given as goal
+use Rattle.ux_cmd_morpho.proofs.words.lines_by.Given as goal
 
 -- the words before the place were gone along
 abbrev pub invariant-loop-place : goal.invariant-loop-place

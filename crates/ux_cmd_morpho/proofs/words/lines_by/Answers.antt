@@ -4,7 +4,7 @@ use Rattle.ux_cmd_morpho.specs.Answering.{line_with_feed}
 use Rattle.ux_cmd_morpho.specs.Files.{IsBadIn, IsLineIn}
 use Rattle.ux_cmd_morpho.specs.Going.{AreSoFar}
 use Rattle.ux_cmd_morpho.proofs.GoingLemmas.{file_of_all, none_bad, so_far_none}
-use Rattle.ux_cmd_morpho.proofs.words.word_lines.Goals as goal
+use Rattle.ux_cmd_morpho.proofs.words.lines_by.Goals as goal
 
 pub loop-place-init : goal.loop-place-init
 loop-place-init c =

@@ -9,7 +9,7 @@ use Rattle.ux_locate.specs.Hits.{IsHit}
 use Rattle.ux_locate.specs.Index.{IsKeptListing}
 use Rattle.ux_locate.specs.Spans.{LiesIn, hit_at}
 use Rattle.ux_locate.proofs.OverLemmas.{lie_over, spans_over}
-use Rattle.ux_locate.proofs.spans.locate_spans.Goals as goal
+use Rattle.ux_locate.proofs.spans.spans_by.Goals as goal
 
 pub spans_in-requires : goal.spans_in-requires
 spans_in-requires g c =
