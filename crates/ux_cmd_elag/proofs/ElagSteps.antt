@@ -12,11 +12,10 @@ use Rattle.ux_reasons.specs.declared.reason.Reason.TheVariants as reason
 use Rattle.ux_rules.specs.Rules.{RuleSteps}
 use Rattle.ux_sentence.specs.Files as file
 use Rattle.ux_sentence.specs.declared.sentence.Sentence.{Sentence}
-use Rattle.ux_sentence.proofs.Laws.{sentences_are_unique}
 use Rattle.ux_cmd_elag.specs.Elag.{AreRuled}
 use Rattle.ux_cmd_elag.specs.Files.{AreRead}
 use Rattle.ux_cmd_elag.specs.Reading.{Ruled, elag_plan, named_format, sentences_format}
-use Rattle.ux_cmd_elag.specs.Ruling.{IsRuledText}
+use Rattle.ux_cmd_elag.specs.Ruling.{IsRuledFile}
 use Rattle.ux_cmd_elag.proofs.RuledLemmas.{left_by_graphs}
 
 module _ (tfst : List ℕ) (names : List (List ℕ)) where
@@ -57,15 +56,12 @@ table_reads name told text texts has table =
     table.sentences has table.said
 
 -- the text of what the rules leave answers what was read
-pub answers_read : (sentences : List Sentence) (text answer : List ℕ) (names : List (List ℕ))
-    (told : Option Files) (rules : List RuleSteps) → file.AreSentences text sentences →
-    (read : AreRead names told rules) → IsRuledText rules text answer →
+pub answers_read : (sentences : List Sentence) (answer : List ℕ) (names : List (List ℕ))
+    (told : Option Files) (rules : List RuleSteps) → (read : AreRead names told rules) →
+    IsRuledFile rules sentences answer →
     AreRuled (record { sentences = sentences; rules = read.graphs }) answer
-answers_read sentences text answer names told rules said read is =
-    let same = sentences_are_unique text is.sentences sentences is.said said in
-    subst (λ (l : List Sentence). AreRuled (record { sentences = l; rules = read.graphs }) answer)
-    same (record {
-      left = is.left;
-      each = left_by_graphs read.graphs rules read.are is.sentences is.left is.each;
-      is = is.is;
-    })
+answers_read sentences answer names told rules read is = record {
+  left = is.left;
+  each = left_by_graphs read.graphs rules read.are sentences is.left is.each;
+  is = is.is;
+}

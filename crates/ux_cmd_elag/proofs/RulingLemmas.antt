@@ -1,105 +1,108 @@
--- Sentences that are read and written one behind the other.
-use Rattle.std.proofs.Common.{arith, ◌≡◌, ℕ, ◌+◌, ◌<◌, List, [], ◌∷◌, ◌++◌, length, refl, sym, ◌∙◌, ap, append_assoc}
+-- Sentences that are ruled and written one behind the other.
+use Rattle.std.proofs.Common.{arith, ◌≡◌, ℕ, zero, suc, ◌+◌, ◌<◌, List, [], ◌∷◌, ◌++◌, length, get_or, take, refl, sym, ◌∙◌, ap, subst, append_assoc}
+use Rattle.std.specs.Prelude.{All}
 use Rattle.std.specs.List.{AllZip}
 use Rattle.std.proofs.lemmas.List.{append-nil}
-use Rattle.std.proofs.lemmas.List.Elements.{AllZip-push, length_all_zip}
+use Rattle.std.proofs.lemmas.List.Elements.{All-head, All-tail, AllZip-push, length_all_zip}
+use Rattle.ux_base.proofs.Lists.{take_more, take_whole}
 use Rattle.ux_elag.specs.Left.{AreLeft, Keeps}
 use Rattle.ux_elag.proofs.LeaveLemmas.{has_path-reads}
-use Rattle.ux_reading_table.specs.Numbered.{IsPlaceOf, ReadsNext}
+use Rattle.ux_reading_table.specs.Numbered.{IsNumberedBy, IsNumberedText}
 use Rattle.ux_reading_table.specs.declared.numbered.NumberedSentence.{NumberedSentence}
 use Rattle.ux_rules.specs.Rules.{RuleSteps}
-use Rattle.ux_sentence.specs.Files.{IsOver, Opens, Passes, Place, behind_sentence}
+use Rattle.ux_sentence.specs.Valid.{IsWritable}
 use Rattle.ux_sentence.specs.Written.{ArePrinted, HasPath, ended, head_line}
 use Rattle.ux_sentence.specs.declared.sentence.Reading.{Reading}
 use Rattle.ux_sentence.specs.declared.sentence.Sentence.{Sentence}
-use Rattle.ux_sentence.proofs.FileLemmas.{Passes-push}
 use Rattle.ux_sentence.proofs.PrintLemmas.{ArePrinted-push}
-use Rattle.ux_cmd_elag.specs.Ruling.{IsRuledText, PrintsLeft}
+use Rattle.ux_sentence.proofs.ValidLemmas.{read_is_valid}
+use Rattle.ux_cmd_elag.specs.Ruling.{AllStand, IsRuledFile, PrintsLeft, Stands}
 
--- a place counts the sentences that were passed, and keeps how many there are
-passes_told : (start : Place) (front : List Sentence) (place : Place) → Passes start front place →
-    (place.told ≡ start.told + length front) × (place.count ≡ start.count)
-passes_told start [] place same =
-    let told = ap (λ (p : Place). p.told) same in
-    (omega (arith, told), sym (ap (λ (p : Place). p.count) same))
-passes_told start (first ∷ front) place (after, is_first, passes) =
-    let later = passes_told (behind_sentence start first after) front place passes in
+-- numbered sentences stand for those of the text, which can be written
+each_stands : (texts : List (List ℕ)) (sentences : List Sentence)
+    (numbered : List NumberedSentence) → AllZip (IsNumberedBy texts) sentences numbered →
+    All IsWritable sentences → AllZip (Stands texts) numbered sentences
+each_stands texts [] [] told good = tt
+each_stands texts [] (y ∷ numbered) told good = absurd told
+each_stands texts (x ∷ sentences) [] told good = absurd told
+each_stands texts (x ∷ sentences) (y ∷ numbered) told good = (
+  record { is_numbered = told.0; writable = All-head IsWritable x sentences good },
+  each_stands texts sentences numbered told.1 (All-tail IsWritable x sentences good),
+)
+
+pub text_stands : (text : List ℕ) (texts : List (List ℕ)) (numbered : List NumberedSentence) →
+    (read : IsNumberedText text texts numbered) → AllStand texts read.table.sentences numbered
+text_stands text texts numbered read = record {
+  are_texts = read.table.are_texts;
+  each = each_stands texts read.table.sentences numbered read.told
+      (read_is_valid text read.table.sentences read.table.said).writable;
+}
+
+-- what stands where there is no sentence
+abbrev pub none_at : Sentence
+none_at = record { number = 0; states = 0; links = [] }
+
+-- each stands for the one at its place
+pub stands_at : (texts : List (List ℕ)) (numbered : List NumberedSentence)
+    (sentences : List Sentence) (place : ℕ) (d : NumberedSentence) (e : Sentence) →
+    AllZip (Stands texts) numbered sentences → place < length numbered →
+    (place < length sentences) × Stands texts (get_or numbered place d) (get_or sentences place e)
+stands_at texts [] sentences place d e stand within = absurd (omega (arith, within))
+stands_at texts (x ∷ numbered) [] place d e stand within = absurd stand
+stands_at texts (x ∷ numbered) (y ∷ sentences) zero d e stand within = (omega arith, stand.0)
+stands_at texts (x ∷ numbered) (y ∷ sentences) (suc place) d e stand within =
+    let later = stands_at texts numbered sentences place d e stand.1 (omega (arith, within)) in
     (omega (arith, later.0), later.1)
 
-module _ (rules : List RuleSteps) (text : List ℕ) where
-  -- the sentences up to a place were read, and what the rules leave of them is written
-  pub record AreRuledTo (place : Place) (answer : List ℕ) : Type 0 where
-    pub start : Place
-    pub opens : Opens text start
-    pub front : List Sentence
-    pub passes : Passes start front place
+module _ (rules : List RuleSteps) (count : ℕ) where
+  -- what the rules leave of the sentences in front is written
+  pub record AreRuledTo (front : List Sentence) (answer : List ℕ) : Type 0 where
     pub left : List Sentence
     pub each : AllZip (AreLeft rules) front left
     pub later : List ℕ
     pub printed : ArePrinted left later
-    pub is : answer ≡ ended (head_line start.count) ++ later
+    pub is : answer ≡ ended (head_line count) ++ later
 
-  pub ruled_none : (start : Place) (answer : List ℕ) → Opens text start →
-      answer ≡ ended (head_line start.count) → AreRuledTo start answer
-  ruled_none start answer opens is = record {
-    start = start;
-    opens = opens;
-    front = [];
-    passes = refl;
+  pub ruled_none : (answer : List ℕ) → answer ≡ ended (head_line count) → AreRuledTo [] answer
+  ruled_none answer is = record {
     left = [];
     each = tt;
     later = [];
     printed = refl;
-    is = is ∙ sym (append-nil (ended (head_line start.count)));
+    is = is ∙ sym (append-nil (ended (head_line count)));
   }
 
-  pub ruled_more : (texts : List (List ℕ)) (place next : Place) (old new : List ℕ)
-      (numbered : NumberedSentence) → AreRuledTo place old →
-      (reads : ReadsNext texts place numbered next) → PrintsLeft rules reads.sentence old new →
-      AreRuledTo next new
-  ruled_more texts place next old new numbered are reads prints = record {
-    start = are.start;
-    opens = are.opens;
-    front = are.front ++ reads.sentence ∷ [];
-    passes = Passes-push are.start are.front place next reads.sentence reads.behind are.passes
-        reads.tells reads.is_behind;
-    left = are.left ++ prints.left ∷ [];
-    each = AllZip-push (AreLeft rules) are.front are.left reads.sentence prints.left are.each
-        prints.are_left;
-    later = are.later ++ prints.more;
-    printed = ArePrinted-push are.left prints.left are.later prints.more are.printed prints.printed;
-    is = prints.is ∙ (ap (λ (l : List ℕ). l ++ prints.more) are.is
-        ∙ append_assoc (ended (head_line are.start.count)) are.later prints.more);
-  }
-
-  -- such a place is one of the text
-  pub ruled_place : (place : Place) (answer : List ℕ) → AreRuledTo place answer →
-      IsPlaceOf text place
-  ruled_place place answer are = record {
-    start = are.start;
-    opens = are.opens;
-    front = are.front;
-    passes = are.passes;
-  }
+  pub ruled_more : (sentences : List Sentence) (place : ℕ) (d : Sentence) (old new : List ℕ) →
+      place < length sentences → AreRuledTo (take place sentences) old →
+      PrintsLeft rules (get_or sentences place d) old new →
+      AreRuledTo (take (place + 1) sentences) new
+  ruled_more sentences place d old new within are prints =
+      let sentence = get_or sentences place d in
+      subst (λ (front : List Sentence). AreRuledTo front new)
+      (sym (take_more sentences place d within)) (record {
+        left = are.left ++ prints.left ∷ [];
+        each = AllZip-push (AreLeft rules) (take place sentences) are.left sentence prints.left
+            are.each prints.are_left;
+        later = are.later ++ prints.more;
+        printed = ArePrinted-push are.left prints.left are.later prints.more are.printed
+            prints.printed;
+        is = prints.is ∙ (ap (λ (l : List ℕ). l ++ prints.more) are.is
+            ∙ append_assoc (ended (head_line count)) are.later prints.more);
+      })
 
   -- behind the last sentence all are ruled
-  pub ruled_all : (place : Place) (answer : List ℕ) → AreRuledTo place answer → IsOver place →
-      IsRuledText rules text answer
-  ruled_all place answer are over =
-      let told = passes_told are.start are.front place are.passes in
-      let same = length_all_zip (AreLeft rules) are.front are.left are.each in
-      let many : are.start.count ≡ length are.left =
-      omega (arith, told.0, told.1, same, over.told, are.opens.told) in
+  pub ruled_all : (sentences : List Sentence) (place : ℕ) (answer : List ℕ) →
+      count ≡ length sentences → length sentences < place + 1 →
+      AreRuledTo (take place sentences) answer → IsRuledFile rules sentences answer
+  ruled_all sentences place answer many past are =
+      let each = subst (λ (front : List Sentence). AllZip (AreLeft rules) front are.left)
+      (take_whole sentences place (omega (arith, past))) are.each in
+      let same = length_all_zip (AreLeft rules) sentences are.left each in
+      let all : count ≡ length are.left = omega (arith, many, same) in
       record {
-        sentences = are.front;
-        said = (are.start, are.opens, (place, are.passes, over));
         left = are.left;
-        each = are.each;
-        is = (
-          are.later,
-          are.is ∙ ap (λ n. ended (head_line n) ++ are.later) many,
-          are.printed,
-        );
+        each = each;
+        is = (are.later, are.is ∙ ap (λ n. ended (head_line n) ++ are.later) all, are.printed);
       }
 
 -- a sentence of which something is left has a path

@@ -3,10 +3,9 @@
 use Rattle.std.specs.Prelude.{◌≡◌, ◌++◌, ℕ, List}
 use Rattle.std.specs.List.{AllZip}
 use Rattle.ux_elag.specs.Left.{AreLeft}
-use Rattle.ux_reading_table.specs.Numbered.{IsNumberedBy}
+use Rattle.ux_reading_table.specs.Numbered.{AreTexts, IsNumberedBy}
 use Rattle.ux_reading_table.specs.declared.numbered.NumberedSentence.{NumberedSentence}
 use Rattle.ux_rules.specs.Rules.{RuleSteps}
-use Rattle.ux_sentence.specs.Files.{AreSentences}
 use Rattle.ux_sentence.specs.Valid.{IsWritable}
 use Rattle.ux_sentence.specs.declared.sentence.Sentence.{Sentence}
 use Rattle.ux_sentence.specs.Written.{IsPrinted, IsPrintedFile}
@@ -26,10 +25,15 @@ pub record PrintsLeft (rules : List RuleSteps) (sentence : Sentence) (old new : 
     pub printed : IsPrinted left more
     pub is : new ≡ old ++ more
 
--- the answer is the file of what the rules leave of the sentences that the text says
-pub record IsRuledText (rules : List RuleSteps) (text answer : List ℕ) : Type 0 where
-  pub sentences : List Sentence
-  pub said : AreSentences text sentences
+-- the sentences stand in numbers, by texts of readings
+pub record AllStand (texts : List (List ℕ)) (sentences : List Sentence)
+    (numbered : List NumberedSentence) : Type 0 where
+  pub are_texts : AreTexts texts
+  pub each : AllZip (Stands texts) numbered sentences
+
+-- the answer is the file of what the rules leave of the sentences
+pub record IsRuledFile (rules : List RuleSteps) (sentences : List Sentence) (answer : List ℕ) :
+    Type 0 where
   pub left : List Sentence
   pub each : AllZip (AreLeft rules) sentences left
   pub is : IsPrintedFile left answer

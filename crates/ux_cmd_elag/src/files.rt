@@ -3,7 +3,7 @@
 ghost use Rattle.std.specs.Prelude.{IfErr, IfOk};
 ghost use Rattle.ux_base.specs.Outside.{IsLater};
 ghost use Rattle.ux_plan.specs.Plans.{Halts, StopsFile, each};
-ghost use Rattle.ux_reading_table.specs.Numbered.{IsTableOf};
+ghost use Rattle.ux_reading_table.specs.Numbered.{IsNumberedText};
 ghost use Rattle.ux_cmd_elag.specs.Files.{AreRead, ReadsRule, StopsRule, StopsSentences, StopsText};
 ghost use Rattle.ux_cmd_elag.specs.Reading.{named_format, rule_format};
 
@@ -12,22 +12,22 @@ use ux_base::{Folder, Txt};
 use ux_elag::ReadyRule;
 use ux_grammars::drawn_graph;
 use ux_plan::{Stop, read_bytes, refused};
-use ux_reading_table::ReadingTable;
+use ux_reading_table::NumberedText;
 use ux_reasons::Reason;
 use ux_rules::{Rule, RuleError};
 use ux_sentence::SentenceError;
 
-/// The readings of a file of sentence automata, by number. The file has this name and this text.
-pub(crate) fn read_table<'a>(
+/// A file of sentence automata, in numbers. The file has this name and this text.
+pub(crate) fn read_text<'a>(
     alloc: Global,
     name: &str,
     text: &'a str,
-) -> Result<ReadingTable<'a>, Stop<Reason>>
-    ensures ok { IfOk result (IsTableOf text.now) }
+) -> Result<NumberedText<'a>, Stop<Reason>>
+    ensures ok { IfOk result (λ read. IsNumberedText text.now read.table read.sentences.items) }
     ensures err { IfErr result (StopsText name.now text.now) }
 {
-    match ReadingTable::of(alloc, text) {
-        Ok(table) => Ok(table),
+    match NumberedText::of(alloc, text) {
+        Ok(read) => Ok(read),
         Err(error) => Err(no_sentences(alloc, name, error)),
     }
 }

@@ -1,23 +1,23 @@
 //! The rules, applied to the automata of sentences one after the other.
 //!
-//! The text is gone through twice: once for the table of its readings, which finds each fault, and
-//! once sentence by sentence. Beside the text, the table and the answer one sentence is in memory.
+//! The text is gone through once, which finds each fault. Beside the text and the answer its sentences
+//! are in memory in numbers, and what is left of one.
 
-ghost use Rattle.std.specs.Prelude.{◌≡◌, ◌++◌, ℕ, List, IfErr, IfOk, OnOk, string_bytes};
+ghost use Rattle.std.specs.Prelude.{◌≡◌, List, IfErr, IfOk, OnOk, string_bytes};
+ghost use Rattle.std.specs.List.{AllZip};
 ghost use Rattle.ux_base.specs.Outside.{IsLater};
 ghost use Rattle.ux_plan.specs.Commands.{Answers};
 ghost use Rattle.ux_plan.specs.Plans.{Halts};
 ghost use Rattle.ux_sentence.specs.declared.sentence.Sentence.{Sentence as SentenceRecord};
-ghost use Rattle.ux_reading_table.specs.Numbered.{IsTableOf};
 ghost use Rattle.ux_cmd_elag.specs.Elag.{elag as elag_command};
-ghost use Rattle.ux_cmd_elag.specs.Ruling.{IsRuledText, PrintsLeft, Stands};
+ghost use Rattle.ux_cmd_elag.specs.Ruling.{AllStand, IsRuledFile, PrintsLeft, Stands};
 
-use crate::files::{read_rules, read_table};
+use crate::files::{read_rules, read_text};
 use std::alloc::Global;
 use ux_base::{Folder, Mem, Txt};
 use ux_elag::{PreparedRules, ReadyRule};
 use ux_plan::{Stop, read_decoded};
-use ux_reading_table::{NumberedSentence, NumberedSentences, ReadingTable, print_numbered};
+use ux_reading_table::{NumberedSentence, NumberedText, print_numbered};
 use ux_reasons::Reason;
 use ux_sentence::print_head;
 
@@ -37,38 +37,37 @@ pub fn elag<F: Folder>(
         (F.seen folder.old) (F.seen folder.new)) }
 {
     let text = read_decoded(alloc, tfst, folder)?;
-    let table = read_table(alloc, tfst, text.as_str())?;
+    let read = read_text(alloc, tfst, text.as_str())?;
     let rules = read_rules(alloc, rules, folder)?;
-    let answer = ruled(alloc, text.as_str(), &table, rules)?;
+    let answer = ruled(alloc, &read, rules)?;
     Ok(answer.into_bytes())
 }
 
-/// The file of the sentences that the text says, after the rules. The text's readings are in the
-/// table.
-fn ruled(alloc: Global, text: &str, table: &ReadingTable<'_>, rules: Vec<ReadyRule>) -> Mem<String>
-    requires { IsTableOf text.now table.now }
-    ensures { IfOk result (λ answer. IsRuledText rules.items text.now (string_bytes answer)) }
+/// The file of the sentences, after the rules.
+fn ruled(alloc: Global, read: &NumberedText<'_>, rules: Vec<ReadyRule>) -> Mem<String>
+    requires { (old : List SentenceRecord) × AllStand read.now.table old read.now.sentences.items }
+    ensures { IfOk result (λ answer. (old : List SentenceRecord) →
+        AllStand read.now.table old read.now.sentences.items →
+        IsRuledFile rules.items old (string_bytes answer)) }
 {
-    let mut prepared = PreparedRules::of(alloc, rules, table)?;
-    print_ruled(alloc, text, table, &mut prepared)
+    let mut prepared = PreparedRules::of(alloc, rules, &read.table)?;
+    print_ruled(alloc, read.sentences.as_slice(), &mut prepared)
 }
 
-/// The file of the sentences that the text says, after the rules. One sentence is in memory at a
-/// time.
+/// The file of these sentences, after the rules.
 fn print_ruled(
     alloc: Global,
-    text: &str,
-    table: &ReadingTable<'_>,
+    sentences: &[NumberedSentence],
     rules: &mut PreparedRules<'_>,
 ) -> Mem<String>
-    requires table { IsTableOf text.now table.now }
-    requires prepared { rules.old.texts ≡ table.now }
-    ensures { IfOk result (λ answer. IsRuledText rules.old.rules text.now (string_bytes answer)) }
+    requires { (old : List SentenceRecord) × AllZip (Stands rules.old.texts) sentences.now old }
+    ensures { IfOk result (λ answer. (old : List SentenceRecord) →
+        AllZip (Stands rules.old.texts) sentences.now old →
+        IsRuledFile rules.old.rules old (string_bytes answer)) }
 {
-    let mut sentences = NumberedSentences::open(text);
-    let mut answer = print_head(alloc, sentences.count() as usize)?;
-    while let Some(sentence) = sentences.next(alloc, table)? {
-        print_left(alloc, rules, &sentence, &mut answer)?;
+    let mut answer = print_head(alloc, sentences.len())?;
+    for sentence in sentences {
+        print_left(alloc, rules, sentence, &mut answer)?;
     }
     Ok(answer)
 }

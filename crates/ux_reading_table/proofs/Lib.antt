@@ -1,3 +1,4 @@
+pub mod BareLemmas
 pub mod CallerLemmas
 pub mod FieldsLemmas
 pub mod NextLemmas

@@ -93,22 +93,18 @@ placed_there texts text place at = (
   get_or_from_slice_get texts place text text at,
 )
 
--- a text that was noted says a reading, whose printed text was noted too
-noted_reading : (texts spelled : List (List ℕ)) (numbers : List ℕ) (text : List ℕ) →
-    AllZip (IsNumbered texts) spelled numbers → Contains spelled text →
-    (reading : Reading) × IsReading text reading × Contains texts (reading_text reading)
-noted_reading texts [] numbers text are has = absurd (nothing_in has)
-noted_reading texts (x ∷ spelled) [] text are has = absurd are
-noted_reading texts (x ∷ spelled) (number ∷ numbers) text are has =
-    elim (first_or_later x spelled text has) [
-      | inl here ↦
-          let (reading, is, at) = are.0 in (
-            reading,
-            subst (λ (t : List ℕ). IsReading t reading) here is,
-            placed_there texts (reading_text reading) number at,
-          )
-      | inr later ↦ noted_reading texts spelled numbers text are.1 later
-    ]
+-- a text that was noted says a reading, whose printed text has the number beside it
+pub noted_reading : (texts spelled : List (List ℕ)) (numbers : List ℕ) (place : ℕ) (text : List ℕ)
+    (d : ℕ) → AllZip (IsNumbered texts) spelled numbers → slice_get spelled place ≡ Some text →
+    (place < length numbers) × IsNumbered texts text (get_or numbers place d)
+noted_reading texts [] numbers place text d are at = cc
+noted_reading texts (x ∷ spelled) [] place text d are at = absurd are
+noted_reading texts (x ∷ spelled) (number ∷ numbers) zero text d are at =
+    let same : x ≡ text = cc in
+    (omega arith, subst (λ (t : List ℕ). IsNumbered texts t number) same are.0)
+noted_reading texts (x ∷ spelled) (number ∷ numbers) (suc place) text d are at =
+    let later = noted_reading texts spelled numbers place text d are.1 at in
+    (omega (arith, later.0), later.1)
 
 -- nothing is added where the text was there
 pub AddsText-there : (texts : List (List ℕ)) (text : List ℕ) → Contains texts text →
@@ -135,18 +131,32 @@ AddsText-push texts text one = (
 )
 
 -- a text that was noted
-pub notes_known : (texts spelled : List (List ℕ)) (numbers : List ℕ) (text : List ℕ) →
-    AllZip (IsNumbered texts) spelled numbers → Contains spelled text →
-    NotesText true texts text texts
-notes_known texts spelled numbers text are has =
-    let (reading, is, there) = noted_reading texts spelled numbers text are has in
-    (reading, is, AddsText-there texts (reading_text reading) there)
+pub notes_known : (texts spelled new : List (List ℕ)) (numbers : List ℕ) (place : ℕ)
+    (text : List ℕ) (number : ℕ) → AllZip (IsNumbered texts) spelled numbers → new ≡ spelled →
+    slice_get new place ≡ Some text → number ≡ get_or numbers place number →
+    NotesText (Some number) texts text texts
+notes_known texts spelled new numbers place text number are same at is =
+    let found = (noted_reading texts spelled numbers place text number are
+    (subst (λ (s : List (List ℕ)). slice_get s place ≡ Some text) same at)).1 in
+    let there : IsPlaceOfText texts (reading_text found.0) number =
+    subst (λ (n : ℕ). IsPlaceOfText texts (reading_text found.0) n) (sym is) found.2 in (
+      found.0,
+      found.1,
+      AddsText-there texts (reading_text found.0)
+          (placed_there texts (reading_text found.0) number there),
+      there,
+    )
 
 -- a new text
-pub notes_new : (texts new : List (List ℕ)) (text shown : List ℕ) → IsSpelling text shown →
-    AddsText texts shown new → NotesText true texts text new
-notes_new texts new text shown (reading, is, same) added =
-    (reading, is, subst (λ (t : List ℕ). AddsText texts t new) same added)
+pub notes_new : (texts new : List (List ℕ)) (text shown : List ℕ) (number : ℕ) →
+    IsSpelling text shown → AddsText texts shown new → IsPlaceOfText new shown number →
+    NotesText (Some number) texts text new
+notes_new texts new text shown number (reading, is, same) added at = (
+  reading,
+  is,
+  subst (λ (t : List ℕ). AddsText texts t new) same added,
+  subst (λ (t : List ℕ). IsPlaceOfText new t number) same at,
+)
 
 -- readings that were numbered are so still
 numbered_still : (texts new spelled : List (List ℕ)) (numbers : List ℕ) → KeepsPlaces texts new →
@@ -250,6 +260,15 @@ pub text_at : (text : List ℕ) (texts : List (List ℕ)) (place : ℕ) →
     slice_get texts place ≡ Some text → Contains texts text
 text_at text texts place at =
     (place, slice_get_within texts place text at, get_or_from_slice_get texts place text text at)
+
+-- a slice that is stored at a place has its text there
+pub spelled_at : (slices : List (Bor (List ℕ))) (text one : Bor (List ℕ)) (place : ℕ) →
+    slice_get slices place ≡ Some one → bytes_eq text.now one.now ≡ true →
+    slice_get (texts_of slices) place ≡ Some text.now
+spelled_at slices text one place at same =
+    slice_get-map (λ (s : Bor (List ℕ)). s.now) slices place
+    ∙ (ap (option_map (λ (s : Bor (List ℕ)). s.now)) at
+    ∙ ap Some (sym ((bytes_eq-Decides text.now one.now).0 same)))
 
 -- the text of a slice that stands at a place
 pub slice_at : (slices : List (Bor (List ℕ))) (place : ℕ) (slice : Bor (List ℕ)) →

@@ -1,7 +1,7 @@
 -- From place to place: the lines of links, the line of a sentence, and a whole sentence.
-use Rattle.std.proofs.Common.{arith, ◌≡◌, ℕ, ◌+◌, ◌<◌, List, [], ◌∷◌, ◌++◌, ◌⊎◌, inl, inr, refl, sym, ◌∙◌, subst, length-append, map, true, ◌↔◌}
+use Rattle.std.proofs.Common.{arith, ◌≡◌, ℕ, ◌+◌, ◌<◌, List, [], ◌∷◌, ◌++◌, ◌⊎◌, Some, inl, inr, refl, sym, ◌∙◌, subst, length-append, map, ◌↔◌}
 use Rattle.std.specs.Prelude.{Contains}
-use Rattle.std.specs.List.{flat_map}
+use Rattle.std.specs.List.{AllZip, flat_map}
 use Rattle.std.proofs.lemmas.List.{map-append}
 use Rattle.std.proofs.lemmas.List.Elements.{Contains-append_cases, Contains-append_left, Contains-append_right}
 use Rattle.ux_base.proofs.Lists.{nothing_in, first_or_later, contains_first}
@@ -13,11 +13,13 @@ use Rattle.ux_sentence.specs.declared.sentence.Sentence.{Sentence}
 use Rattle.ux_sentence.specs.declared.sentence_line.Opening.TheVariants.{Empty, Automaton}
 use Rattle.ux_sentence.specs.Files.{LinkSays, Place, RefusesLinks, Stops}
 use Rattle.ux_sentence.specs.Places.{IsPast, RefusesNext}
-use Rattle.ux_sentence.proofs.DueLemmas.{IsTold, due_empty, due_links}
+use Rattle.ux_sentence.proofs.DueLemmas.{IsTold as IsToldTo, due_empty, due_links}
 use Rattle.ux_sentence.proofs.LinkLemmas.{LinksSay-push, err_behind}
 use Rattle.ux_sentence.proofs.PlaceLemmas.{refuses_links}
-use Rattle.ux_reading_table.specs.Noting.{AddsText, AddsTexts, Begins, NotesSentence, ReadsLinks}
-use Rattle.ux_reading_table.specs.Numbered.{text_of, texts_in}
+use Rattle.ux_reading_table.specs.Noting.{AddsText, AddsTexts, Begins, KeepsPlaces, NotesSentence, ReadsLinks}
+use Rattle.ux_reading_table.specs.Numbered.{IsNumberedBy, IsTold, text_of, texts_in}
+use Rattle.ux_reading_table.specs.declared.numbered.NumberedLink.{NumberedLink}
+use Rattle.ux_reading_table.specs.declared.numbered.NumberedSentence.{NumberedSentence}
 
 -- no line of a link is read
 pub ReadsLinks-none : (states : ℕ) (place : Place) → ReadsLinks states 0 place [] place
@@ -85,7 +87,8 @@ next_sentence old states links =
     record { number = old.told + 1; states = states; links = links }
 
 -- a sentence without a path is told
-pub tells_none : (old new : Place) → Begins old Empty new → IsTold old (next_sentence old 0 []) new
+pub tells_none : (old new : Place) → Begins old Empty new →
+    IsToldTo old (next_sentence old 0 []) new
 tells_none old new begins =
     due_empty old (behind_line old new) new begins.line (next_sentence old 0 []) begins.due
     (past_line old new begins.line begins.lines) refl begins.opens refl refl refl begins.passed
@@ -94,7 +97,7 @@ tells_none old new begins =
 -- a sentence with so many links is told
 pub tells_many : (states count : ℕ) (old mid new : Place) (links : List Link) →
     Begins old (Automaton states count) mid → ReadsLinks states count mid links new →
-    IsTold old (next_sentence old states links) new
+    IsToldTo old (next_sentence old states links) new
 tells_many states count old mid new links begins reads =
     due_links old (behind_line old mid) new begins.line (next_sentence old states links) count
     begins.due (past_line old mid begins.line begins.lines) refl begins.opens reads.many reads.say
@@ -162,18 +165,72 @@ adds_sentence old new sentences sentence same more one =
           ]),
     )
 
+-- a link that is told is so where places stay
+pub told_still : (old new : List (List ℕ)) (numbered : List NumberedLink) (links : List Link) →
+    KeepsPlaces old new → AllZip (IsTold old) numbered links → AllZip (IsTold new) numbered links
+told_still old new [] [] kept told = tt
+told_still old new [] (y ∷ links) kept told = told
+told_still old new (x ∷ numbered) [] kept told = told
+told_still old new (x ∷ numbered) (y ∷ links) kept told = (
+  record {
+    from = told.0.from;
+    to = told.0.to;
+    reading = kept x.reading (text_of y) told.0.reading;
+  },
+  told_still old new numbered links kept told.1,
+)
+
+-- and so is a sentence
+pub numbered_still : (old new : List (List ℕ)) (sentences : List Sentence)
+    (numbered : List NumberedSentence) → KeepsPlaces old new →
+    AllZip (IsNumberedBy old) sentences numbered → AllZip (IsNumberedBy new) sentences numbered
+numbered_still old new [] [] kept told = tt
+numbered_still old new [] (y ∷ numbered) kept told = told
+numbered_still old new (x ∷ sentences) [] kept told = told
+numbered_still old new (x ∷ sentences) (y ∷ numbered) kept told = (
+  record {
+    number = told.0.number;
+    states = told.0.states;
+    links = told_still old new y.links.items x.links kept told.0.links;
+  },
+  numbered_still old new sentences numbered kept told.1,
+)
+
+pub KeepsPlaces-then : (old mid new : List (List ℕ)) → KeepsPlaces old mid → KeepsPlaces mid new →
+    KeepsPlaces old new
+KeepsPlaces-then old mid new first then place text at = then place text (first place text at)
+
 -- a sentence without a path is noted
-pub notes_none : (old new : Place) (texts : List (List ℕ)) → Begins old Empty new →
-    NotesSentence true old new texts texts
-notes_none old new texts begins =
-    let told = tells_none old new begins in
-    (next_sentence old 0 [], told.0, told.1, told.2, AddsTexts-none texts)
+pub notes_none : (old new : Place) (texts : List (List ℕ)) (numbered : NumberedSentence) →
+    Begins old Empty new → numbered.number ≡ new.told → numbered.states ≡ 0 →
+    numbered.links.items ≡ [] → NotesSentence (Some numbered) old new texts texts
+notes_none old new texts numbered begins number states links =
+    let told = tells_none old new begins in (
+      next_sentence old 0 [],
+      told.0,
+      told.1,
+      told.2,
+      AddsTexts-none texts,
+      record {
+        number = number ∙ begins.told;
+        states = states;
+        links = subst (λ (ls : List NumberedLink). AllZip (IsTold texts) ls []) (sym links) tt;
+      },
+    )
 
 -- a sentence with so many links is noted
-pub notes_many : (states count : ℕ) (old mid new : Place) (links : List Link)
-    (texts noted : List (List ℕ)) → Begins old (Automaton states count) mid →
-    ReadsLinks states count mid links new → AddsTexts texts (map text_of links) noted →
-    NotesSentence true old new texts noted
-notes_many states count old mid new links texts noted begins reads adds =
-    let told = tells_many states count old mid new links begins reads in
-    (next_sentence old states links, told.0, told.1, told.2, adds)
+pub notes_many : (count : ℕ) (old mid new : Place) (links : List Link)
+    (texts noted : List (List ℕ)) (numbered : NumberedSentence) →
+    Begins old (Automaton numbered.states count) mid →
+    ReadsLinks numbered.states count mid links new → AddsTexts texts (map text_of links) noted →
+    AllZip (IsTold noted) numbered.links.items links → numbered.number ≡ mid.told →
+    NotesSentence (Some numbered) old new texts noted
+notes_many count old mid new links texts noted numbered begins reads adds each number =
+    let told = tells_many numbered.states count old mid new links begins reads in (
+      next_sentence old numbered.states links,
+      told.0,
+      told.1,
+      told.2,
+      adds,
+      record { number = number ∙ begins.told; states = refl; links = each },
+    )

@@ -15,7 +15,8 @@ use Rattle.ux_sentence.specs.declared.sentence.Reading.{Reading}
 use Rattle.ux_sentence.specs.Readings.{IsReading, IsSpellable}
 use Rattle.ux_sentence.specs.Written.{reading_text}
 use Rattle.ux_reading_table.specs.Noting.{AreNotedOf, IsNumbered, IsNumberIfKnown, IsSpelling}
-use Rattle.ux_reading_table.specs.Numbered.{AreDifferent, AreTexts, IsPlaceOfText, IsReadingText, IsTableOf, text_of, texts_in}
+use Rattle.ux_reading_table.specs.Numbered.{AreDifferent, AreTexts, IsNumberedBy, IsNumberedText, IsPlaceOfText, IsReadingText, text_of, texts_in}
+use Rattle.ux_reading_table.specs.declared.numbered.NumberedSentence.{NumberedSentence}
 
 -- a spelled text has the place that stands beside it
 pub numbered_at : (texts spelled : List (List ℕ)) (numbers : List ℕ) (index : ℕ) (text : List ℕ)
@@ -90,20 +91,21 @@ none_noted texts none one =
 
 -- what was noted is of a file that was read to its end
 pub noted_whole : (text : List ℕ) (place : Place) (read : List Sentence)
-    (texts new : List (List ℕ)) → IsReadTo text place read → IsOver place →
-    ((one : List ℕ) → Contains texts one ↔ Contains (flat_map texts_in read) one) →
-    new ≡ texts → AreNotedOf text new
-noted_whole text place read texts new so_far over same is = record {
+    (texts new : List (List ℕ)) (numbered : List NumberedSentence) → IsReadTo text place read →
+    IsOver place → ((one : List ℕ) → Contains texts one ↔ Contains (flat_map texts_in read) one) →
+    AllZip (IsNumberedBy texts) read numbered → new ≡ texts → AreNotedOf text new numbered
+noted_whole text place read texts new numbered so_far over same told is = record {
   sentences = read;
   said = read_whole text place read so_far over;
   same = λ one. subst (λ (ts : List (List ℕ)). Contains ts one
       ↔ Contains (flat_map texts_in read) one) (sym is) (same one);
+  told = subst (λ (ts : List (List ℕ)). AllZip (IsNumberedBy ts) read numbered) (sym is) told;
 }
 
 -- the texts of a file are printed ones of readings that can be spelled
-pub noted_readings : (text : List ℕ) (texts : List (List ℕ)) → AreNotedOf text texts →
-    All IsReadingText texts
-noted_readings text texts noted k d lt =
+pub noted_readings : (text : List ℕ) (texts : List (List ℕ)) (numbered : List NumberedSentence) →
+    AreNotedOf text texts numbered → All IsReadingText texts
+noted_readings text texts numbered noted k d lt =
     let one = get_or texts k d in
     let (sentence, is_one, among) = contained_joined texts_in noted.sentences one
     ((noted.same one).0 (Contains-get_or texts k d lt)) in
@@ -113,12 +115,20 @@ noted_readings text texts noted k d lt =
     let good = All-contains HasSpellable sentence.links link writable.readings has in
     (link.reading, good, sym shown)
 
--- the table of the texts that were noted
-pub table_of_noted : (text : List ℕ) (texts : List (List ℕ)) → AreDifferent texts →
-    AreNotedOf text texts → IsTableOf text texts
-table_of_noted text texts different of_file = record {
-  are_texts = record { different = different; each = noted_readings text texts of_file };
-  sentences = of_file.sentences;
-  said = of_file.said;
-  same = of_file.same;
-}
+-- the table of the texts that were noted, and the sentences that are told by it
+pub table_of_noted : (text : List ℕ) (texts new : List (List ℕ)) (numbered : List NumberedSentence) →
+    new ≡ texts → AreDifferent texts → AreNotedOf text texts numbered →
+    IsNumberedText text new numbered
+table_of_noted text texts new numbered same different of_file =
+    subst (λ (ts : List (List ℕ)). IsNumberedText text ts numbered) (sym same) (record {
+      table = record {
+        are_texts = record {
+          different = different;
+          each = noted_readings text texts numbered of_file;
+        };
+        sentences = of_file.sentences;
+        said = of_file.said;
+        same = of_file.same;
+      };
+      told = of_file.told;
+    })

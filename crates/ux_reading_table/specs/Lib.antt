@@ -1,3 +1,4 @@
+pub mod Bare
 pub mod Kept
 pub mod Noted
 pub mod Noting

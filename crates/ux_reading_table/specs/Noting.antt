@@ -1,7 +1,7 @@
 -- How the texts of links are noted, and the sentences read by them. Inner: the crate's own
 -- functions alone speak of it.
-use Rattle.std.specs.Prelude.{◌≡◌, ◌↔◌, ◌⊎◌, ℕ, ◌+◌, ◌<◌, Bool, true, false, List, [], ◌∷◌, ◌++◌, Contains, length, map}
-use Rattle.std.specs.List.{flat_map}
+use Rattle.std.specs.Prelude.{◌≡◌, ◌↔◌, ◌⊎◌, ℕ, ◌+◌, ◌<◌, Bool, true, false, Option, None, Some, List, [], ◌∷◌, ◌++◌, Contains, length, map}
+use Rattle.std.specs.List.{AllZip, flat_map}
 use Rattle.indexmap.specs.IndexSet.{IndexSet}
 use denote.Ref.{Bor}
 use Rattle.ux_sentence.specs.declared.sentence.Reading.{Reading}
@@ -14,7 +14,8 @@ use Rattle.ux_sentence.specs.Readings.{IsReading}
 use Rattle.ux_sentence.specs.Written.{link_line, reading_text}
 use Rattle.ux_reading_table.specs.declared.fields.Fields.{Fields}
 use Rattle.ux_reading_table.specs.declared.numbered.NumberedLink.{NumberedLink}
-use Rattle.ux_reading_table.specs.Numbered.{IsPlaceOfText, IsTold, text_of, texts_in}
+use Rattle.ux_reading_table.specs.declared.numbered.NumberedSentence.{NumberedSentence}
+use Rattle.ux_reading_table.specs.Numbered.{IsNumberedBy, IsPlaceOfText, IsTold, text_of, texts_in}
 
 -- the line has these fields, and its link leads between states of its sentence
 pub record HasFields (states : ℕ) (line : List ℕ) (fields : Fields) : Type 0 where
@@ -47,12 +48,13 @@ abbrev pub AddsTexts : (old texts new : List (List ℕ)) → Type 0
 AddsTexts old texts new =
     (one : List ℕ) → Contains new one ↔ (Contains old one ⊎ Contains texts one)
 
--- what is noted of a text: the printed text of its reading, or nothing where it says none
-abbrev pub NotesText : (says : Bool) (old : List (List ℕ)) (text : List ℕ)
+-- what is noted of a text: the printed text of its reading, which has this number, or nothing where
+-- it says none
+abbrev pub NotesText : (found : Option ℕ) (old : List (List ℕ)) (text : List ℕ)
     (new : List (List ℕ)) → Type 0
-NotesText true old text new =
-    (reading : Reading) × IsReading text reading × AddsText old (reading_text reading) new
-NotesText false old text new = (reading : Reading) → IsReading text reading → ⊥
+NotesText (Some number) old text new = (reading : Reading) × IsReading text reading
+    × AddsText old (reading_text reading) new × IsPlaceOfText new (reading_text reading) number
+NotesText None old text new = (reading : Reading) → IsReading text reading → ⊥
 
 -- the lines of so many links are read from a place on
 pub record ReadsLinks (states count : ℕ) (old : Place) (links : List Link) (new : Place) :
@@ -73,18 +75,24 @@ pub record Begins (old : Place) (opening : Opening) (new : Place) : Type 0 where
   pub counted : new.count ≡ old.count
   pub opens : OpensSentence (old.told + 1) line opening
 
--- the next sentence is read, and the texts of its links are noted, or all sentences were read
-abbrev pub NotesSentence : (more : Bool) (old new : Place) (texts noted : List (List ℕ)) → Type 0
-NotesSentence true old new texts noted = (sentence : Sentence) × (behind : List (List ℕ))
-    × Tells old sentence behind × (new ≡ behind_sentence old sentence behind)
-    × AddsTexts texts (texts_in sentence) noted
-NotesSentence false old new texts noted = IsOver old × (noted ≡ texts)
+-- the next sentence is read and told, and the texts of its links are noted, or all sentences were
+-- read
+abbrev pub NotesSentence : (found : Option NumberedSentence) (old new : Place)
+    (texts noted : List (List ℕ)) → Type 0
+NotesSentence (Some numbered) old new texts noted = (sentence : Sentence)
+    × (behind : List (List ℕ)) × Tells old sentence behind
+    × (new ≡ behind_sentence old sentence behind) × AddsTexts texts (texts_in sentence) noted
+    × IsNumberedBy noted sentence numbered
+NotesSentence None old new texts noted = IsOver old × (noted ≡ texts)
 
--- the texts are the printed ones of the readings of the file's links
-pub record AreNotedOf (text : List ℕ) (texts : List (List ℕ)) : Type 0 where
+-- the texts are the printed ones of the readings of the file's links, and its sentences are told by
+-- their places
+pub record AreNotedOf (text : List ℕ) (texts : List (List ℕ)) (numbered : List NumberedSentence) :
+    Type 0 where
   pub sentences : List Sentence
   pub said : AreSentences text sentences
   pub same : (one : List ℕ) → Contains texts one ↔ Contains (flat_map texts_in sentences) one
+  pub told : AllZip (IsNumberedBy texts) sentences numbered
 
 -- places of texts go on being theirs
 abbrev pub KeepsPlaces : (old new : List (List ℕ)) → Type 0

@@ -58,6 +58,12 @@ pub record IsTableOf (text : List ℕ) (texts : List (List ℕ)) : Type 0 where
   pub said : AreSentences text sentences
   pub same : (one : List ℕ) → Contains texts one ↔ Contains (flat_map texts_in sentences) one
 
+-- the texts are those of the file, and its sentences are told by their places
+pub record IsNumberedText (text : List ℕ) (texts : List (List ℕ))
+    (numbered : List NumberedSentence) : Type 0 where
+  pub table : IsTableOf text texts
+  pub told : AllZip (IsNumberedBy texts) table.sentences numbered
+
 -- a place to which the reading of the file comes
 pub record IsPlaceOf (text : List ℕ) (place : Place) : Type 0 where
   pub start : Place

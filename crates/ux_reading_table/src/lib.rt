@@ -28,14 +28,18 @@
 //! printed text. `print_numbered` takes no memory but the file's.
 #![tactic(auto)]
 
+mod bare;
+mod codes;
 mod fields;
 mod noting;
 pub mod numbered;
+pub mod numbered_text;
 pub mod printing;
 pub mod sentences;
 pub mod table;
 
 pub use numbered::{NumberedLink, NumberedSentence};
+pub use numbered_text::NumberedText;
 pub use printing::print_numbered;
 pub use sentences::NumberedSentences;
 pub use table::ReadingTable;

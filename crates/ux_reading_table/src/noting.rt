@@ -9,11 +9,14 @@ ghost use Rattle.ux_sentence.specs.Readings.{IsReading};
 ghost use Rattle.ux_sentence.specs.declared.error.SentenceError.TheVariants.{NoMemory as OutOfMemory};
 ghost use Rattle.ux_sentence.specs.declared.sentence.Link.{Link as LinkRecord};
 ghost use Rattle.ux_sentence.specs.declared.sentence.Reading.{Reading as ReadingRecord};
+ghost use Rattle.ux_reading_table.specs.Bare.{AreKnown};
 ghost use Rattle.ux_reading_table.specs.Noted.{AreNoted};
 ghost use Rattle.ux_reading_table.specs.Noting.{AddsSpelling, AddsText, IsSpelling, KeepsPlaces, NotesText, spellings};
-ghost use Rattle.ux_reading_table.specs.Numbered.{AreDifferent, IsPlaceOfText, text_of};
+ghost use Rattle.ux_reading_table.specs.Numbered.{AreDifferent, IsPlaceOfText, IsTold, text_of};
 
+use crate::codes::{KnownCodes, is_printed_so, no_codes};
 use crate::fields::fields_of;
+use crate::numbered::NumberedLink;
 use indexmap::IndexSet;
 use std::alloc::Global;
 use ux_base::{Mem, NoMemory, Txt};
@@ -28,6 +31,8 @@ pub(crate) struct Noted<'a> {
     pub numbers: Vec<u32>,
     /// The printed texts of the readings, by number.
     pub printed: IndexSet<Txt>,
+    /// The codes of their entries.
+    pub codes: KnownCodes<'a>,
     /// For each link, in the order of the file, the place of its text among the spelled ones.
     pub places: Vec<u32>,
 }
@@ -41,61 +46,73 @@ pub(crate) fn nothing_noted<'a>(alloc: Global) -> Noted<'a>
         spelled: IndexSet::new(alloc),
         numbers: Vec::new(alloc),
         printed: IndexSet::new(alloc),
+        codes: no_codes(alloc),
         places: Vec::new(alloc),
     }
 }
 
 /// Notes the text of the link that the line of this number says, in a sentence of so many states.
+/// Answers the link, its reading told by its number.
 pub(crate) fn note_link<'a>(
     alloc: Global,
     noted: &mut Noted<'a>,
     line: &'a str,
     number: usize,
     states: u64,
-) -> Result<(), SentenceError>
+) -> Result<NumberedLink, SentenceError>
     requires { AreNoted noted.old }
     ensures noted { OnOk result (AreNoted noted.new) }
-    ensures ok { OnOk result ((link : LinkRecord) × LinkSays states line.now link
-        × AddsText noted.old.printed.keys (text_of link) noted.new.printed.keys) }
+    ensures kept { OnOk result (KeepsPlaces noted.old.printed.keys noted.new.printed.keys) }
+    ensures ok { IfOk result (λ numbered. (link : LinkRecord) × LinkSays states line.now link
+        × AddsText noted.old.printed.keys (text_of link) noted.new.printed.keys
+        × IsTold noted.new.printed.keys numbered link) }
     ensures err { IfErr result (λ error.
         (error ≡ OutOfMemory) ⊎ RefusesLink states line.now number error) }
 {
     let Some(fields) = fields_of(line, states) else {
         return Err(SentenceError::BadEdge { line: number });
     };
-    if !note(alloc, noted, fields.text)? {
+    let Some(reading) = note(alloc, noted, fields.text)? else {
         return Err(SentenceError::BadEdge { line: number });
-    }
+    };
     if fields.to <= fields.from {
         return Err(SentenceError::Backward { line: number });
     }
-    Ok(())
+    Ok(NumberedLink {
+        from: fields.from,
+        to: fields.to,
+        reading,
+    })
 }
 
-/// Notes the text, if it says a reading. Answers whether it does.
-fn note<'a>(alloc: Global, noted: &mut Noted<'a>, text: &'a str) -> Mem<bool>
+/// Notes the text, if it says a reading. Answers the number of the reading.
+fn note<'a>(alloc: Global, noted: &mut Noted<'a>, text: &'a str) -> Mem<Option<u32>>
     requires { AreNoted noted.old }
-    ensures noted { IfOk result (λ says. IsTrue says → AreNoted noted.new) }
-    ensures says { IfOk result (λ says.
-        NotesText says noted.old.printed.keys text.now noted.new.printed.keys) }
+    ensures noted { IfOk result (λ found. IfSome found (λ _. AreNoted noted.new)) }
+    ensures kept { IfOk result (λ found. IfSome found (λ _.
+        KeepsPlaces noted.old.printed.keys noted.new.printed.keys)) }
+    ensures says { IfOk result (λ found.
+        NotesText found noted.old.printed.keys text.now noted.new.printed.keys) }
 {
     let (place, is_new) = spell(&mut noted.spelled, text)?;
     noted.places.push(narrowed(place))?;
     if !is_new {
-        return Ok(true);
+        return Ok(Some(noted.numbers[place]));
     }
-    let Some(printed) = printed_of(alloc, text)? else {
-        return Ok(false);
+    let Some(printed) = printed_by(alloc, &mut noted.codes, text)? else {
+        return Ok(None);
     };
     let number = number_of(&mut noted.printed, printed)?;
     noted.numbers.push(number)?;
-    Ok(true)
+    Ok(Some(number))
 }
 
 /// The place of the text in the set, which is the next one if it has none, and whether it is new.
-fn spell<'a>(set: &mut IndexSet<&'a str>, text: &'a str) -> Mem<(usize, bool)>
-    ensures { IfOk result (λ found.
+pub(crate) fn spell<'a>(set: &mut IndexSet<&'a str>, text: &'a str) -> Mem<(usize, bool)>
+    ensures added { IfOk result (λ found.
         AddsSpelling found.1 (spellings set.old) text.now (spellings set.new)) }
+    ensures placed { IfOk result (λ found.
+        slice_get (spellings set.new) found.0 ≡ Some text.now) }
 {
     let (place, is_new) = set.insert_full(text)?;
     Ok((place, is_new))
@@ -114,6 +131,20 @@ fn number_of(texts: &mut IndexSet<Txt>, text: Txt) -> Mem<u32>
         return Err(NoMemory);
     }
     Ok(number as u32)
+}
+
+/// The printed text of the reading that the text says, or nothing where it says none. The reading is
+/// read and printed only where another text may be printed for it.
+fn printed_by<'a>(alloc: Global, codes: &mut KnownCodes<'a>, text: &'a str) -> Mem<Option<Txt>>
+    requires { AreKnown codes.old }
+    ensures known { OnOk result (AreKnown codes.new) }
+    ensures printed { IfOk result (λ found. MatchOption found
+        ((reading : ReadingRecord) → IsReading text.now reading → ⊥) (IsSpelling text.now)) }
+{
+    if is_printed_so(alloc, codes, text)? {
+        return Ok(Some(Txt::from_str(alloc, text)?));
+    }
+    printed_of(alloc, text)
 }
 
 /// The printed text of the reading that the text says, or nothing where it says none.

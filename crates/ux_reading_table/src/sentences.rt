@@ -11,8 +11,8 @@ ghost use Rattle.ux_sentence.specs.declared.error.SentenceError.TheVariants.{NoM
 ghost use Rattle.ux_sentence.specs.declared.sentence.Link.{Link as LinkRecord};
 ghost use Rattle.ux_sentence.specs.declared.sentence.Sentence.{Sentence as SentenceRecord};
 ghost use Rattle.ux_reading_table.specs.Noted.{AreNoted};
-ghost use Rattle.ux_reading_table.specs.Noting.{AddsText, AddsTexts, Begins, IsToldIfKnown, NotesSentence, ReadsLinks};
-ghost use Rattle.ux_reading_table.specs.Numbered.{IsPlaceOf, IsTableOf, ReadsNext, text_of};
+ghost use Rattle.ux_reading_table.specs.Noting.{AddsText, AddsTexts, Begins, IsToldIfKnown, KeepsPlaces, NotesSentence, ReadsLinks};
+ghost use Rattle.ux_reading_table.specs.Numbered.{IsPlaceOf, IsTableOf, IsTold, ReadsNext, text_of};
 ghost use Rattle.ux_reading_table.specs.Sentences.{TellsNext};
 
 use crate::noting::{Noted, note_link};
@@ -177,64 +177,78 @@ impl<'a> NumberedSentences<'a> {
         table.link(alloc, line, self.passed, states, before)
     }
 
-    /// Notes the texts of the next sentence. Answers whether there is one.
+    /// The next sentence in numbers, its texts noted, or nothing at the end of the file.
     pub(crate) fn note_next(
         &mut self,
         alloc: Global,
         noted: &mut Noted<'a>,
-    ) -> Result<bool, SentenceError>
+    ) -> Result<Option<NumberedSentence>, SentenceError>
         requires { AreNoted noted.old }
         ensures noted { OnOk result (AreNoted noted.new) }
-        ensures ok { IfOk result (λ more. NotesSentence more self.old self.new
+        ensures kept { OnOk result (KeepsPlaces noted.old.printed.keys noted.new.printed.keys) }
+        ensures ok { IfOk result (λ found. NotesSentence found self.old self.new
             noted.old.printed.keys noted.new.printed.keys) }
         ensures err { IfErr result (λ error. (error ≡ OutOfMemory) ⊎ Stops self.old error) }
     {
         let Some(opening) = self.opening()? else {
-            return Ok(false);
+            return Ok(None);
         };
+        let number = self.told;
         match opening {
-            Opening::Empty => Ok(true),
-            Opening::Automaton { states, links } => {
-                self.note_links(alloc, noted, states, links)?;
-                Ok(true)
-            }
+            Opening::Empty => Ok(Some(NumberedSentence {
+                number,
+                states: 0,
+                links: Vec::new(alloc),
+            })),
+            Opening::Automaton { states, links } => Ok(Some(NumberedSentence {
+                number,
+                states,
+                links: self.note_links(alloc, noted, states, links)?,
+            })),
         }
     }
 
-    /// Notes the texts of so many links, a line each.
+    /// So many links, a line each, their texts noted.
     fn note_links(
         &mut self,
         alloc: Global,
         noted: &mut Noted<'a>,
         states: u64,
         count: u64,
-    ) -> Result<(), SentenceError>
+    ) -> Result<Vec<NumberedLink>, SentenceError>
         requires { AreNoted noted.old }
         ensures noted { OnOk result (AreNoted noted.new) }
-        ensures ok { OnOk result ((links : List LinkRecord)
+        ensures kept { OnOk result (KeepsPlaces noted.old.printed.keys noted.new.printed.keys) }
+        ensures ok { IfOk result (λ numbered. (links : List LinkRecord)
             × ReadsLinks states count self.old links self.new
-            × AddsTexts noted.old.printed.keys (map text_of links) noted.new.printed.keys) }
+            × AddsTexts noted.old.printed.keys (map text_of links) noted.new.printed.keys
+            × AllZip (IsTold noted.new.printed.keys) numbered.items links) }
         ensures err { IfErr result (λ error. (error ≡ OutOfMemory)
             ⊎ RefusesLinks states count self.old.lines (self.old.passed + 1) error) }
     {
+        let mut numbered = Vec::new(alloc);
         for done in 0..count {
-            self.note_link(alloc, noted, states)?;
+            numbered.push(self.note_link(alloc, noted, states)?)?;
         }
-        Ok(())
+        // Many sentences are in memory at once.
+        numbered.shrink_to_fit();
+        Ok(numbered)
     }
 
-    /// Notes the text of the link of the next line.
+    /// The link of the next line, its text noted.
     fn note_link(
         &mut self,
         alloc: Global,
         noted: &mut Noted<'a>,
         states: u64,
-    ) -> Result<(), SentenceError>
+    ) -> Result<NumberedLink, SentenceError>
         requires { AreNoted noted.old }
         ensures noted { OnOk result (AreNoted noted.new) }
-        ensures ok { OnOk result ((line : List ℕ) × (link : LinkRecord)
+        ensures kept { OnOk result (KeepsPlaces noted.old.printed.keys noted.new.printed.keys) }
+        ensures ok { IfOk result (λ numbered. (line : List ℕ) × (link : LinkRecord)
             × IsPast line self.old self.new × LinkSays states line link
-            × AddsText noted.old.printed.keys (text_of link) noted.new.printed.keys) }
+            × AddsText noted.old.printed.keys (text_of link) noted.new.printed.keys
+            × IsTold noted.new.printed.keys numbered link) }
         ensures err { IfErr result (λ error. (error ≡ OutOfMemory)
             ⊎ RefusesNext states self.old.lines (self.old.passed + 1) error) }
     {

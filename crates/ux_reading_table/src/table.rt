@@ -4,7 +4,7 @@
 //! in the file. One reading may be spelled in several ways, as `{run,run.V}` and `{run,.V}`: all of
 //! them have one number. Texts are looked up as they are spelled, so that none is read twice.
 
-ghost use Rattle.std.specs.Prelude.{◌≡◌, ◌⊎◌, ◌<◌, ◌^◌, Contains, Some, IfErr, IfOk, IfSome, MatchOption, length, slice_get};
+ghost use Rattle.std.specs.Prelude.{◌≡◌, ◌⊎◌, ◌<◌, ◌^◌, All, Contains, Some, IfErr, IfOk, IfSome, MatchOption, length, slice_get};
 ghost use Rattle.ux_sentence.specs.Files.{LinkSays, Refuses, RefusesLink};
 ghost use Rattle.ux_sentence.specs.Readings.{IsReading, IsSpellable};
 ghost use Rattle.ux_sentence.specs.Written.{reading_text};
@@ -13,13 +13,14 @@ ghost use Rattle.ux_sentence.specs.declared.error.SentenceError.TheVariants.{NoM
 ghost use Rattle.ux_sentence.specs.declared.sentence.Link.{Link as LinkRecord};
 ghost use Rattle.ux_sentence.specs.declared.sentence.Reading.{Reading as ReadingRecord};
 ghost use Rattle.ux_reading_table.specs.Noted.{AreNoted};
-ghost use Rattle.ux_reading_table.specs.Noting.{AreNotedOf, IsNumberIfKnown, IsToldIfKnown, spellings};
-ghost use Rattle.ux_reading_table.specs.Numbered.{IsPlaceOfText, IsTableOf};
+ghost use Rattle.ux_reading_table.specs.Noting.{IsNumberIfKnown, IsToldIfKnown, spellings};
+ghost use Rattle.ux_reading_table.specs.Numbered.{IsPlaceOfText, IsReadingText, IsTableOf};
 
+use crate::codes::{KnownCodes, bare_reading};
 use crate::fields::fields_of;
-use crate::noting::{Noted, nothing_noted, place_of as spelled_place, printed_of};
+use crate::noting::{Noted, place_of as spelled_place, printed_of};
 use crate::numbered::NumberedLink;
-use crate::sentences::NumberedSentences;
+use crate::numbered_text::NumberedText;
 use indexmap::IndexSet;
 use std::alloc::Global;
 use std::marker::Model;
@@ -36,6 +37,8 @@ pub struct ReadingTable<'a> {
     numbers: Vec<u32>,
     /// The printed texts of the readings, by number.
     texts: IndexSet<Txt>,
+    /// The codes of their entries.
+    codes: KnownCodes<'a>,
     /// For each link of the file, in order, the place of its text among the spelled ones, where it
     /// is looked for first.
     places: Vec<u32>,
@@ -43,6 +46,7 @@ pub struct ReadingTable<'a> {
 
 impl<'a> Model for ReadingTable<'a> {
     ghost use Rattle.std.specs.Prelude.{List, ℕ};
+    ghost use Rattle.ux_reading_table.specs.Bare.{AreKnown};
     ghost use Rattle.ux_reading_table.specs.Kept.{IsKept};
 
     ghost Value = { List (List ℕ) };
@@ -50,7 +54,8 @@ impl<'a> Model for ReadingTable<'a> {
     ghost view = { λ table. table.texts.keys };
 
     ghost invariant = { λ table.
-        IsKept table.texts.keys table.spelled.keys table.numbers.items };
+        IsKept table.texts.keys table.spelled.keys table.numbers.items
+        × AreKnown table.codes };
 }
 
 impl<'a> ReadingTable<'a> {
@@ -62,19 +67,31 @@ impl<'a> ReadingTable<'a> {
         ensures refused { IfErr result (λ error. (error ≡ OutOfMemory) ⊎ Refuses text.now error) }
         ensures exact { IfOk result (λ _. (error : ErrorRecord) → Refuses text.now error → ⊥) }
     {
-        let noted = noted_of(alloc, text)?;
+        let read = NumberedText::of(alloc, text)?;
+        let NumberedText { table, .. } = read;
+        Ok(table)
+    }
+
+    /// The table of what was noted.
+    pub(crate) fn of_noted(noted: Noted<'a>) -> ReadingTable<'a>
+        requires noted { AreNoted noted }
+        requires texts { All IsReadingText noted.printed.keys }
+        ensures { result ≡ noted.entry.printed.keys }
+    {
         let Noted {
             spelled,
             numbers,
             printed,
+            codes,
             places,
         } = noted;
-        Ok(ReadingTable {
+        ReadingTable {
             spelled,
             numbers,
             texts: printed,
+            codes,
             places,
-        })
+        }
     }
 
     /// The printed texts of the readings, by number.
@@ -84,7 +101,7 @@ impl<'a> ReadingTable<'a> {
         self.texts.as_slice()
     }
 
-    /// The reading with the number. It is read anew from its printed text.
+    /// The reading with the number. It is read anew from its printed text, in which codes are known.
     pub fn reading(&self, alloc: Global, number: usize) -> Mem<Reading>
         requires { number < length self.now }
         ensures spellable { IfOk result IsSpellable }
@@ -92,7 +109,11 @@ impl<'a> ReadingTable<'a> {
             slice_get self.now number ≡ Some (reading_text reading)) }
     {
         let texts = self.texts.as_slice();
-        match read_reading(alloc, texts[number].as_str())? {
+        let text = texts[number].as_str();
+        if let Some(reading) = bare_reading(alloc, &self.codes, text)? {
+            return Ok(reading);
+        }
+        match read_reading(alloc, text)? {
             Some(reading) => Ok(reading),
             None => unreachable!(),
         }
@@ -177,17 +198,4 @@ fn place_of(texts: &IndexSet<Txt>, text: &Txt) -> u32
         Some(index) => index as u32,
         None => 0,
     }
-}
-
-/// The texts of the links of a file of sentences, or why its first bad line is refused.
-fn noted_of<'a>(alloc: Global, text: &'a str) -> Result<Noted<'a>, SentenceError>
-    ensures noted { IfOk result AreNoted }
-    ensures ok { IfOk result (λ noted. AreNotedOf text.now noted.printed.keys) }
-    ensures refused { IfErr result (λ error. (error ≡ OutOfMemory) ⊎ Refuses text.now error) }
-    ensures exact { IfOk result (λ _. (error : ErrorRecord) → Refuses text.now error → ⊥) }
-{
-    let mut file = NumberedSentences::opened(text)?;
-    let mut noted = nothing_noted(alloc);
-    while file.note_next(alloc, &mut noted)? {}
-    Ok(noted)
 }

@@ -1,13 +1,15 @@
-use Rattle.std.proofs.Common.{◌≡◌, ◌-◌, string_bytes}
+use Rattle.std.proofs.Common.{◌≡◌, List, length, take, string_bytes}
+use Rattle.std.specs.List.{AllZip}
+use Rattle.ux_sentence.specs.declared.sentence.Sentence.{Sentence}
+use Rattle.ux_cmd_elag.specs.Ruling.{Stands}
 use Rattle.ux_cmd_elag.proofs.RulingLemmas.{AreRuledTo}
 use Rattle.ux_cmd_elag.proofs.ruling.print_ruled.Given as goal
 
 -- what the rules leave of the sentences so far is written
-abbrev pub invariant-loop-answer : goal.invariant-loop-answer
-invariant-loop-answer l = record {
+abbrev pub invariant-loop-sentence : goal.invariant-loop-sentence
+invariant-loop-sentence l = record {
   same : l.rules ≡ l.fn.rules;
-  ruled : AreRuledTo l.fn.rules.rules l.text l.sentences (string_bytes l.answer);
+  ruled : (old : List Sentence) → AllZip (Stands l.fn.rules.texts) l.sentences old →
+      AreRuledTo l.fn.rules.rules (length l.sentences) (take l.sentence-index old)
+      (string_bytes l.answer);
 }
-
-abbrev pub decreases-loop-answer : goal.decreases-loop-answer
-decreases-loop-answer l = l.sentences.count - l.sentences.told

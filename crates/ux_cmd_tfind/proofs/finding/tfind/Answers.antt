@@ -1,6 +1,6 @@
 use Rattle.std.proofs.Common.{string_bytes}
 use Rattle.std.proofs.lemmas.Result.{err_from_is_err_and}
-use Rattle.ux_plan.proofs.PlanSteps.{comes_gives, comes_read, comes_test, comes_then, halts_at, halts_first, halts_later, halts_second, halts_test, halts_tested}
+use Rattle.ux_plan.proofs.PlanSteps.{comes_gives, comes_read, comes_test, comes_then, halts_at, halts_first, halts_later, halts_memory, halts_second, halts_test, halts_tested}
 use Rattle.ux_plan.proofs.Decoded.{decoded_stops}
 use Rattle.ux_plan.specs.Plans.{said_as}
 use Rattle.ux_reasons.specs.declared.reason.Reason.TheVariants.{Decode, Sentence}
@@ -64,6 +64,13 @@ returns-in_err-table-clause-err g c =
     (text_stops c.args.tfst.now mid new (string_bytes c.in_ok-text.text)
     c.in_err-table.field-0.0 c.in_ok-text.ensures.ok
     (rw c.as_str.ensures.value at c.in_err-table.ensures.err))))))
+
+-- all was read, and memory ran out for the answer
+pub returns-in_err-answer-clause-err : goal.returns-in_err-answer-clause-err
+returns-in_err-answer-clause-err g c =
+    let r = c.from_residual-in_err-answer in
+    let p = err_from_is_err_and r.result r.ensures.1 in
+    rw (p.1, p.2) (halts_memory _ _ _)
 
 -- all was read, and the answer has the lines of the spans
 pub returns-clause-ok : goal.returns-clause-ok
