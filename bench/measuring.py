@@ -26,20 +26,22 @@ def apart(make, *arguments):
         sys.exit("the data could not be written")
 
 
-def run(arguments, output=OUT, environment=None):
+def run(arguments, output=OUT, environment=None, wanted=0):
     """The seconds of a processor, and the peak of resident memory in bytes, of one run. Its output goes to a file, since
     grep stops at its first match where it is thrown away. No program here has a second thread, so these seconds are
-    those that a user waits where nothing else runs.
+    those that a user waits where nothing else runs. A run that is to be refused says so in a line that isn't shown.
 
     The peak is never below this script's own, which the new process begins with.
     """
     child = os.fork()
     if child == 0:
         os.dup2(os.open(output, os.O_WRONLY | os.O_CREAT | os.O_TRUNC, 0o644), 1)
+        if wanted:
+            os.dup2(os.open(os.devnull, os.O_WRONLY), 2)
         os.execvpe(arguments[0], arguments, environment or os.environ)
     _, status, usage = os.wait4(child, 0)
-    if os.waitstatus_to_exitcode(status) != 0:
-        sys.exit(f"{arguments[0]} failed with {status}")
+    if os.waitstatus_to_exitcode(status) != wanted:
+        sys.exit(f"{arguments[0]} ended with {os.waitstatus_to_exitcode(status)}")
     return usage.ru_utime + usage.ru_stime, usage.ru_maxrss * 1024
 
 

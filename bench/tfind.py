@@ -1,17 +1,20 @@
 #!/usr/bin/env python3
 """Times `unitex tfind` over the automata of texts of 1, 2 and 4 MB with three graphs: one item that no reading meets,
-so that little more than the reading of the file is timed, a noun phrase with a called graph, and every stretch of up to
-three readings. Beside them stands `unitex elag` with one rule that removes nothing, which reads the same file. Then what
-could cost more than its size: one long sentence, and an automaton whose states have huge numbers. Prints the best of
-three runs in turn, and peak memory by the size of the file.
+a noun phrase with a called graph, and every stretch of up to three readings. Beside them stands the reading of the file
+alone, and `unitex elag` with one rule that removes nothing. Then what could cost more than its size: one long sentence,
+and an automaton whose states have huge numbers. Prints the best of three runs in turn, each by the time of reading alone,
+and peak memory by the size of the file.
 
-Needs the built program (make build), and the automata that bench/sentences.py writes (bench/data).
+What reading takes is told by the first graph over the same file, but for its last line, which says nothing: `tfind` reads
+and checks a file to its end before it searches the first sentence, so that run ends in a refusal after all has been read.
+
+Needs the built program (make build), and a folder to write to (bench/data).
 """
 import os
-import sys
 
-from measuring import DATA, PROGRAM, RUNS, least, prepare, run
-from sentences import KINDS, SIZES, automata, path, words_of_two_readings, write_graph, write_rules
+from dico import ALPHABET
+from measuring import PROGRAM, RUNS, apart, least, prepare, run
+from sentences import KINDS, SIZES, automata, path, words_of_two_readings, write, write_graph, write_rules
 
 # Each a main graph's chains of boxes, and those of a graph that it calls.
 GRAPHS = {
@@ -20,23 +23,34 @@ GRAPHS = {
     "any": [["<TOKEN>"], ["<TOKEN>", "<TOKEN>"], ["<TOKEN>", "<TOKEN>", "<TOKEN>"]],
 }
 PART = [["<DET>", "<N>"], ["<DET>", "<A>", "<N>"]]
+# The status of a run that refuses a file.
+REFUSED = 3
 
 
 def words(name, tfst):
     return [PROGRAM, "tfind", path(f"{name}.grf"), tfst, path("letters.txt")]
 
 
-def told(name, runs, tfst):
-    seconds, memory = least(runs)
-    print(f"  {name:8}  {seconds:.3f} s  {memory / 1e6:.1f} MB  {memory / os.path.getsize(tfst):.1f} of its file")
+def broken(tfst):
+    """Writes the same file with a last line that says nothing, and gives its path."""
+    with open(tfst, "rb") as file:
+        content = file.read()
+    with open(path("broken.tfst"), "wb") as file:
+        file.write(content[:content.rindex(b"\n", 0, -1) + 1] + b"x\n")
+    return path("broken.tfst")
 
 
 def searches(tfst):
-    programs = [("elag", [PROGRAM, "elag", tfst, path("any_rule.grf")])]
-    programs += [(name, words(name, tfst)) for name in GRAPHS]
-    runs = [[run(it) for _, it in programs] for _ in range(RUNS)]
-    for (name, _), column in zip(programs, zip(*runs)):
-        told(name, column, tfst)
+    apart(broken, tfst)
+    programs = [("reading alone", words("nothing", path("broken.tfst")), REFUSED)]
+    programs += [("elag", [PROGRAM, "elag", tfst, path("any_rule.grf")], 0)]
+    programs += [(name, words(name, tfst), 0) for name in GRAPHS]
+    runs = [[run(it, wanted=status) for _, it, status in programs] for _ in range(RUNS)]
+    columns = [least(column) for column in zip(*runs)]
+    alone, _ = columns[0]
+    for (name, _, _), (seconds, memory) in zip(programs, columns):
+        print(f"  {name:13}  {seconds:.3f} s  {seconds / alone:.2f} of reading  {memory / 1e6:.1f} MB"
+              f"  {memory / os.path.getsize(tfst):.1f} of its file")
 
 
 def huge_states(count):
@@ -56,9 +70,10 @@ def main():
     for name, chains in GRAPHS.items():
         write_graph(f"{name}.grf", chains)
     write_graph("part.grf", PART)
+    with open(path("letters.txt"), "w", encoding="utf-8") as file:
+        file.write(ALPHABET)
+    apart(write)
     for kind, size in ((kind, size) for kind in KINDS for size in SIZES):
-        if not os.path.exists(path(f"{kind}{size}.txt")):
-            sys.exit("write the texts first: bench/sentences.py")
         tfst = automata(kind, size)
         print(f"automata of {os.path.getsize(tfst) / 1e6:.1f} MB, of a {kind} text of {size / 1e6:.0f} MB")
         searches(tfst)
