@@ -12,7 +12,8 @@
 # `make images` changes each byte of two small images, and compares what the built program says with a reading by itself.
 # `make wrong-bodies NAMES="ux_dela ux_dict"` tries the wrong bodies of these crates that the gate leaves out, each of which the
 # prover has to refuse; `make wrong-bodies SINCE=COMMIT` those of each crate whose own files differ from that commit's, and
-# `make wrong-bodies` all of them, which takes hours where little of it was tried before.
+# `make wrong-bodies` all of them, which takes hours where little of it was tried before. With KEPT=1 it takes the crates from what
+# `rt ci` passed on this machine, in place of checking them first.
 # `make gate` is the merge gate and the test command.
 
 PREFIX ?= /usr/local
@@ -80,7 +81,7 @@ images:
 	@bench/image_bytes.py
 
 wrong-bodies:
-	@.ci/wrong_bodies.py $(if $(SINCE),--since $(SINCE)) $(NAMES)
+	@.ci/wrong_bodies.py $(if $(SINCE),--since $(SINCE)) $(if $(KEPT),--kept) $(NAMES)
 
 gate:
 	@.ci/run

@@ -1,7 +1,7 @@
 #!/usr/bin/env python3
 """Tries wrong bodies: the edits of crates/NAME/wrong-bodies, each of which the prover of its crate must refuse.
 
-    .ci/wrong_bodies.py [--since COMMIT] [NAME ..]
+    .ci/wrong_bodies.py [--since COMMIT] [--kept] [NAME ..]
 
 Tries those of the crates that are named. With no name: of all crates that have such a folder, or with --since of those whose
 own files differ from that commit's. Edits in crates/NAME/must-fail are tried by the gate, and not here.
@@ -9,6 +9,9 @@ own files differ from that commit's. Edits in crates/NAME/must-fail are tried by
 Each crate is checked first, as it stands, so that what is proved stays in its out/. Then the crates are copied into a temporary
 folder, where the wrong bodies take the place of the edits in must-fail/, and `rt must-fail NAME` tries them. It begins with what
 the check kept, and tells of an edit that was tried before, over the same files, what it came to.
+
+With --kept nothing is checked before: `rt ci` tries them in such a folder, which takes each crate as it is from what it passed
+earlier on this machine. That is shorter where the gate has passed these files, and no check was run in this clone.
 
 The last line counts. The status is 1 where a crate isn't proved, or a wrong body isn't refused, is bad or wasn't tried.
 """
@@ -57,8 +60,9 @@ def link_or_copy(one, other):
         shutil.copy2(one, other)
 
 
-def copied(to):
-    """A copy of the crates, with the libraries that are built, and with wrong bodies in the place of the gate's edits."""
+def copied(to, trying):
+    """A copy of the crates, with the libraries that are built. Those to be tried have their wrong bodies in the place of the
+    gate's edits, and the others have no edits."""
     for name in ("crates.txt", "HANDLES"):
         shutil.copy2(os.path.join(TOP, name), to)
     for crate in sorted(os.listdir(CRATES)):
@@ -66,18 +70,25 @@ def copied(to):
         shutil.copytree(here, there, ignore=lambda at, names: {"out", "must-fail", FOLDER} & {*names} if at == here else ())
         if os.path.isdir(os.path.join(here, "out", "rlib")):
             shutil.copytree(os.path.join(here, "out", "rlib"), os.path.join(there, "out", "rlib"), copy_function=link_or_copy)
-        if os.path.isdir(os.path.join(here, FOLDER)):
+        if crate in trying:
             shutil.copytree(os.path.join(here, FOLDER), os.path.join(there, "must-fail"))
 
 
-def told(crate, room):
-    """Runs `rt must-fail`, prints what it says as it comes, and gives its lines and its status."""
-    lines, words = [], ["rt", "must-fail", crate]
-    with subprocess.Popen(words, cwd=room, stdout=subprocess.PIPE, stderr=subprocess.STDOUT, text=True, errors="replace") as ran:
-        for line in ran.stdout:
-            print(line, end="", flush=True)
-            lines.append(line)
-    return lines, ran.returncode
+def told(words, trying, counts):
+    """Runs these words over a copy, prints what they say as it comes, counts what the edits come to, and tells whether all
+    is well."""
+    with tempfile.TemporaryDirectory(prefix="wrong-bodies-") as room:
+        copied(room, trying)
+        with subprocess.Popen(words, cwd=room, stdout=subprocess.PIPE, stderr=subprocess.STDOUT, text=True, errors="replace") as ran:
+            for line in ran.stdout:
+                print(line, end="", flush=True)
+                verdict = VERDICT.match(line)
+                if verdict:
+                    counts[verdict[1]] += 1
+                    counts["by no contract"] += verdict[2] is not None
+                elif BAD_NAME.match(line):
+                    counts["BAD EDIT"] += 1
+    return not ran.returncode
 
 
 def tried(crate, counts):
@@ -87,27 +98,22 @@ def tried(crate, counts):
     if check.returncode:
         print(check.stdout.decode(errors="replace") + f"{crate}: not proved, so its wrong bodies weren't tried", flush=True)
         return False
-    with tempfile.TemporaryDirectory(prefix="wrong-bodies-") as room:
-        copied(room)
-        lines, status = told(crate, room)
-    for line in lines:
-        verdict = VERDICT.match(line)
-        if verdict:
-            counts[verdict[1]] += 1
-            counts["by no contract"] += verdict[2] is not None
-        elif BAD_NAME.match(line):
-            counts["BAD EDIT"] += 1
-    return not status
+    return told(["rt", "must-fail", crate], [crate], counts)
 
 
 def main():
     words = argparse.ArgumentParser(description=__doc__.split("\n")[0])
     words.add_argument("--since", metavar="COMMIT", help="only crates whose own files differ from those of this commit")
+    words.add_argument("--kept", action="store_true", help="take the crates as they are from what rt ci passed on this machine")
     words.add_argument("names", metavar="NAME", nargs="*")
     given = words.parse_args()
     counts = dict.fromkeys(("refused", "NOT REFUSED", "BAD EDIT", "NOT TRIED", "by no contract"), 0)
     crates = chosen(given.names, given.since)
-    failed = [crate for crate in crates if not tried(crate, counts)]
+    if given.kept:
+        # A bad edit fails nothing in `rt ci`.
+        failed = crates if not told(["rt", "ci", *crates], crates, counts) or counts["BAD EDIT"] else []
+    else:
+        failed = [crate for crate in crates if not tried(crate, counts)]
     apart = f" ({counts['by no contract']} of them only by a name or a limit)" if counts["by no contract"] else ""
     print(
         f"wrong bodies: {counts['refused']} refused{apart}, {counts['NOT REFUSED']} not refused, "
