@@ -1,7 +1,7 @@
 #!/usr/bin/env python3
 """The morphological mode, timed by what may grow, one thing at a time: different words (texts of 1, 2 and 4 million bytes, whose words
-come eight times each, by one graph and one dictionary); the graph (100 to 100,000 prefixes beside the one that the words have); and
-the dictionary (4,000 to 400,000 lines).
+come eight times each, by one graph and one dictionary); the graph (100 to 100,000 prefixes, behind a letter that no word has, and
+then beside the prefix that all words have); and the dictionary (4,000 to 400,000 lines).
 
 The graph takes `un` and then an adjective of the dictionary, which has half of what stands behind it. Beside each run stands one with
 the same files over a text of as many words that are all the same: what the first takes more is spent on its other words. Prints the
@@ -57,10 +57,14 @@ def adjectives(forms):
     return write("morphological.dic", "".join(f"{form},.A\n" for form in sorted(forms)))
 
 
-def undoing(others=()):
-    """A graph that takes `un` or one of the other prefixes, and then an adjective."""
-    chain = ["$<", "+".join(["un", *others]), "$x(", "<A>", "$x)", "<E>/$x$.A+neg", "$>"]
+def undoing(beside=(), behind=()):
+    """A graph that takes `un` or one of the prefixes beside it, or a letter that no word has and one of the prefixes behind it, and
+    then an adjective."""
+    chain = ["$<", "+".join(["un", *beside]), "$x(", "<A>", "$x)", "<E>/$x$.A+neg", "$>"]
     boxes = [(box, [place + 3 if place + 1 < len(chain) else 1]) for place, box in enumerate(chain)]
+    if behind:
+        boxes[0][1].append(len(boxes) + 2)
+        boxes += [("é", [len(boxes) + 3]), ("+".join(behind), [4])]
     return write("morphological.grf", graph([("<E>", [2]), ("", []), *boxes]))
 
 
@@ -71,7 +75,7 @@ def timed(name, main, dic, found):
     alone, _ = best([*words, one, letters(), dic])
     seconds, memory = best([*words, many, letters(), dic])
     each = 1e6 * (seconds - alone) / (len(found) - 1)
-    print(f"  {name:24} {seconds:7.3f} s, one word {alone:6.3f} s, {each:7.1f} microseconds a different word,"
+    print(f"  {name:28} {seconds:7.3f} s, one word {alone:6.3f} s, {each:7.1f} microseconds a different word,"
           f" {memory / 1e6:6.1f} MB, {lines(OUT)} lines")
 
 
@@ -90,7 +94,9 @@ def by_graph():
     found = stems(FEW)
     dic = adjectives(sorted(found)[::2])
     for count in PREFIXES:
-        timed(f"{count} prefixes", undoing(prefixes(count)), dic, found)
+        timed(f"{count} prefixes, none met", undoing(behind=prefixes(count)), dic, found)
+    for count in PREFIXES:
+        timed(f"{count} prefixes, all met", undoing(beside=prefixes(count)), dic, found)
 
 
 def by_dictionary():
