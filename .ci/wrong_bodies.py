@@ -1,7 +1,7 @@
 #!/usr/bin/env python3
 """Tries wrong bodies: the edits of crates/NAME/wrong-bodies, each of which the prover of its crate must refuse.
 
-    .ci/wrong_bodies.py [--since COMMIT] [--kept] [NAME ..]
+    .ci/wrong_bodies.py [--since COMMIT] [--kept | --look] [NAME ..]
 
 Tries those of the crates that are named. With no name: of all crates that have such a folder, or with --since of those whose
 own files differ from that commit's. Edits in crates/NAME/must-fail are tried by the gate, and not here.
@@ -12,6 +12,8 @@ the check kept, and tells of an edit that was tried before, over the same files,
 
 With --kept nothing is checked before: `rt ci` tries them in such a folder, which takes each crate as it is from what it passed
 earlier on this machine. That is shorter where the gate has passed these files, and no check was run in this clone.
+
+With --look nothing is tried: it says which of them can't be applied any more, since the line that they change is gone.
 
 The last line counts. The status is 1 where a crate isn't proved, or a wrong body isn't refused, is bad or wasn't tried.
 """
@@ -50,6 +52,40 @@ def chosen(names, commit):
         return [name for name in having if name in names]
     changed = changed_since(commit) if commit else having
     return [name for name in having if name in changed]
+
+
+def why_not_applied(crate, edit):
+    """Why the edit of the crate can't be applied, or nothing where it can."""
+    path, old, texts = None, None, {}
+    with open(edit, encoding="utf-8") as file:
+        lines = file.read().split("\n")
+    for line in lines:
+        if line.startswith("file: "):
+            path = os.path.join(CRATES, crate, line.removeprefix("file: ").strip())
+            if not os.path.isfile(path):
+                return f"there is no {os.path.relpath(path, TOP)}"
+            if path not in texts:
+                with open(path, encoding="utf-8") as file:
+                    texts[path] = file.read()
+        elif line.startswith("old: "):
+            old = line.removeprefix("old: ")
+            count = texts[path].count(old)
+            if count != 1:
+                return f"its text stands {count} times in {os.path.relpath(path, TOP)}"
+        elif line.startswith("new:"):
+            texts[path] = texts[path].replace(old, line.removeprefix("new:").removeprefix(" "))
+    return None
+
+
+def looked(crate):
+    """Says which wrong bodies of the crate can't be applied, and tells whether all can."""
+    folder, all_well = os.path.join(CRATES, crate, FOLDER), True
+    for name in sorted(os.listdir(folder)):
+        why = why_not_applied(crate, os.path.join(folder, name))
+        if why:
+            all_well = False
+            print(f"{crate}/{name}: {why}")
+    return all_well
 
 
 def link_or_copy(one, other):
@@ -105,10 +141,15 @@ def main():
     words = argparse.ArgumentParser(description=__doc__.split("\n")[0])
     words.add_argument("--since", metavar="COMMIT", help="only crates whose own files differ from those of this commit")
     words.add_argument("--kept", action="store_true", help="take the crates as they are from what rt ci passed on this machine")
+    words.add_argument("--look", action="store_true", help="only say which wrong bodies can't be applied any more")
     words.add_argument("names", metavar="NAME", nargs="*")
     given = words.parse_args()
     counts = dict.fromkeys(("refused", "NOT REFUSED", "BAD EDIT", "NOT TRIED", "by no contract"), 0)
     crates = chosen(given.names, given.since)
+    if given.look:
+        stale = [crate for crate in crates if not looked(crate)]
+        print(f"wrong bodies: {'all can be applied' if not stale else 'not all can be applied'}")
+        return 1 if stale else 0
     if given.kept:
         # A bad edit fails nothing in `rt ci`.
         failed = crates if not told(["rt", "ci", *crates], crates, counts) or counts["BAD EDIT"] else []
