@@ -1,0 +1,16 @@
+pub mod SetsLemmas
+pub mod FollowsLemmas
+pub mod MovesLemmas
+pub mod RunsLemmas
+pub mod MeaningLemmas
+pub mod SoundLemmas
+pub mod CompleteLemmas
+pub mod ReachingLemmas
+pub mod GoingLemmas
+pub mod GroupsLemmas
+pub mod OutputsLemmas
+pub mod PutLemmas
+pub mod GatheringLemmas
+pub mod MarkingLemmas
+pub mod MarkedLemmas
+pub mod StateLemmas

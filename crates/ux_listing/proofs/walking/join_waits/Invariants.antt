@@ -1,0 +1,14 @@
+use Rattle.std.proofs.Common.{◌≡◌, ℕ}
+use Rattle.ux_listing.specs.Reaching.{AreJoined, StaysTold}
+use Rattle.ux_listing.proofs.ReachingLemmas.{PairsOf}
+use Rattle.ux_listing.proofs.walking.join_waits.Given as goal
+
+-- the pairs so far were joined
+abbrev pub invariant-loop-caller : goal.invariant-loop-caller
+invariant-loop-caller g l = record {
+  origins : g.O.Origins.is_sound l.origins;
+  told : StaysTold (g.O.Origins.told l.fn.origins) (g.O.Origins.told l.origins);
+  joined : AreJoined (g.M.Marks.marked l.marks)
+      (PairsOf (λ (i : ℕ) (a b : ℕ). (a ≡ i) × (b ≡ l.end)) l.waits l.caller-index) l.fn.seen.keys l.seen.keys
+      (g.O.Origins.told l.origins);
+}
