@@ -1,6 +1,6 @@
 #!/usr/bin/env python3
-"""Refuses each request for memory in turn, over small searches, dictionaries, images, compiled grammars, sentences and
-rules: the run then ends as it would have, or in status 7 with nothing written to standard output.
+"""Refuses each request for memory in turn, over small runs of all commands: the run then ends as it would have, or in status 7
+with nothing written to standard output.
 
 A small library, compiled by cc, stands before the C library's `malloc` and `realloc` (LD_PRELOAD) and refuses the request of
 one number; each number is tried up to those that the run makes. Prints how many requests a run makes and how the runs ended,
@@ -73,15 +73,29 @@ FILES = {
     "call.grf": graph([("<E>", [2]), ("", []), ("a", [3, 1]), (":call", [1])]),
     "twice.grf": graph([("<E>", [2, 5]), ("", []), ("a", [3]), (":twice", [4]), (":twice", [1]), ("a", [1])]),
     "bad.dic": "a,N1\n,N2\n",
-    "s.dic": "cat,N1\npony,N2\n",
-    "N1.grf": graph([("<E>", [2, 3]), ("", []), ("<E>/:s", [1]), ("s/:p", [1])]),
-    "N2.grf": graph([("<E>", [2]), ("", []), ("D", [3]), (":ies", [1])]),
+    "peler.dic": "peler,V5\n",
+    "V5.grf": graph([("<E>", [2]), ("", []), ("LLLLèRR/:P3s", [1])]),
+    "regret.dic": "regret,A1\n",
+    "A1.grf": graph([("<E>", [2]), ("", []), ("LCRable/:s", [1])]),
+    "european.dic": "european,N2\n",
+    "N2.grf": graph([("<E>", [2]), ("", []), ("LDRi/:p", [1])]),
+    "short.dic": "a,N1\n",
+    "N1.grf": graph([("<E>", [2]), ("", []), ("LL/:s", [1])]),
+    "pony.dic": "cat,N3\npony,N4\n",
+    "N3.grf": graph([("<E>", [2, 3]), ("", []), ("<E>/:s", [1]), ("s/:p", [1])]),
+    "N4.grf": graph([("<E>", [2]), ("", []), ("D", [3]), (":ies", [1])]),
     "ies.grf": graph([("<E>", [2]), ("", []), ("ies/:p", [1])]),
     "run.txt": "the run",
     "run.dic": "the,.DET\nrun,.N:s\nrun,.V:W\n",
     "run.tfst": "#TFST 1\nS 1 3 3\n0 1 {the,.DET}\n1 2 {run,.N:s}\n1 2 {run,.V:W}\n",
     "r.grf": graph([("<E>", [2, 7]), ("", []), ("<!>", [3]), ("<DET>", [4]), ("<!>", [5]), ("<V>", [6]), ("<!>", [1]),
                     ("<=>", [8]), ("<DET>", [9]), ("<=>", [10]), ("<N>", [11]), ("<=>", [1])]),
+    "empty.grf": graph([("<E>", [2]), ("", []), ("<!>", [3]), ("<DET>", [4]), ("<!>", [5]), ("<TOKEN>", [6]), ("<!>", [1])]),
+    "un.txt": "unhappy redo",
+    "un.dic": "happy,.A\ndo,.V:W\n",
+    "un.grf": graph([("<E>", [2]), ("", []), ("$<", [3]), ("un", [4]), ("$x(", [5]), ("<A>", [6]), ("$x)", [7]),
+                     ("<E>/$x$.A+neg", [8]), ("$>", [1])]),
+    "no_codes.grf": graph([("<E>", [2]), ("", []), ("$<", [3]), ("un<A>/x", [4]), ("$>", [1])]),
 }
 SEARCH = ("locate", "--mode", "merge", "g.grf", "t.txt", "a.txt")
 # Files that the program itself writes, and the words by which it does.
@@ -100,17 +114,27 @@ ROWS = [
     ("dico", "t.txt", "a.txt", "d.dic"),
     ("txt2tfst", "run.txt", "a.txt", "run.dic"),
     ("elag", "run.tfst", "r.grf"),
+    ("elag", "run.tfst", "empty.grf"),
     ("tfind", "g.grf", "run.tfst", "a.txt"),
     ("fst2", "g.grf", "a.txt"),
     ("fst2", "g.fst2", "a.txt"),
     ("flatten", "--depth", "3", "call.grf", "a.txt"),
-    ("inflect", "s.dic"),
+    ("inflect", "peler.dic"),
+    ("inflect", "regret.dic"),
+    ("inflect", "european.dic"),
+    ("inflect", "pony.dic"),
+    ("morpho", "un.grf", "un.txt", "a.txt", "un.dic"),
     ("bench", "5"),
-    # These end otherwise: a dictionary that is none, a file that isn't there, words that are no request.
+    # These end otherwise: files that aren't of their format, one that isn't there, words that are no request.
+    (*SEARCH, "cut.udi"),
+    (*SEARCH, "longer.udi"),
     ("check", "t.txt"),
     ("check", "nothing.dic"),
     ("flatten", "--depth", "100", "twice.grf", "a.txt"),
     ("inflect", "bad.dic"),
+    ("inflect", "short.dic"),
+    ("morpho", "g.grf", "un.txt", "a.txt", "un.dic"),
+    ("morpho", "no_codes.grf", "un.txt", "a.txt", "un.dic"),
     ("check",),
 ]
 
@@ -130,6 +154,11 @@ def prepared(program):
     for name, words in WRITTEN.items():
         with open(os.path.join(FOLDER, name), "wb") as file:
             file.write(run([program, *words])[1])
+    with open(os.path.join(FOLDER, "d.udi"), "rb") as file:
+        image = file.read()
+    for name, content in {"cut.udi": image[:-1], "longer.udi": image + b"\0"}.items():
+        with open(os.path.join(FOLDER, name), "wb") as file:
+            file.write(content)
     source, library = [os.path.join(FOLDER, name) for name in ("refusing.c", "refusing.so")]
     with open(source, "w", encoding="utf-8") as file:
         file.write(LIBRARY)
@@ -141,13 +170,14 @@ def main():
     program = os.path.abspath(sys.argv[1] if len(sys.argv) > 1 else measuring.PROGRAM)
     if not os.access(program, os.X_OK):
         sys.exit("build the program first: make build")
-    library, count, failed = prepared(program), os.path.join(FOLDER, "count"), 0
+    library, count, failed, refused = prepared(program), os.path.join(FOLDER, "count"), 0, 0
     for words in ROWS:
         whole = run([program, *words])
         if run([program, *words], LD_PRELOAD=library, COUNT=count) != whole:
             sys.exit("the library changes what is answered")
         with open(count, encoding="utf-8") as file:
             requests = int(file.read())
+        refused += requests
         ends = collections.Counter()
         for number in range(1, requests + 1):
             ended = run([program, *words], LD_PRELOAD=library, REFUSED=str(number))
@@ -160,7 +190,7 @@ def main():
                 print(f"{' '.join(words)}: request {number}: {ended}")
         told = ", ".join(f"{name} {times}" for name, times in sorted(ends.items()))
         print(f"{' '.join(words)}: {requests} requests, each refused: {told}", flush=True)
-    print(f"{failed} ended otherwise")
+    print(f"{len(ROWS)} runs, {refused} refused requests, {failed} ended otherwise")
     sys.exit(1 if failed else 0)
 
 
