@@ -8,6 +8,7 @@ definitions are missing.
   crate's contracts.
 - Each wrong body in a table of docs/PROVED.md is an edit that the gate tries.
 - Each definition that a clause of a public function cites stands in docs/DEFINITIONS.md.
+- Each crate stands in docs/ARCHITECTURE.md, and each reason for which a file is refused in docs/ERRORS.md.
 - Each link of a document leads to a file of the repository, and to a heading of it where it names one. A page that a
   document names, it names by a link.
 - The README's table of speed says what docs/BENCHMARKS.md says.
@@ -178,6 +179,24 @@ def cited():
     return found
 
 
+def listed(problems):
+    """Looks for each crate, and for each reason of a refusal: the variants of the errors that crates/ux_reasons lists."""
+    page = text_of(os.path.join(TOP, "docs", "ARCHITECTURE.md"))
+    crates = re.findall(r"^(\w+):", text_of(os.path.join(TOP, "crates.txt")), re.M)
+    problems += [f"docs/ARCHITECTURE.md: the crate {name} is missing"
+                 for name in crates if f"`{name}`" not in page and not name.startswith("ux_cmd_")]
+    page = text_of(os.path.join(TOP, "docs", "ERRORS.md"))
+    source = text_of(os.path.join(CRATES, "ux_reasons", "src", "reason.rt"))
+    found = re.findall(r"^    (\w+),$", source, re.M)
+    for crate, error in re.findall(r"^use (ux_\w+)::(\w+Error);", source, re.M):
+        files = "".join(map(text_of, glob.glob(os.path.join(CRATES, crate, "src", "*.rt"))))
+        for variants in re.findall(rf"^pub enum {error}\b[^{{]*\{{\n(.*?)^\}}", files, re.M | re.S):
+            found += re.findall(r"^    (\w+)", variants, re.M)
+    # What a reader answers where memory ends is a status of its own, and a graph that isn't there is an absent file.
+    problems += [f"docs/ERRORS.md: the reason {name} is missing" for name in sorted(set(found) - {"NoMemory", "MissingGraph"})
+                 if f"`{name}" not in page]
+
+
 def fragment(heading):
     """How a link names a heading: in lower case, with hyphens for spaces and without other signs."""
     return re.sub(r"[^\w -]", "", heading.strip().lower()).replace(" ", "-")
@@ -240,6 +259,7 @@ def main():
     for (word, crate, file), function in sorted(cited().items(), key=lambda pair: pair[0][1:]):
         if (crate, word) not in words:
             problems.append(f"docs/DEFINITIONS.md: {word} of {crate}/specs/{file}.antt is missing, cited by {function}")
+    listed(problems)
     links = linked(problems)
     copied(problems)
     quoted(problems)
