@@ -1,8 +1,8 @@
 # `make unproved` builds the program without a proof, in some minutes: crates/unitex/out/unitex-unproved, whose --version says
 # that it is unproved.
 # `make example` searches the text of examples/ by its graphs, in as much time, and leaves no program.
-# `make build` proves all crates on which the program depends, lowest first, and builds it: crates/unitex/out/unitex. From nothing
-# that takes some four hours of a processor, as its parts add up.
+# `make build` proves all crates on which the program depends, lowest first, and builds it: crates/unitex/out/unitex. From
+# nothing that takes some four hours of a processor, as its parts add up.
 # `make tour` runs every example of the documents by the built program, and compares with what they show.
 # `make rows` runs the rows of the top call by the built program over real files, and compares.
 # `make install PREFIX=DIR` puts the built program, its manual page, the documents and their examples under DIR.
