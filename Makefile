@@ -4,7 +4,8 @@
 # `make build` proves all crates on which the program depends, lowest first, and builds it: crates/unitex/out/unitex. From
 # nothing that takes some four hours of a processor, as its parts add up.
 # `make tour` runs every example of the documents by the built program, and compares with what they show.
-# `make rows` runs the rows of the top call by the built program over real files, and compares.
+# `make rows` runs the rows of the top call by the built program over real files, and compares, also where a file can't be read
+# or is too long.
 # `make install PREFIX=DIR` puts the built program, its manual page, the documents and their examples under DIR.
 # `make bench` times searches beside GNU grep, the tokens of a text beside a C program, dictionaries beside wc and
 # grep, and images beside a map of the crate fst, which it compiles from Debian's package of its sources.
@@ -49,6 +50,7 @@ tour:
 
 rows:
 	@.ci/rows.py
+	@.ci/faults.py
 
 install:
 	@test -x crates/unitex/out/unitex || { echo 'build the program first: make build' >&2; exit 1; }
