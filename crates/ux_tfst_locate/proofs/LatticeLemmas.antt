@@ -1,5 +1,5 @@
 -- Links that become arcs between positions, one after another.
-use Rattle.std.proofs.Common.{arith, ◌≡◌, ℕ, ◌+◌, ◌<◌, ◌≤◌, ◌↔◌, List, [], ◌∷◌, ◌++◌, Bool, true, false, ◌&&◌, inl, inr, refl, sym, ◌∙◌, ap, subst, length, get_or, set, eqb}
+use Rattle.std.proofs.Common.{arith, ◌≡◌, ℕ, ◌+◌, ◌<◌, ◌≤◌, ◌↔◌, List, [], ◌∷◌, ◌++◌, Bool, true, false, ◌&&◌, ◌⊎◌, inl, inr, refl, sym, ◌∙◌, ap, subst, length, get_or, set, eqb}
 use Rattle.std.specs.Prelude.{◌==◌, All, Contains, Some, flat_map, map, slice_get}
 use Rattle.std.specs.Ordering.{nat_cmp, ordering_then}
 use Rattle.std.specs.declared.cmp.Ordering.TheVariants.{Less, Equal}
@@ -10,7 +10,7 @@ use Rattle.std.proofs.lemmas.List.Elements.{Contains-push, Contains-push_cases, 
 use Rattle.std.proofs.lemmas.Map.Keys.{Less-from_sorted}
 use Rattle.std.proofs.lemmas.Option.{get_or_from_slice_get, slice_get_within}
 use Rattle.ux_base.proofs.JoinedLists.{contained_joined, contains_joined}
-use Rattle.ux_base.proofs.Lists.{contains_first, contains_later, nothing_in, same_or}
+use Rattle.ux_base.proofs.Lists.{contains_first, contains_later, first_or_later, nothing_in, same_or}
 use Rattle.ux_base.proofs.OrderedLists.{Contains-at}
 use Rattle.ux_tfst_locate.specs.declared.lattice.Arc.{Arc}
 use Rattle.ux_tfst_locate.specs.declared.lattice.Place.{Place}
@@ -68,6 +68,73 @@ module _ (links : List SentenceLink) (places : List Place)
       (link : SentenceLink) × Contains links link × Contains (ends_of link) place
   owned i place at = contained_joined ends_of links place
       ((same place).0 (Contains-at places place i at))
+
+-- a place is pushed
+pub place_pushed : (old new : List Place) (place : Place) → new ≡ old ++ place ∷ [] →
+    (other : Place) → Contains new other ↔ (Contains old other ⊎ (other ≡ place))
+place_pushed old new place is other =
+    subst (λ (l : List Place). Contains l other ↔ (Contains old other ⊎ (other ≡ place))) (sym is) (
+      λ has. elim (Contains-push_cases old place other has) [
+        | inl before ↦ inl before
+        | inr same ↦ inr (sym same)
+      ],
+      λ either. elim either [
+        | inl before ↦ Contains-append_left old (place ∷ []) other before
+        | inr same ↦ subst (λ (p : Place). Contains (old ++ place ∷ []) p) (sym same)
+            (Contains-push old place)
+      ],
+    )
+
+-- of no links there is no state
+pub ends_none : (places : List Place) → places ≡ [] → (place : Place) →
+    Contains places place ↔ Contains (flat_map ends_of []) place
+ends_none places none place = (
+  λ has. absurd (nothing_in (subst (λ (l : List Place). Contains l place) none has)),
+  λ has. absurd (nothing_in has),
+)
+
+module _ (front : List SentenceLink) (link : SentenceLink) (old mid new : List Place)
+    (was : (place : Place) → Contains old place ↔ Contains (flat_map ends_of front) place)
+    (from : (place : Place) → Contains mid place ↔ (Contains old place ⊎ (place ≡ from_of link)))
+    (to : (place : Place) → Contains new place ↔ (Contains mid place ⊎ (place ≡ to_of link))) where
+  abbrev pub all : List SentenceLink
+  all = front ++ link ∷ []
+
+  at_link : (place : Place) → Contains (ends_of link) place → Contains (flat_map ends_of all) place
+  at_link place inside = contains_joined ends_of all link place (Contains-push front link) inside
+
+  -- the states of one more link are added
+  pub ends_more : (place : Place) → Contains new place ↔ Contains (flat_map ends_of all) place
+  ends_more place = (
+    λ has. elim ((to place).0 has) [
+      | inl before ↦ elim ((from place).0 before) [
+        | inl earlier ↦
+            let of = contained_joined ends_of front place ((was place).0 earlier) in
+            contains_joined ends_of all of.0 place
+            (Contains-append_left front (link ∷ []) of.0 of.1) of.2
+        | inr same ↦ at_link place (subst (Contains (ends_of link)) (sym same)
+            (contains_first (from_of link) (to_of link ∷ [])))
+      ]
+      | inr same ↦ at_link place (subst (Contains (ends_of link)) (sym same)
+          (contains_later (from_of link) (to_of link ∷ []) (to_of link)
+          (contains_first (to_of link) [])))
+    ],
+    λ has.
+        let of = contained_joined ends_of all place has in
+        elim (Contains-push_cases front link of.0 of.1) [
+          | inl earlier ↦ (to place).1 (inl ((from place).1 (inl ((was place).1
+              (contains_joined ends_of front of.0 place earlier of.2)))))
+          | inr same ↦
+              let inside = subst (λ (l : SentenceLink). Contains (ends_of l) place) (sym same) of.2 in
+              elim (first_or_later (from_of link) (to_of link ∷ []) place inside) [
+                | inl first ↦ (to place).1 (inl ((from place).1 (inr (sym first))))
+                | inr later ↦ elim (first_or_later (to_of link) [] place later) [
+                  | inl second ↦ (to place).1 (inr (sym second))
+                  | inr nothing ↦ absurd (nothing_in nothing)
+                ]
+              ]
+        ],
+  )
 
 module _ (places : List Place) where
   -- no link has an arc yet

@@ -3,8 +3,9 @@
 //! Only states that links have get positions, in the order of the sentences and of the states. So a
 //! sentence may tell of any number of states, and each arc leads to a later position.
 
-ghost use Rattle.std.specs.Prelude.{◌≡◌, ◌↔◌, ℕ, ◌<◌, ◌++◌, ◌∷◌, [], All, Contains, IfOk, OnOk, flat_map, length, map, slice_set, get_or};
+ghost use Rattle.std.specs.Prelude.{◌≡◌, ◌↔◌, ◌⊎◌, ℕ, ◌<◌, ◌++◌, ◌∷◌, [], All, Contains, IfOk, IsTrue, OnOk, flat_map, length, map, slice_get, slice_set, get_or};
 ghost use Rattle.std.specs.List.Sorted.{IsStrictlySortedBy};
+ghost use Rattle.ux_tfst_locate.specs.declared.lattice.Place.{Place as PlaceRecord};
 ghost use Rattle.ux_tfst_locate.specs.Lattices.{HasEnds, HaveArcs, IsArcOf, IsAt, IsLattice, ends_of, from_of as from_place, place_cmp, to_of as to_place};
 
 use crate::ranks::{in_order, place_of};
@@ -57,7 +58,7 @@ pub struct Lattice {
 
 impl Lattice {
     /// The links between the positions of their states. Takes a sort of the states, and two look-ups
-    /// a link.
+    /// a link; of links that come in order, as a written file has them, few are sorted or looked up.
     pub fn of(alloc: Global, links: &[SentenceLink]) -> Mem<Lattice>
         ensures { IfOk result (IsLattice links.now) }
     {
@@ -85,18 +86,50 @@ fn places_of(alloc: Global, links: &[SentenceLink]) -> Mem<Vec<Place>>
 {
     let mut places = Vec::new(alloc);
     for link in links {
-        push_ends(&mut places, link)?;
+        push_new(&mut places, from_of(link))?;
+        push_new(&mut places, to_of(link))?;
     }
     Ok(in_order(places))
 }
 
-/// Adds the states of the link.
-fn push_ends(places: &mut Vec<Place>, link: &SentenceLink) -> Mem<()>
-    ensures { OnOk result (places.new.items ≡ places.old.items ++ ends_of link.now) }
+/// Adds the place, unless it is one of the last two.
+fn push_new(places: &mut Vec<Place>, place: Place) -> Mem<()>
+    ensures { OnOk result ((other : PlaceRecord) → Contains places.new.items other
+        ↔ (Contains places.old.items other ⊎ (other ≡ place))) }
 {
-    places.push(from_of(link))?;
-    places.push(to_of(link))?;
+    if is_recent(places, &place) {
+        return Ok(());
+    }
+    places.push(place)?;
     Ok(())
+}
+
+/// Whether the place is one of the last two.
+fn is_recent(places: &[Place], place: &Place) -> bool
+    ensures { IsTrue result → Contains places.now place.now }
+{
+    let last = places.len().wrapping_sub(1);
+    if stands_at(places, last, place) {
+        return true;
+    }
+    stands_at(places, last.wrapping_sub(1), place)
+}
+
+/// Whether the place stands at the position.
+fn stands_at(places: &[Place], at: usize, place: &Place) -> bool
+    ensures { IsTrue result → IsAt places.now at place.now }
+{
+    match place_at(places, at) {
+        Some(there) => there == *place,
+        None => false,
+    }
+}
+
+/// The place at the position, if there is one.
+fn place_at(places: &[Place], at: usize) -> Option<Place>
+    ensures { result ≡ slice_get places.now at }
+{
+    places.get(at).copied()
 }
 
 /// The state that the link leaves.
@@ -130,8 +163,9 @@ fn rows_of(alloc: Global, places: &[Place], links: &[SentenceLink]) -> Mem<Vec<V
         HaveArcs places.now links.now (map (λ row. row.items) rows.items)) }
 {
     let mut rows = empty_rows(alloc, places.len())?;
+    let mut near = 0;
     for link in links {
-        add_arc(&mut rows, places, link)?;
+        near = add_arc(&mut rows, places, link, near)?;
     }
     Ok(rows)
 }
@@ -149,8 +183,14 @@ fn empty_rows(alloc: Global, count: usize) -> Mem<Vec<Vec<Arc>>>
     Ok(rows)
 }
 
-/// Adds the arc of the link.
-fn add_arc(rows: &mut Vec<Vec<Arc>>, places: &[Place], link: &SentenceLink) -> Mem<()>
+/// Adds the arc of the link. Answers the position from which it leads, which is looked for from one
+/// near it on.
+fn add_arc(
+    rows: &mut Vec<Vec<Arc>>,
+    places: &[Place],
+    link: &SentenceLink,
+    near: usize,
+) -> Mem<usize>
     requires in_order { IsStrictlySortedBy place_cmp places.now }
     requires there { HasEnds places.now link.now }
     requires count { length rows.old.items ≡ length places.now }
@@ -160,22 +200,30 @@ fn add_arc(rows: &mut Vec<Vec<Arc>>, places: &[Place], link: &SentenceLink) -> M
         ≡ slice_set (map (λ row. row.items) rows.old.items) i
         (get_or (map (λ row. row.items) rows.old.items) i [] ++ arc ∷ []))) }
 {
-    let from = position_of(places, &from_of(link));
-    let to = position_of(places, &to_of(link));
+    let from = position_of(places, &from_of(link), near);
+    let to = position_of(places, &to_of(link), from);
     let arc = Arc {
         to,
         reading: link.reading,
     };
     rows[from].push(arc)?;
-    Ok(())
+    Ok(from)
 }
 
-/// The position of a place, which is there.
-fn position_of(places: &[Place], place: &Place) -> usize
+/// The position of a place, which is there. It may be one near it or the next one; else it is looked
+/// up by halving.
+fn position_of(places: &[Place], place: &Place, near: usize) -> usize
     requires in_order { IsStrictlySortedBy place_cmp places.now }
     requires there { Contains places.now place.now }
     ensures inside { result < length places.now }
     ensures at { IsAt places.now result place.now }
 {
+    if stands_at(places, near, place) {
+        return near;
+    }
+    let next = near.wrapping_add(1);
+    if stands_at(places, next, place) {
+        return next;
+    }
     place_of(places, place)
 }

@@ -27,14 +27,14 @@ loop-link-preserved c =
     let places = c.args.places.now in
     let links = c.args.links.now in
     let k = c.loop-link.link-index in
-    let put = c.in_ok-add_arc.ensures.put in
+    let put = c.in_ok-near.ensures.put in
     let old : List (List Arc) = map (λ row. row.items) c.loop-link.rows.items in
     let new : List (List Arc) = map (λ row. row.items) c.add_arc.new.rows.items in
     let within = slice_get_within places put.0 (from_of (get_or links k none)) put.2.from in
     let count = c.loop-link.invariant.count in
     let same = length-map c.loop-link.rows.items (λ row. row.items) in
     record {
-      count = c.in_ok-add_arc.ensures.count;
+      count = c.in_ok-near.ensures.count;
       arcs = subst (λ (ls : List SentenceLink). HaveArcs places ls new)
           (sym (take_more links k none c.loop-link-test.true))
           (arcs_more places (take k links) old new (get_or links k none) put.0 put.1
