@@ -1,36 +1,24 @@
--- Sentences that are read, gathered, and searched some at a time.
-use Rattle.std.proofs.Common.{arith, ◌≡◌, inl, inr, ℕ, zero, suc, ◌+◌, ◌<◌, ◌≤◌, List, [], ◌∷◌, ◌++◌, length, refl, sym, ap, ◌∙◌, subst, append_assoc, get_or, codes}
+-- Sentences that are searched some at a time.
+use Rattle.std.proofs.Common.{arith, ◌≡◌, inl, inr, ℕ, zero, suc, ◌+◌, ◌-◌, ◌<◌, ◌≤◌, List, [], ◌∷◌, ◌++◌, length, refl, sym, ap, ◌∙◌, subst, append_assoc, drop, get_or, codes, take}
 use Rattle.std.specs.Prelude.{All, AllPairs, Contains}
-use Rattle.std.specs.List.{AllZip}
-use Rattle.std.proofs.lemmas.List.{append-nil}
-use Rattle.std.proofs.lemmas.List.Elements.{All-append, All-head, All-tail, All-push, Contains-append_left, Contains-append_right, Contains-append_cases}
+use Rattle.std.specs.List.{AllZip, slice_range}
+use Rattle.std.proofs.lemmas.List.{take_all}
+use Rattle.std.proofs.lemmas.List.Elements.{All-append, All-drop, All-head, All-tail, All-take, Contains-append_left, Contains-append_right, Contains-append_cases}
 use Rattle.ux_alphabet.specs.Letters.{Letters}
 use Rattle.ux_base.proofs.Lists.{first_or_later, nothing_in}
 use Rattle.ux_net.specs.Words.{Grammar}
-use Rattle.ux_reading_table.specs.Numbered.{IsNumberedBy, IsPlaceOf, ReadsNext}
+use Rattle.ux_reading_table.specs.Numbered.{IsNumberedBy}
 use Rattle.ux_reading_table.specs.declared.numbered.NumberedSentence.{NumberedSentence}
-use Rattle.ux_sentence.specs.Files.{IsOver, Opens, Passes, Place, behind_sentence}
-use Rattle.ux_sentence.specs.Valid.{AreNumbered, IsWritable}
+use Rattle.ux_sentence.specs.Valid.{AreNumbered, AreValid, IsWritable}
 use Rattle.ux_sentence.specs.Written.{ended}
 use Rattle.ux_sentence.specs.declared.sentence.Sentence.{Sentence}
-use Rattle.ux_sentence.proofs.FileLemmas.{Passes-push}
 use Rattle.ux_tfst_locate.specs.Sought.{AreTold}
 use Rattle.ux_tfst_locate.specs.Spans.{AreSpans, IsSpanIn, Precedes}
 use Rattle.ux_tfst_locate.specs.declared.span.Span.{Span}
-use Rattle.ux_cmd_tfind.specs.Lines.{IsFoundText, found_text, span_lines}
+use Rattle.ux_cmd_tfind.specs.Lines.{HasSpans, found_text, span_lines}
 use Rattle.ux_cmd_tfind.proofs.PrintingLemmas.{lines_behind}
 
--- sentences that are passed follow each other by number
-pub passed_numbers : (start : Place) (front : List Sentence) (place : Place) →
-    Passes start front place → (first : ℕ) → first ≡ start.told + 1 → AreNumbered first front
-passed_numbers start [] place same first is = tt
-passed_numbers start (sentence ∷ front) place (after, tells, passes) first is = (
-  tells.number ∙ sym is,
-  passed_numbers (behind_sentence start sentence after) front place passes (first + 1)
-      (omega (arith, is)),
-)
-
--- those behind others too
+-- sentences behind others follow each other by number
 numbers_behind : (done pending : List Sentence) (first next : ℕ) → next ≡ first + length done →
     AreNumbered first (done ++ pending) → AreNumbered next pending
 numbers_behind [] pending first next is are =
@@ -62,13 +50,46 @@ numbers_before [] pending first are = tt
 numbers_before (sentence ∷ done) pending first (here, are) =
     (here, numbers_before done pending (first + 1) are)
 
--- one more of each of two lists
-zip_push : {A B : Type 0} (R : A → B → Type 0) (xs : List A) (ys : List B) (x : A) (y : B) →
-    AllZip R xs ys → R x y → AllZip R (xs ++ x ∷ []) (ys ++ y ∷ [])
-zip_push R [] [] x y none one = (one, tt)
-zip_push R [] (z ∷ ys) x y none one = absurd none
-zip_push R (z ∷ xs) [] x y none one = absurd none
-zip_push R (z ∷ xs) (w ∷ ys) x y (first, rest) one = (first, zip_push R xs ys x y rest one)
+-- the first ones of two lists, and the others
+zip_take : {A B : Type 0} (R : A → B → Type 0) (n : ℕ) (xs : List A) (ys : List B) → AllZip R xs ys →
+    AllZip R (take n xs) (take n ys)
+zip_take R zero xs ys all = tt
+zip_take R (suc n) [] [] all = tt
+zip_take R (suc n) [] (y ∷ ys) all = absurd all
+zip_take R (suc n) (x ∷ xs) [] all = absurd all
+zip_take R (suc n) (x ∷ xs) (y ∷ ys) (one, all) = (one, zip_take R n xs ys all)
+
+zip_drop : {A B : Type 0} (R : A → B → Type 0) (n : ℕ) (xs : List A) (ys : List B) → AllZip R xs ys →
+    AllZip R (drop n xs) (drop n ys)
+zip_drop R zero xs ys all = all
+zip_drop R (suc n) [] [] all = tt
+zip_drop R (suc n) [] (y ∷ ys) all = absurd all
+zip_drop R (suc n) (x ∷ xs) [] all = absurd all
+zip_drop R (suc n) (x ∷ xs) (y ∷ ys) (one, all) = zip_drop R n xs ys all
+
+-- the first ones of a list, and then some of the others
+take_split : {A : Type 0} (a b k : ℕ) → k ≡ a + b → (xs : List A) →
+    take k xs ≡ take a xs ++ take b (drop a xs)
+take_split zero b k is xs =
+    let same : k ≡ b = omega (arith, is) in
+    ap (λ n. take n xs) same
+take_split (suc a) zero k is [] =
+    let same : k ≡ suc a = omega (arith, is) in
+    ap (λ n. take n []) same
+take_split (suc a) (suc b) k is [] =
+    let same : k ≡ suc (a + suc b) = omega (arith, is) in
+    ap (λ n. take n []) same
+take_split (suc a) b k is (x ∷ xs) =
+    let same : k ≡ suc (a + b) = omega (arith, is) in
+    ap (λ n. take n (x ∷ xs)) same ∙ ap (λ l. x ∷ l) (take_split a b (a + b) refl xs)
+
+-- the first ones follow each other by number, too
+numbers_taken : (n first : ℕ) (sentences : List Sentence) → AreNumbered first sentences →
+    AreNumbered first (take n sentences)
+numbers_taken zero first sentences are = tt
+numbers_taken (suc n) first [] are = tt
+numbers_taken (suc n) first (sentence ∷ sentences) (here, are) =
+    (here, numbers_taken n (first + 1) sentences are)
 
 -- two lists, one behind the other
 module _ {X : Type 0} (R : X → X → Type 0) where
@@ -135,132 +156,73 @@ module _ (letters : Letters) (grammar : Grammar) where
           (numbers_behind done pending first (first + length done) refl numbered) t in_pending in
           inl (omega (arith, high, low, number, also_number))
 
-  module _ (texts : List (List ℕ)) (text : List ℕ) where
-    -- the sentences up to a place were read; the spans of the first ones are written, and the others
-    -- are gathered
-    pub record AreFoundTo (place : Place) (gathered : List NumberedSentence) (answer : List ℕ) :
-        Type 0 where
-      pub start : Place
-      pub opens : Opens text start
-      pub done : List Sentence
-      pub pending : List Sentence
-      pub passes : Passes start (done ++ pending) place
-      pub told : AllZip (IsNumberedBy texts) pending gathered
-      pub writable : All IsWritable pending
+  -- none has spans
+  none_found : AreSpans letters grammar [] []
+  none_found = record {
+    ascend = λ i j d before within. absurd (omega (arith, within));
+    exact = λ span. (λ has. absurd (nothing_in has), λ is. absurd (nothing_in is.1));
+  }
+
+  module _ (sentences : List Sentence) where
+    -- the spans of the first sentences are written
+    pub record AreFoundTo (first : ℕ) (answer : List ℕ) : Type 0 where
       pub spans : List Span
-      pub are : AreSpans letters grammar done spans
+      pub are : AreSpans letters grammar (take first sentences) spans
       pub is : answer ≡ found_text spans
 
-    -- none has spans
-    none_found : AreSpans letters grammar [] []
-    none_found = record {
-      ascend = λ i j d before within. absurd (omega (arith, within));
-      exact = λ span. (λ has. absurd (nothing_in has), λ is. absurd (nothing_in is.1));
-    }
+    pub found_none : (answer : List ℕ) → answer ≡ found_text [] → AreFoundTo 0 answer
+    found_none answer is = record { spans = []; are = none_found; is = is }
 
-    pub found_none : (start : Place) (answer : List ℕ) → Opens text start →
-        answer ≡ found_text [] → AreFoundTo start [] answer
-    found_none start answer opens is = record {
-      start = start;
-      opens = opens;
-      done = [];
-      pending = [];
-      passes = refl;
-      told = tt;
-      writable = λ k d within. absurd (omega (arith, within));
-      spans = [];
-      are = none_found;
-      is = is;
-    }
-
-    -- the gathered sentences follow each other
-    pub are_told : (place : Place) (gathered : List NumberedSentence) (answer : List ℕ) →
-        (found : AreFoundTo place gathered answer) → AreTold texts found.pending gathered
-    are_told place gathered answer found =
-        let start_told = found.opens.told in
-        let all = passed_numbers found.start (found.done ++ found.pending) place found.passes 1
-        (omega (arith, start_told)) in
-        record {
-          first = 1 + length found.done;
-          in_order = numbers_behind found.done found.pending 1 (1 + length found.done) refl all;
-          writable = found.writable;
-          told = found.told;
-        }
-
-    pub found_place : (place : Place) (gathered : List NumberedSentence) (answer : List ℕ) →
-        AreFoundTo place gathered answer → IsPlaceOf text place
-    found_place place gathered answer found = record {
-      start = found.start;
-      opens = found.opens;
-      front = found.done ++ found.pending;
-      passes = found.passes;
-    }
-
-    -- one more sentence is gathered
-    pub found_more : (place next : Place) (gathered : List NumberedSentence) (answer : List ℕ)
-        (numbered : NumberedSentence) → AreFoundTo place gathered answer →
-        ReadsNext texts place numbered next →
-        AreFoundTo next (gathered ++ numbered ∷ []) answer
-    found_more place next gathered answer numbered found reads = record {
-      start = found.start;
-      opens = found.opens;
-      done = found.done;
-      pending = found.pending ++ reads.sentence ∷ [];
-      passes = subst (λ (l : List Sentence). Passes found.start l next)
-          (append_assoc found.done found.pending (reads.sentence ∷ []))
-          (Passes-push found.start (found.done ++ found.pending) place next reads.sentence
-          reads.behind found.passes reads.tells reads.is_behind);
-      told = zip_push (IsNumberedBy texts) found.pending gathered reads.sentence numbered
-          found.told reads.is_numbered;
-      writable = All-push IsWritable found.pending reads.sentence found.writable reads.writable;
+    -- all are, behind the last one
+    pub found_all : (first : ℕ) (answer : List ℕ) → length sentences ≤ first →
+        AreFoundTo first answer → HasSpans letters grammar sentences answer
+    found_all first answer past found = record {
       spans = found.spans;
-      are = found.are;
+      are = subst (λ (l : List Sentence). AreSpans letters grammar l found.spans)
+          (take_all first sentences past) found.are;
       is = found.is;
     }
 
-    -- the gathered ones are searched
-    pub found_printed : (place : Place) (gathered : List NumberedSentence) (old new : List ℕ)
-        (found : AreFoundTo place gathered old) (more : List Span) →
-        AreSpans letters grammar found.pending more → new ≡ old ++ span_lines more →
-        AreFoundTo place [] new
-    found_printed place gathered old new found more are is =
-        let start_told = found.opens.told in
-        let all = passed_numbers found.start (found.done ++ found.pending) place found.passes 1
-        (omega (arith, start_told)) in
+    -- those from a place up to another one stand for their numbered ones
+    pub told_between : (valid : AreValid sentences) (texts : List (List ℕ))
+        (numbered : List NumberedSentence) → AllZip (IsNumberedBy texts) sentences numbered →
+        (first next : ℕ) → first ≤ next →
+        AreTold texts (slice_range sentences first next) (slice_range numbered first next)
+    told_between valid texts numbered told first next up =
+        let front = take first sentences in
+        let pending = slice_range sentences first next in
+        let e : next ≡ first + (next - first) = omega (arith, up) in
+        let whole : take next sentences ≡ front ++ pending =
+        take_split first (next - first) next e sentences in
         record {
-          start = found.start;
-          opens = found.opens;
-          done = found.done ++ found.pending;
-          pending = [];
-          passes = subst (λ (l : List Sentence). Passes found.start l place)
-              (sym (append-nil (found.done ++ found.pending))) found.passes;
-          told = tt;
-          writable = λ k d within. absurd (omega (arith, within));
+          first = 1 + length front;
+          in_order = numbers_behind front pending 1 (1 + length front) refl
+              (subst (AreNumbered 1) whole (numbers_taken next 1 sentences valid.numbered));
+          writable = All-take IsWritable (next - first) (drop first sentences)
+              (All-drop IsWritable first sentences valid.writable);
+          told = zip_take (IsNumberedBy texts) (next - first) (drop first sentences)
+              (drop first numbered) (zip_drop (IsNumberedBy texts) first sentences numbered told);
+        }
+
+    -- their spans are written, too
+    pub found_more : AreValid sentences → (first next : ℕ) → first ≤ next → (old new : List ℕ) →
+        AreFoundTo first old → (more : List Span) →
+        AreSpans letters grammar (slice_range sentences first next) more →
+        new ≡ old ++ span_lines more → AreFoundTo next new
+    found_more valid first next up old new found more are is =
+        let front = take first sentences in
+        let pending = slice_range sentences first next in
+        let e : next ≡ first + (next - first) = omega (arith, up) in
+        let whole : take next sentences ≡ front ++ pending =
+        take_split first (next - first) next e sentences in
+        record {
           spans = found.spans ++ more;
-          are = spans_behind found.done found.pending found.spans more 1 all found.are are;
+          are = subst (λ (l : List Sentence). AreSpans letters grammar l (found.spans ++ more))
+              (sym whole) (spans_behind front pending found.spans more 1
+              (subst (AreNumbered 1) whole (numbers_taken next 1 sentences valid.numbered))
+              found.are are);
           is = is ∙ (ap (λ (l : List ℕ). l ++ span_lines more) found.is
               ∙ (append_assoc (ended (codes "#T")) (span_lines found.spans) (span_lines more)
               ∙ ap (λ (l : List ℕ). ended (codes "#T") ++ l)
               (sym (lines_behind found.spans more))));
         }
-
-    -- behind the last sentence all are found
-    pub found_all : (place : Place) (gathered : List NumberedSentence) (answer : List ℕ) →
-        gathered ≡ [] → AreFoundTo place gathered answer → IsOver place →
-        IsFoundText letters grammar text answer
-    found_all place gathered answer none found over = all found.pending refl
-      where
-        all : (pending : List Sentence) → found.pending ≡ pending →
-            IsFoundText letters grammar text answer
-        all [] is =
-            let passes = subst (λ (l : List Sentence). Passes found.start l place)
-            (ap (λ (l : List Sentence). found.done ++ l) is ∙ append-nil found.done) found.passes in
-            record {
-              sentences = found.done;
-              said = (found.start, found.opens, (place, passes, over));
-              found = record { spans = found.spans; are = found.are; is = found.is };
-            }
-        all (sentence ∷ pending) is =
-            absurd (subst (λ (l : List Sentence). AllZip (IsNumberedBy texts) l []) is
-            (subst (λ (l : List NumberedSentence). AllZip (IsNumberedBy texts) found.pending l) none
-            found.told))

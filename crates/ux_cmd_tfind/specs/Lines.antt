@@ -1,11 +1,10 @@
 -- The answer of `tfind` as text: a head line, and a line for each span. The format is this program's
 -- own. Public, through `Tfind`.
-use Rattle.std.specs.Prelude.{◌≡◌, ◌⊎◌, ℕ, List, [], ◌∷◌, ◌++◌, codes, flat_map}
+use Rattle.std.specs.Prelude.{◌≡◌, ℕ, List, [], ◌∷◌, ◌++◌, codes, flat_map}
 use Rattle.std.specs.Fmt.{decimal}
 use Rattle.ux_alphabet.specs.Letters.{Letters}
 use Rattle.ux_net.specs.Nets.{net_grammar}
 use Rattle.ux_net.specs.Words.{Grammar}
-use Rattle.ux_reading_table.specs.declared.numbered.NumberedSentence.{NumberedSentence}
 use Rattle.ux_sentence.specs.Files.{AreSentences}
 use Rattle.ux_sentence.specs.Written.{SPACE, ended}
 use Rattle.ux_sentence.specs.declared.sentence.Sentence.{Sentence}
@@ -44,9 +43,3 @@ pub record PrintsFound (sought : Sought) (sentences : List Sentence) (old new : 
   pub spans : List Span
   pub are : AreSpans sought.letters (net_grammar sought.net) sentences spans
   pub is : new ≡ old ++ span_lines spans
-
--- they are added, and the numbered sentences let go, or nothing is done
-abbrev pub PrintsMany : Sought → List Sentence → (gathered left : List NumberedSentence) →
-    (old new : List ℕ) → Type 0
-PrintsMany sought sentences gathered left old new = ((left ≡ gathered) × (new ≡ old))
-    ⊎ ((left ≡ []) × PrintsFound sought sentences old new)

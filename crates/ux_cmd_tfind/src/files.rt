@@ -3,7 +3,7 @@
 ghost use Rattle.std.specs.Prelude.{IfErr, IfOk, OnOk};
 ghost use Rattle.ux_plan.specs.Plans.{StopsTest, refusing};
 ghost use Rattle.ux_reading_match.specs.Usable.{IsUsable};
-ghost use Rattle.ux_reading_table.specs.Numbered.{IsTableOf};
+ghost use Rattle.ux_reading_table.specs.Numbered.{IsNumberedText};
 ghost use Rattle.ux_cmd_tfind.specs.Files.{StopsSentences, StopsText, StopsUsable};
 ghost use Rattle.ux_cmd_tfind.specs.Refusing.{RefusesNet};
 
@@ -13,7 +13,7 @@ use ux_grammars::graph_file;
 use ux_net::Net;
 use ux_plan::{Stop, refused};
 use ux_reading_match::{TfstError, usable};
-use ux_reading_table::ReadingTable;
+use ux_reading_table::NumberedText;
 use ux_reasons::Reason;
 use ux_sentence::SentenceError;
 
@@ -46,17 +46,17 @@ fn refused_net(alloc: Global, word: &str, error: TfstError) -> Stop<Reason>
     }
 }
 
-/// The readings of a file of sentence automata, by number. The file has this name and this text.
-pub(crate) fn read_table<'a>(
+/// A file of sentence automata, in numbers. The file has this name and this text.
+pub(crate) fn read_text<'a>(
     alloc: Global,
     name: &str,
     text: &'a str,
-) -> Result<ReadingTable<'a>, Stop<Reason>>
-    ensures ok { IfOk result (IsTableOf text.now) }
+) -> Result<NumberedText<'a>, Stop<Reason>>
+    ensures ok { IfOk result (λ read. IsNumberedText text.now read.table read.sentences.items) }
     ensures err { IfErr result (StopsText name.now text.now) }
 {
-    match ReadingTable::of(alloc, text) {
-        Ok(table) => Ok(table),
+    match NumberedText::of(alloc, text) {
+        Ok(read) => Ok(read),
         Err(error) => Err(no_sentences(alloc, name, error)),
     }
 }

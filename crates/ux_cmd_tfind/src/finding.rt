@@ -1,21 +1,22 @@
 //! The search, some sentences at a time.
 //!
-//! The text is gone through twice: once for the table of its readings, which finds each fault, and
-//! once sentence by sentence. What a chart asks of the net is paid once for some thousand links, so
-//! sentences are gathered before they are searched.
+//! The text is gone through once, which finds each fault; its sentences are in memory in numbers. A
+//! chart begins with lists of its own, so sentences of some thousand links are searched together.
 
-ghost use Rattle.std.specs.Prelude.{List, IfErr, IfOk, OnOk, string_bytes};
+ghost use Rattle.std.specs.Prelude.{◌≡◌, ◌<◌, ◌≤◌, ℕ, List, IfErr, IfOk, OnOk, length, string_bytes};
+ghost use Rattle.std.specs.List.{AllZip, slice_range};
 ghost use Rattle.ux_base.specs.Outside.{IsLater};
 ghost use Rattle.ux_plan.specs.Commands.{Answers};
 ghost use Rattle.ux_plan.specs.Plans.{Halts};
 ghost use Rattle.ux_net.specs.Nets.{net_grammar};
-ghost use Rattle.ux_reading_table.specs.Numbered.{IsTableOf};
-ghost use Rattle.ux_cmd_tfind.specs.Lines.{IsFoundText, PrintsFound, PrintsMany};
+ghost use Rattle.ux_reading_table.specs.Numbered.{IsNumberedBy, IsNumberedText};
+ghost use Rattle.ux_cmd_tfind.specs.Lines.{HasSpans, IsFoundText, PrintsFound};
+ghost use Rattle.ux_sentence.specs.Valid.{AreValid};
 ghost use Rattle.ux_sentence.specs.declared.sentence.Sentence.{Sentence as SentenceRecord};
 ghost use Rattle.ux_tfst_locate.specs.Sought.{AreTold};
 ghost use Rattle.ux_cmd_tfind.specs.Tfind.{tfind as tfind_command};
 
-use crate::files::{check_usable, read_table};
+use crate::files::{check_usable, read_text};
 use crate::printing::print_spans;
 use std::alloc::Global;
 use ux_alphabet::Alphabet;
@@ -23,13 +24,12 @@ use ux_base::{Folder, Mem};
 use ux_grammars::read_net;
 use ux_net::Net;
 use ux_plan::{Stop, read_decoded};
-use ux_reading_table::{NumberedSentence, NumberedSentences, ReadingTable};
+use ux_reading_table::{NumberedSentence, NumberedText};
 use ux_reasons::Reason;
 use ux_texts::read_alphabet;
 use ux_tfst_locate::Finder;
 
-/// As many links are gathered before their sentences are searched. It is more than most nets have
-/// edges, and takes few megabytes.
+/// Sentences of so many links are searched together. That takes few megabytes.
 const MOST_LINKS: usize = 65_536;
 
 /// Reads an alphabet, a grammar and the automata of sentences, and gives a line for each stretch of
@@ -52,58 +52,64 @@ pub fn tfind<F: Folder>(
     let net = read_net(alloc, graph, &alphabet, folder)?;
     check_usable(alloc, graph, &net)?;
     let text = read_decoded(alloc, tfst, folder)?;
-    let table = read_table(alloc, tfst, text.as_str())?;
-    let answer = found(alloc, &net, &alphabet, text.as_str(), &table)?;
+    let read = read_text(alloc, tfst, text.as_str())?;
+    let answer = found(alloc, &net, &alphabet, &read)?;
     Ok(answer.into_bytes())
 }
 
-/// The lines of all spans of the sentences that the text says. Its readings are in the table.
-fn found(
-    alloc: Global,
-    net: &Net,
-    alphabet: &Alphabet,
-    text: &str,
-    table: &ReadingTable<'_>,
-) -> Mem<String>
-    requires { IsTableOf text.now table.now }
-    ensures { IfOk result (λ answer.
-        IsFoundText alphabet.now (net_grammar net.now) text.now (string_bytes answer)) }
+/// The lines of all spans of the sentences of a file that was read.
+fn found(alloc: Global, net: &Net, alphabet: &Alphabet, read: &NumberedText<'_>) -> Mem<String>
+    requires { (text : List ℕ) × IsNumberedText text read.now.table read.now.sentences.items }
+    ensures { IfOk result (λ answer. (text : List ℕ) →
+        IsNumberedText text read.now.table read.now.sentences.items →
+        IsFoundText alphabet.now (net_grammar net.now) text (string_bytes answer)) }
 {
-    let finder = Finder::of(alloc, net, alphabet, table)?;
-    let mut sentences = NumberedSentences::open(text);
+    let finder = Finder::of(alloc, net, alphabet, &read.table)?;
+    print_all(alloc, &finder, read.sentences.as_slice())
+}
+
+/// The lines of all spans of the sentences, some searched together after others.
+fn print_all(alloc: Global, finder: &Finder<'_>, sentences: &[NumberedSentence]) -> Mem<String>
+    requires { (old : List SentenceRecord) × AreValid old
+        × AllZip (IsNumberedBy finder.now.texts) old sentences.now }
+    ensures { IfOk result (λ answer. (old : List SentenceRecord) → AreValid old →
+        AllZip (IsNumberedBy finder.now.texts) old sentences.now →
+        HasSpans finder.now.letters (net_grammar finder.now.net) old (string_bytes answer)) }
+{
     let mut answer = String::from_str(alloc, "#T\n")?;
-    let mut gathered = Vec::new(alloc);
-    let mut links = 0;
-    while let Some(sentence) = sentences.next(alloc, table)? {
-        links = sentence.links.len().saturating_add(links);
-        gathered.push(sentence)?;
-        links = print_many(alloc, &finder, links, &mut gathered, &mut answer)?;
+    let mut first = 0;
+    'together: while first < sentences.len() {
+        let next = after_many(sentences, first);
+        print_found(alloc, finder, between(sentences, first, next), &mut answer)?;
+        first = next;
     }
-    print_found(alloc, &finder, gathered.as_slice(), &mut answer)?;
     Ok(answer)
 }
 
-/// Adds the lines of the spans of the gathered sentences, and lets these go, where they have many
-/// links. Gives how many links are gathered then.
-fn print_many(
-    alloc: Global,
-    finder: &Finder<'_>,
-    links: usize,
-    gathered: &mut Vec<NumberedSentence>,
-    answer: &mut String,
-) -> Mem<usize>
-    requires { (old : List SentenceRecord) × AreTold finder.now.texts old gathered.old.items }
-    ensures { OnOk result ((old : List SentenceRecord) →
-        AreTold finder.now.texts old gathered.old.items →
-        PrintsMany finder.now old gathered.old.items gathered.new.items (string_bytes answer.old)
-        (string_bytes answer.new)) }
+/// The place after the sentences from one on that are searched together: those that have many links
+/// between them, or all that are left.
+fn after_many(sentences: &[NumberedSentence], first: usize) -> usize
+    requires { first < length sentences.now }
+    ensures after { first < result }
+    ensures inside { result ≤ length sentences.now }
 {
-    if links < MOST_LINKS {
-        return Ok(links);
+    let mut links = 0usize;
+    for place in first..sentences.len() {
+        links = links.saturating_add(sentences[place].links.len());
+        if MOST_LINKS <= links {
+            return place + 1;
+        }
     }
-    print_found(alloc, finder, gathered.as_slice(), answer)?;
-    gathered.clear();
-    Ok(0)
+    sentences.len()
+}
+
+/// The sentences from a place up to another one.
+fn between(sentences: &[NumberedSentence], first: usize, next: usize) -> &[NumberedSentence]
+    requires in_order { first ≤ next }
+    requires inside { next ≤ length sentences.now }
+    ensures { result.now ≡ slice_range sentences.now first next }
+{
+    &sentences[first..next]
 }
 
 /// Adds the lines of the spans of these sentences.

@@ -48,9 +48,9 @@ returns-in_err-text-clause-err g c =
     _ c.in_err-text.ensures.err)))))
 
 -- it is read, and says no sentences
-pub returns-in_err-table-clause-err : goal.returns-in_err-table-clause-err
-returns-in_err-table-clause-err g c =
-    let r = c.from_residual-in_err-table in
+pub returns-in_err-read-clause-err : goal.returns-in_err-read-clause-err
+returns-in_err-read-clause-err g c =
+    let r = c.from_residual-in_err-read in
     let p = err_from_is_err_and r.result r.ensures.1 in
     let letters = c.in_ok-alphabet.ensures in
     let net = c.in_ok-net.ensures in
@@ -60,10 +60,10 @@ returns-in_err-table-clause-err g c =
     let new = g.F.Folder.seen c.read_decoded.new.folder in
     rw (p.1, p.2) (halts_later _ _ _ _ _ _ _ _ letters.ok letters.later
     (halts_second _ _ _ _ _ _ _ net.ok.comes net.later (halts_tested _ _ _ _ _ _ can
-    (halts_at sentences_format c.args.tfst.now _ mid new c.in_err-table.field-0.0
+    (halts_at sentences_format c.args.tfst.now _ mid new c.in_err-read.field-0.0
     (text_stops c.args.tfst.now mid new (string_bytes c.in_ok-text.text)
-    c.in_err-table.field-0.0 c.in_ok-text.ensures.ok
-    (rw c.as_str.ensures.value at c.in_err-table.ensures.err))))))
+    c.in_err-read.field-0.0 c.in_ok-text.ensures.ok
+    (rw c.as_str.ensures.value at c.in_err-read.ensures.err))))))
 
 -- all was read, and memory ran out for the answer
 pub returns-in_err-answer-clause-err : goal.returns-in_err-answer-clause-err
@@ -80,7 +80,8 @@ returns-clause-ok g c =
     let alphabet = c.in_ok-alphabet.alphabet in
     let net = c.in_ok-net.ensures in
     let text = string_bytes c.in_ok-text.text in
-    let table = rw c.as_str.ensures.value at c.in_ok-table.ensures.ok in
+    let read = rw c.as_str.ensures.value at c.in_ok-read.ensures.ok in
+    let table = read.table in
     let mid = g.F.Folder.seen c.read_net.new.folder in
     let comes = rw letters.later.kept at net.ok.comes in
     let has = rw letters.later.kept at (rw net.later.kept at c.in_ok-text.ensures.ok) in
@@ -95,9 +96,9 @@ returns-clause-ok g c =
       comes = comes_read _ _ _ _ _ _ letters.ok
           (comes_then _ _ _ _ _ comes (comes_test _ _ _ _ _ can
           (comes_read _ _ _ _ _ _
-          (table_reads name _ text c.in_ok-table.table has table)
+          (table_reads name _ text c.in_ok-read.read.table has table)
           (comes_gives _ _ _))));
       answers = rw c.into_bytes.ensures.value (answers_read alphabet net.ok.source c.in_ok-net.net
           table.sentences text (string_bytes c.in_ok-answer.answer) net.ok.compiles table.said
-          (rw c.as_str-2.ensures.value at c.in_ok-answer.ensures));
+          (c.in_ok-answer.ensures text read));
     }
