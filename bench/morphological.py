@@ -22,7 +22,7 @@ LETTERS = "abcdefghijklmnopqrstuvwxyz"
 STEM = 5
 LENGTH = 2 + STEM + 1
 # As many different words have the texts over which the graph or the dictionary grows.
-FEW = 4_000
+FEW = 1_000
 PREFIXES = [100, 1_000, 10_000, 100_000]
 LINES = [4_000, 40_000, 400_000]
 
