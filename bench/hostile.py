@@ -36,6 +36,7 @@ IMAGES = "images and entries that cost no more than their bytes"
 RULES = "rules that cost no more than their automata"
 CALLS = "words of called graphs that cost no more than their calls"
 STATES = "none: the answer itself may have 2^n states"
+ENTRIES = "none: the answer itself has 2^n entries"
 CASES = []
 
 
@@ -388,10 +389,17 @@ def long_lemma(n):
     return text("a b " * n), letters(), dictionary([f"a b,{'c' * n}.N"])
 
 
-@case("dico", 6, known=IMAGES)
+@case("dico", 6, known=ENTRIES)
 def ladder_of_capitals(n):
-    """an image of n states over n capitals, each of which fits two letters"""
+    """an image of n states over n capitals, each of which fits two letters: 2^n entries"""
     return text("A" * n), put("alphabet.txt", "Aa\nAb\n"), ladder(n, "ab", NOUN)
+
+
+@case("dico", 6)
+def capitals_before_no_end(n):
+    """an image of n states over n capitals, each of which fits two letters, and no form ends there"""
+    states = [(1, []), (0, [("c", 0)])] + [(0, [(letter, state + 1) for letter in "ab"]) for state in range(n)]
+    return text("A" * n), put("alphabet.txt", "Aa\nAb\n"), image(states, [NOUN])
 
 
 # Searches.

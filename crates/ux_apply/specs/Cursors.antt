@@ -24,3 +24,9 @@ abbrev pub WhereLed : (text : List ℕ) → List Cursor →
     (Letters → List (Priority × List Entry) → Type 0) → Type 0
 WhereLed text cursors IsSo = (alphabet : Letters) (dics : List (Priority × List Entry)) →
     AreReachedBy alphabet dics text cursors → IsSo alphabet dics
+
+-- it is so of all dictionaries in which the text leads to the cursors, by this alphabet
+abbrev pub WhereLedBy : Letters → (text : List ℕ) → List Cursor →
+    (List (Priority × List Entry) → Type 0) → Type 0
+WhereLedBy alphabet text cursors IsSo = (dics : List (Priority × List Entry)) →
+    AreReachedBy alphabet dics text cursors → IsSo dics

@@ -10,7 +10,7 @@ ghost use Rattle.ux_lexical_tables.specs.Kept.{row_of};
 ghost use Rattle.ux_lexical_tables.specs.Spans.{MayBound, MayStand, text_of};
 ghost use Rattle.ux_lexical_tables.specs.Tables.{IsSimpleForm};
 ghost use Rattle.ux_apply.specs.Applying.{contents};
-ghost use Rattle.ux_apply.specs.Cursors.{AreReachedBy, WhereLed};
+ghost use Rattle.ux_apply.specs.Cursors.{AreReachedBy, WhereLedBy};
 ghost use Rattle.ux_apply.specs.declared.priority.Priority.{Priority};
 ghost use Rattle.ux_apply.specs.Kept.{AreRowsUpTo, AreSoundMembers, IsNearestLast, IsFront, IsStart};
 ghost use Rattle.ux_apply.specs.Applied.{AreOfSpan, IsCompoundRow};
@@ -150,7 +150,7 @@ fn spans_from<L: Lexicon>(
             return Ok(row);
         }
         next = last + 1;
-        let entries = entries_to(alloc, text, first, last, &cursors)?;
+        let entries = entries_to(alloc, text, first, last, &cursors, alphabet)?;
         push_row(&mut row, last, entries)?;
     }
     Ok(row)
@@ -196,17 +196,20 @@ fn entries_to(
     first: usize,
     last: usize,
     cursors: &[Cursor<'_>],
+    alphabet: &Alphabet,
 ) -> Mem<Vec<Entry>>
     requires longer { first < last }
     requires within { last < length text.now }
     requires front { IsFront text.now first last }
-    ensures entries { IfOk result (λ entries. WhereLed (text_of text.now first last) cursors.now
-        (λ alphabet dics. AreOfSpan alphabet dics text.now first last entries.items)) }
-    ensures sound { IfOk result (λ entries. WhereLed (text_of text.now first last) cursors.now
-        (λ _ _. All IsSound entries.items)) }
+    ensures entries { IfOk result (λ entries.
+        WhereLedBy alphabet.now (text_of text.now first last) cursors.now
+        (λ dics. AreOfSpan alphabet.now dics text.now first last entries.items)) }
+    ensures sound { IfOk result (λ entries.
+        WhereLedBy alphabet.now (text_of text.now first last) cursors.now
+        (λ _. All IsSound entries.items)) }
 {
     if !may_bound(text.kind(last)) {
         return Ok(Vec::new(alloc));
     }
-    applying_there(alloc, cursors, text.slice(first, last))
+    applying_there(alloc, cursors, text.slice(first, last), alphabet)
 }

@@ -98,7 +98,7 @@ fn ask<L: Lexicon>(
             start: Start::Never,
         });
     }
-    let entries = applying_there(alloc, &cursors, token)?;
+    let entries = applying_there(alloc, &cursors, token, alphabet)?;
     let start = start_there(alloc, &cursors, alphabet)?;
     Ok(Answer { entries, start })
 }

@@ -24,17 +24,16 @@ use Rattle.ux_image_lexicon.proofs.FoundLemmas.{fitting_is, found_sound, may_beg
 pub goes_on : (alphabet : Letters) (content : List Entry) (front text : List ℕ)
     (place next : ImageReached) → IsUtf8 text →
     place.coded.now ≡ next.coded.now →
-    LeadsBy place.coded.now.states alphabet (chars front ++ chars text)
-    (forms_of place.coded.now.states) next.ways →
+    LeadsBy place.coded.now.states alphabet (chars front ++ chars text) next.states →
     IsReachedInImage alphabet content front place →
     IsReachedInImage alphabet content (front ++ text) next
-goes_on alphabet content front text place next utf8 same ways is = record {
+goes_on alphabet content front text place next utf8 same leads is = record {
   own = is.own ∙ ap content_in same;
   utf8 = IsUtf8-append front text is.utf8 utf8;
-  ways = subst (λ (coded : CodedForms). LeadsBy coded.states alphabet (chars (front ++ text))
-      (forms_of coded.states) next.ways) same
-      (subst (λ (l : List ℕ). LeadsBy place.coded.now.states alphabet l
-      (forms_of place.coded.now.states) next.ways) (sym (chars-append front text is.utf8)) ways);
+  states = subst (λ (coded : CodedForms). LeadsBy coded.states alphabet (chars (front ++ text))
+      next.states) same
+      (subst (λ (l : List ℕ). LeadsBy place.coded.now.states alphabet l next.states)
+      (sym (chars-append front text is.utf8)) leads);
 }
 
 -- lists beside one another, as far as a loop has come
@@ -52,14 +51,13 @@ zip_more {X} {Y} R xs i x ys y less is zip here =
     by (u ∷ us) [] zip = absurd zip
     by (u ∷ us) (v ∷ vs) zip = (zip.0, by us vs zip.1)
 
--- the ways of a place, as a look-up is lent the states
-pub ways_lent : (alphabet : Letters) (text : List ℕ) (place : ImageReached) (states : List State) →
-    states ≡ place.coded.now.states →
-    LeadsBy place.coded.now.states alphabet text (forms_of place.coded.now.states) place.ways →
-    LeadsBy states alphabet text (forms_of place.coded.now.states) place.ways
-ways_lent alphabet text place states same are =
-    subst (λ (l : List State). LeadsBy l alphabet text (forms_of place.coded.now.states) place.ways)
-    (sym same) are
+-- the states of a place, as a look-up is lent those of the automaton
+pub states_lent : (alphabet : Letters) (text : List ℕ) (place : ImageReached)
+    (states : List State) → states ≡ place.coded.now.states →
+    LeadsBy place.coded.now.states alphabet text place.states →
+    LeadsBy states alphabet text place.states
+states_lent alphabet text place states same are =
+    subst (λ (l : List State). LeadsBy l alphabet text place.states) (sym same) are
 
 -- some form of the place's automaton begins so exactly where some entry does
 pub may_begin_at : (alphabet : Letters) (content : List Entry) (text : List ℕ)

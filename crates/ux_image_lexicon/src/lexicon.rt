@@ -109,7 +109,7 @@ impl ImageLexicon {
     {
         Ok(ImageReached {
             coded: &self.coded,
-            ways: begin(alloc, self.coded.states())?,
+            states: begin(alloc, self.coded.states())?,
         })
     }
 
@@ -124,14 +124,15 @@ impl ImageLexicon {
 
     /// The entries whose form fits the text character by character, in the order of the content.
     /// Halves the edges of each state on the way, or takes a look at each where several letters fit
-    /// the character, once for each way to write the text with lower-case letters that some form has,
-    /// and makes the entries that are found.
+    /// the character, once for each state to which the text leads, and makes the entries that are
+    /// found.
     pub fn fitting(&self, alloc: Global, text: &str, alphabet: &Alphabet) -> Mem<Vec<Entry>>
         ensures found { IfOk result (λ found.
             IsFitting alphabet.now text.now self.now found.items) }
         ensures sound { IfOk result (λ found. All IsSound found.items) }
     {
-        self.reached(alloc, text, alphabet)?.ending(alloc, text)
+        self.reached(alloc, text, alphabet)?
+            .ending(alloc, text, alphabet)
     }
 
     /// Whether some form begins with characters that fit the text, one by one. Where none does, no

@@ -14,30 +14,29 @@ use ux_alphabet::Alphabet;
 use ux_base::Mem;
 use ux_dela::Entry;
 use ux_image_look_ups as look_ups;
-use ux_image_look_ups::Ways;
+use ux_image_look_ups::Place;
 
 /// A place in the automaton of an image.
 #[derive(Drop)]
 pub struct ImageReached<'a> {
     pub(crate) coded: &'a Coded,
-    /// The ways by which the text so far leads.
-    pub(crate) ways: Ways,
+    /// The states to which the text so far leads.
+    pub(crate) states: Place,
 }
 
 impl<'a> ImageReached<'a> {
     /// Where the text so far leads with this one behind it. Halves the edges of each state on the way,
-    /// or takes a look at each where several letters fit the character, once for each way to write the
-    /// text with lower-case letters that some form has. Takes memory for one list of ways, or for one
-    /// a character where another letter fits one of this text.
+    /// or takes a look at each where several letters fit the character, once for each state to which
+    /// the text leads. Takes memory where these are several.
     pub fn go_on(&self, alloc: Global, text: &str, alphabet: &Alphabet) -> Mem<ImageReached<'a>>
         ensures { IfOk result (λ next. (content : List Entry) (front : List ℕ) →
             IsReachedInImage alphabet.now content front self.now →
             IsReachedInImage alphabet.now content (front ++ text.now) next) }
     {
-        let ways = look_ups::go_on(alloc, self.coded.states(), &self.ways, text, alphabet)?;
+        let states = look_ups::go_on(alloc, self.coded.states(), &self.states, text, alphabet)?;
         Ok(ImageReached {
             coded: self.coded,
-            ways,
+            states,
         })
     }
 
@@ -47,19 +46,21 @@ impl<'a> ImageReached<'a> {
             IsReachedInImage alphabet content text self.now →
             (IsTrue result ↔ MayBegin alphabet text content) }
     {
-        look_ups::may_go_on(self.coded.states(), &self.ways)
+        look_ups::may_go_on(self.coded.states(), &self.states)
     }
 
     /// The entries whose form fits the text that led here character by character, in the order of the
-    /// content. They are made of their forms and codes. Takes no memory where no form ends here.
-    pub fn ending(&self, alloc: Global, text: &str) -> Mem<Vec<Entry>>
-        ensures found { IfOk result (λ found. (alphabet : Letters) (content : List Entry) →
-            IsReachedInImage alphabet content text.now self.now →
-            IsFitting alphabet text.now content found.items) }
-        ensures sound { IfOk result (λ found. (alphabet : Letters) (content : List Entry) →
-            IsReachedInImage alphabet content text.now self.now → All IsSound found.items) }
+    /// content. They are made of their forms and codes. Takes no memory where no form ends here. Where
+    /// several letters fit a character, the text is gone along once more.
+    pub fn ending(&self, alloc: Global, text: &str, alphabet: &Alphabet) -> Mem<Vec<Entry>>
+        ensures found { IfOk result (λ found. (content : List Entry) →
+            IsReachedInImage alphabet.now content text.now self.now →
+            IsFitting alphabet.now text.now content found.items) }
+        ensures sound { IfOk result (λ found. (content : List Entry) →
+            IsReachedInImage alphabet.now content text.now self.now → All IsSound found.items) }
     {
-        let forms = look_ups::ending(alloc, self.coded.states(), &self.ways, text)?;
+        let states = self.coded.states();
+        let forms = look_ups::ending(alloc, states, &self.states, text, alphabet)?;
         let entries = entries_told(alloc, self.coded.lists(), &forms)?;
         each_once(alloc, entries)
     }

@@ -1,5 +1,5 @@
-pub mod Changes
 pub mod Ways
-pub mod Pieces
+pub mod Places
+pub mod Steps
+pub mod Spelling
 pub mod Longest
-pub mod Taking

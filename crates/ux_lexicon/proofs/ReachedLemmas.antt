@@ -17,7 +17,7 @@ pub reached-List : (alphabet : Letters) (content : List Entry) (text : List ℕ)
 reached-List alphabet content text any place is leads =
     subst (IsReachedBy alphabet content text) is leads
 
--- a place in the automaton of an image is one by its ways
+-- a place in the automaton of an image is one by its states
 pub reached-Image : (alphabet : Letters) (content : List Entry) (text : List ℕ) (any : Reached)
     (place : ImageReached) → any ≡ reached.Image place → IsReachedBy alphabet content text any →
     IsReachedInImage alphabet content text place

@@ -17,15 +17,15 @@ impl Lexicon for ImageLexicon {
     }
 
     /// The entries whose form fits the text. Halves the edges of each state on the way, or takes a look
-    /// at each where several letters fit the character, once for each way to write the text with
-    /// lower-case letters that some form has, and makes the entries that are found.
+    /// at each where several letters fit the character, once for each state to which the text leads, and
+    /// makes the entries that are found.
     fn fitting(&self, alloc: Global, text: &str, alphabet: &Alphabet) -> Mem<Vec<Entry>> {
         ImageLexicon::fitting(self, alloc, text, alphabet)
     }
 
     /// Whether some form begins with characters that fit the text. Halves the edges of each state on the
-    /// way, or takes a look at each where several letters fit the character, once for each way to write
-    /// the text with lower-case letters that some form has.
+    /// way, or takes a look at each where several letters fit the character, once for each state to which
+    /// the text leads.
     fn may_begin(&self, alloc: Global, text: &str, alphabet: &Alphabet) -> Mem<bool> {
         ImageLexicon::may_begin(self, alloc, text, alphabet)
     }

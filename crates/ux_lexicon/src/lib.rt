@@ -13,7 +13,7 @@
 //! lexicon.fitting(rt.alloc(), "The", &alphabet)?      // the entries of `the` and `The`
 //! let red = lexicon.begin(rt.alloc())?.go_on(rt.alloc(), "red", &alphabet)?;
 //! let fox = red.go_on(rt.alloc(), " fox", &alphabet)?;
-//! fox.ending(rt.alloc(), "red fox")?      // the entries of `red fox`
+//! fox.ending(rt.alloc(), "red fox", &alphabet)?      // the entries of `red fox`
 //! ```
 #![tactic(auto)]
 

@@ -42,7 +42,7 @@ impl<'a> Reached<'a> {
     }
 
     /// Whether some form begins with characters that fit the text so far, one by one. Where none
-    /// does, no longer text has a fitting form. Takes a step a part of a list, or a way in an image.
+    /// does, no longer text has a fitting form. Takes a step a part of a list, and one in an image.
     pub fn may_go_on(&self) -> bool
         ensures { (alphabet : Letters) (content : List Entry) (text : List ℕ) →
             IsReachedBy alphabet content text self.now →
@@ -57,16 +57,16 @@ impl<'a> Reached<'a> {
     /// The entries whose form fits the text that led here character by character, in the order of the
     /// content. Takes a copy of each, or makes each of its form and code, and no memory where no form
     /// ends here.
-    pub fn ending(&self, alloc: Global, text: &str) -> Mem<Vec<Entry>>
-        ensures found { IfOk result (λ found. (alphabet : Letters) (content : List Entry) →
-            IsReachedBy alphabet content text.now self.now →
-            IsFitting alphabet text.now content found.items) }
-        ensures sound { IfOk result (λ found. (alphabet : Letters) (content : List Entry) →
-            IsReachedBy alphabet content text.now self.now → All IsSound found.items) }
+    pub fn ending(&self, alloc: Global, text: &str, alphabet: &Alphabet) -> Mem<Vec<Entry>>
+        ensures found { IfOk result (λ found. (content : List Entry) →
+            IsReachedBy alphabet.now content text.now self.now →
+            IsFitting alphabet.now text.now content found.items) }
+        ensures sound { IfOk result (λ found. (content : List Entry) →
+            IsReachedBy alphabet.now content text.now self.now → All IsSound found.items) }
     {
         match self {
             Reached::List(place) => place.ending(alloc),
-            Reached::Image(place) => place.ending(alloc, text),
+            Reached::Image(place) => place.ending(alloc, text, alphabet),
         }
     }
 }

@@ -23,19 +23,19 @@ of-last alphabet dics text priority [] found = inr (found, refl)
 of-last alphabet dics text priority (entry ∷ entries) found = inl (found, λ none. cc)
 
 pub returns-then-not-is_empty-clause-applies : goal.returns-then-not-is_empty-clause-applies
-returns-then-not-is_empty-clause-applies c = λ alphabet dics led. inl (
-  c.in_ok-high.ensures.found alphabet dics led,
+returns-then-not-is_empty-clause-applies c = λ dics led. inl (
+  c.in_ok-high.ensures.found dics led,
   some-entries c.in_ok-high.high.items c.in_ok-high.high.len c.in_ok-high.high.ok.0
       c.if-not-is_empty.ensures,
 )
 
 pub returns-then-not-is_empty-2-clause-applies : goal.returns-then-not-is_empty-2-clause-applies
-returns-then-not-is_empty-2-clause-applies c = λ alphabet dics led. inr (
-  found-none alphabet dics c.args.text.now High c.in_ok-high.high.items
+returns-then-not-is_empty-2-clause-applies c = λ dics led. inr (
+  found-none c.args.alphabet.now dics c.args.text.now High c.in_ok-high.high.items
       (no-entries c.in_ok-high.high.items c.in_ok-high.high.len c.in_ok-high.high.ok.0
-      c.if-not-is_empty.ensures) (c.in_ok-high.ensures.found alphabet dics led),
+      c.if-not-is_empty.ensures) (c.in_ok-high.ensures.found dics led),
   inl (
-    c.in_ok-normal.ensures.found alphabet dics led,
+    c.in_ok-normal.ensures.found dics led,
     some-entries c.in_ok-normal.normal.items c.in_ok-normal.normal.len
         c.in_ok-normal.normal.ok.0 c.if-not-is_empty-2.ensures,
   ),
@@ -44,15 +44,15 @@ returns-then-not-is_empty-2-clause-applies c = λ alphabet dics led. inr (
 pub returns-clause-applies : goal.returns-clause-applies
 returns-clause-applies c =
     IfOk-weaker c.found-3.result _ _
-    (λ entries is alphabet dics led. inr (
-      found-none alphabet dics c.args.text.now High c.in_ok-high.high.items
+    (λ entries is dics led. inr (
+      found-none c.args.alphabet.now dics c.args.text.now High c.in_ok-high.high.items
           (no-entries c.in_ok-high.high.items c.in_ok-high.high.len c.in_ok-high.high.ok.0
-          c.if-not-is_empty.ensures) (c.in_ok-high.ensures.found alphabet dics led),
+          c.if-not-is_empty.ensures) (c.in_ok-high.ensures.found dics led),
       inr (
-        found-none alphabet dics c.args.text.now Normal c.in_ok-normal.normal.items
+        found-none c.args.alphabet.now dics c.args.text.now Normal c.in_ok-normal.normal.items
             (no-entries c.in_ok-normal.normal.items c.in_ok-normal.normal.len
             c.in_ok-normal.normal.ok.0 c.if-not-is_empty-2.ensures)
-            (c.in_ok-normal.ensures.found alphabet dics led),
-        of-last alphabet dics c.args.text.now Low entries.items (is alphabet dics led),
+            (c.in_ok-normal.ensures.found dics led),
+        of-last c.args.alphabet.now dics c.args.text.now Low entries.items (is dics led),
       ),
     )) c.found-3.ensures.found

@@ -14,7 +14,8 @@ use Rattle.ux_apply.proofs.applying.fitting_entries.Goals as goal
 use Rattle.ux_apply.proofs.applying.fitting_entries.Goals.{then-is+in_ok-push_ending, else-is}
 
 pub loop-cursor-init : goal.loop-cursor-init
-loop-cursor-init c alphabet dics led =
+loop-cursor-init c dics led =
+    let alphabet = c.args.alphabet.now in
     let text = c.args.text.now in
     let empty = zip-none (IsCursor alphabet text) dics led in
     subst
@@ -27,7 +28,8 @@ loop-cursor-init c alphabet dics led =
     )
 
 pub loop-cursor-preserved : goal.loop-cursor-preserved
-loop-cursor-preserved c alphabet dics led =
+loop-cursor-preserved c dics led =
+    let alphabet = c.args.alphabet.now in
     let text = c.args.text.now in
     let priority = c.args.priority in
     let cursor = c.cursor-item.result in
@@ -38,7 +40,7 @@ loop-cursor-preserved c alphabet dics led =
     let here = t.4 in
     let all = front ++ dic ∷ [] in
     let old = c.loop-cursor.entries.items in
-    let before = c.loop-cursor.invariant alphabet front t.3 in
+    let before = c.loop-cursor.invariant front t.3 in
     subst
     (λ (l : List (Priority × List Entry)).
     IsFitting alphabet text (content_at priority l) c.if-is.entries.items
@@ -52,8 +54,8 @@ loop-cursor-preserved c alphabet dics led =
           (sym (ap (λ v. v.items) w.entries-is)) (
             fitting-more priority dic alphabet front text old before.0
                 w.push_ending.new.entries.items same
-                (w.in_ok-push_ending.ensures.added alphabet dic.1 here.leads),
-            w.in_ok-push_ending.ensures.sound alphabet dic.1 here.leads before.1,
+                (w.in_ok-push_ending.ensures.added dic.1 here.leads),
+            w.in_ok-push_ending.ensures.sound dic.1 here.leads before.1,
           )
       | else-is w ↦
           let other = subst (λ (p : Priority). is_same p priority ≡ false) here.priority
@@ -66,10 +68,10 @@ loop-cursor-preserved c alphabet dics led =
 
 pub returns : goal.returns
 returns c = record {
-  fitting = λ alphabet dics led. (c.loop-cursor.invariant alphabet dics
-      (taken-all alphabet c.args.cursors.now c.loop-cursor.cursor-index c.args.text.now dics (omega arith)
+  fitting = λ dics led. (c.loop-cursor.invariant dics
+      (taken-all c.args.alphabet.now c.args.cursors.now c.loop-cursor.cursor-index c.args.text.now dics (omega arith)
       led.each)).0;
-  sound = λ alphabet dics led. (c.loop-cursor.invariant alphabet dics
-      (taken-all alphabet c.args.cursors.now c.loop-cursor.cursor-index c.args.text.now dics (omega arith)
+  sound = λ dics led. (c.loop-cursor.invariant dics
+      (taken-all c.args.alphabet.now c.args.cursors.now c.loop-cursor.cursor-index c.args.text.now dics (omega arith)
       led.each)).1;
 }

@@ -1,7 +1,6 @@
 use Rattle.std.proofs.Common.{List, take}
 use Rattle.std.specs.Prelude.{All}
 use Rattle.std.specs.List.{AllZip}
-use Rattle.ux_alphabet.specs.Letters.{Letters}
 use Rattle.ux_dela.specs.Sound.{IsSound}
 use Rattle.ux_dela.specs.declared.entry.Entry.{Entry}
 use Rattle.ux_dict.specs.Forms.{IsFitting}
@@ -12,7 +11,7 @@ use Rattle.ux_apply.proofs.applying.fitting_entries.Given as goal
 
 -- the entries of the dictionaries so far, which are sound
 abbrev pub invariant-loop-cursor : goal.invariant-loop-cursor
-invariant-loop-cursor l = (alphabet : Letters) (dics : List (Priority × List Entry)) →
-    AllZip (IsCursor alphabet l.text) dics (take l.cursor-index l.cursors) →
-    IsFitting alphabet l.text (content_at l.priority dics) l.entries.items
+invariant-loop-cursor l = (dics : List (Priority × List Entry)) →
+    AllZip (IsCursor l.alphabet l.text) dics (take l.cursor-index l.cursors) →
+    IsFitting l.alphabet l.text (content_at l.priority dics) l.entries.items
     × All IsSound l.entries.items

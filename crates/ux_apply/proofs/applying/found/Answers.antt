@@ -7,14 +7,14 @@ use Rattle.ux_apply.proofs.applying.found.Goals as goal
 pub returns : goal.returns
 returns c = record {
   found = IfOk-weaker c.each_once.result _ _
-      (λ entries is alphabet dics led. record {
+      (λ entries is dics led. record {
         fitting = c.in_ok-fitting.fitting.items;
-        fit = c.in_ok-fitting.ensures.fitting alphabet dics led;
+        fit = c.in_ok-fitting.ensures.fitting dics led;
         once = is;
       }) c.each_once.ensures;
   sound = IfOk-weaker c.each_once.result _ _
-      (λ entries is alphabet dics led. All-weaker (Contains entries.items) IsSound
+      (λ entries is dics led. All-weaker (Contains entries.items) IsSound
       (λ entry has. All-contains IsSound c.in_ok-fitting.fitting.items entry
-      (c.in_ok-fitting.ensures.sound alphabet dics led) ((is.members entry).0 has))
+      (c.in_ok-fitting.ensures.sound dics led) ((is.members entry).0 has))
       entries.items (All-contains_itself entries.items)) c.each_once.ensures;
 }

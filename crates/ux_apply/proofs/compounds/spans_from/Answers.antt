@@ -65,12 +65,12 @@ loop-last-preserved g c =
       row = subst (AreCompoundUpTo lines dics tokens first (last + 1)) (sym c.in_ok-push_row.ensures)
           (row-more lines dics tokens first last c.loop-last.row.items
           c.in_ok-entries.entries.items before.row
-          (c.in_ok-entries.ensures.entries lines dics there));
+          (c.in_ok-entries.ensures.entries dics there));
       front = front-more tokens first last c.kind.result before.front c.kind.ensures
           (c.may_stand.ensures.0 c.if-not-may_stand.false);
       sound = subst AreSoundMembers (sym c.in_ok-push_row.ensures)
           (sound-more last c.loop-last.row.items c.in_ok-entries.entries.items before.sound
-          (c.in_ok-entries.ensures.sound lines dics there));
+          (c.in_ok-entries.ensures.sound dics there));
       from_first = omega (arith, later);
       to_last = omega arith;
       led = led;

@@ -31,8 +31,8 @@ returns g c =
     let led = c.in_ok-cursors.ensures in
     let there = subst (λ (l : List Cursor). AreReachedBy lines dics token l)
     (sym c.deref-2.ensures.value) led in record {
-      applying = c.in_ok-entries.ensures.applies lines dics there;
-      sound = c.in_ok-entries.ensures.sound lines dics there;
+      applying = c.in_ok-entries.ensures.applies dics there;
+      sound = c.in_ok-entries.ensures.sound dics there;
       start = c.in_ok-start.ensures dics token
           (subst (λ (l : List Cursor). AreReachedBy lines dics token l)
           (sym c.deref-3.ensures.value) led);

@@ -5,10 +5,12 @@ use Rattle.ux_lexicon.proofs.reached.Reached.ending.Goals as goal
 
 pub returns-in-List-clause-found : goal.returns-in-List-clause-found
 returns-in-List-clause-found c =
-    IfOk-weaker c.ending.result _ _ (λ found fits alphabet content leads.
-    fits alphabet content c.args.text.now (search (rules, reached-List))) c.ending.ensures.found
+    IfOk-weaker c.ending.result _ _ (λ found fits content leads.
+    fits c.args.alphabet.now content c.args.text.now (search (rules, reached-List)))
+    c.ending.ensures.found
 
 pub returns-in-List-clause-sound : goal.returns-in-List-clause-sound
 returns-in-List-clause-sound c =
-    IfOk-weaker c.ending.result _ _ (λ found sound alphabet content leads.
-    sound alphabet content c.args.text.now (search (rules, reached-List))) c.ending.ensures.sound
+    IfOk-weaker c.ending.result _ _ (λ found sound content leads.
+    sound c.args.alphabet.now content c.args.text.now (search (rules, reached-List)))
+    c.ending.ensures.sound

@@ -1,6 +1,0 @@
-use Rattle.std.proofs.Common.{◌≡◌}
-use Rattle.ux_image_look_ups.proofs.ways.chars_of.Given as goal
-
--- the characters so far
-abbrev pub invariant-loop-c : goal.invariant-loop-c
-invariant-loop-c l = l.letters.items ≡ l.yielded
