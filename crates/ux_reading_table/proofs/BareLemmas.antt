@@ -5,15 +5,17 @@ use Rattle.std.specs.List.{AllZip, list_any}
 use Rattle.std.specs.Str.{bytes_eq}
 use Rattle.std.proofs.lemmas.Bool.{or_from, or_parts}
 use Rattle.std.proofs.lemmas.Slice.Eq.{bytes_eq-Decides}
+use Rattle.std.proofs.lemmas.Option.{same_Some}
 use Rattle.ux_dela.specs.Printed.{IsCodesText, printed, printed_codes, shield, shielded, shielded_form, shielded_lemma}
 use Rattle.ux_dela.specs.Signs.{COMMA, DOT, SLASH, is_form_sign, is_slash}
-use Rattle.ux_dela.specs.Sound.{HasNoFeed, IsSound, IsSoundText, is_feed}
-use Rattle.ux_dela.specs.Written.{Written, protected, written}
+use Rattle.ux_dela.specs.Sound.{HasNoFeed, IsSoundText, is_feed}
+use Rattle.ux_dela.specs.Written.{protected, written}
 use Rattle.ux_dela.specs.declared.entry.Codes.{Codes}
 use Rattle.ux_sentence.proofs.ReadingLemmas.{spelled}
 use Rattle.ux_sentence.specs.Readings.{IsReading, IsSpellable}
 use Rattle.ux_sentence.specs.Written.{OPENING_BRACE, CLOSING_BRACE, reading_text}
 use Rattle.ux_sentence.specs.declared.sentence.Reading.TheVariants.{Word}
+use Rattle.ux_reading_table.specs.Alike.{IsEntryText}
 use Rattle.ux_reading_table.specs.Bare.{HasParts, IsBareText, bare_entry, is_special, lemma_or}
 use Rattle.ux_reading_table.specs.Noting.{IsSpelling}
 use Rattle.ux_reading_table.specs.declared.bare.BareParts.{BareParts}
@@ -108,6 +110,16 @@ module _ (text : List ℕ) (parts : BareParts) (codes : Codes) (has : HasParts t
   bare_text =
       has.whole ∙ ap (λ (b : List ℕ). OPENING_BRACE ∷ (b ++ CLOSING_BRACE ∷ [])) body_printed
 
+  -- it is the text of an entry with these codes
+  pub bare_codes : IsEntryText text codes
+  bare_codes = record {
+    entry = bare_entry parts codes;
+    sound = bare_spellable;
+    text_is = bare_text;
+    codes_are = refl;
+  }
+
+  -- and it says this entry
   pub bare_spelling : IsSpelling text text
   bare_spelling =
       let word = Word (bare_entry parts codes) in (
@@ -117,6 +129,26 @@ module _ (text : List ℕ) (parts : BareParts) (codes : Codes) (has : HasParts t
       )
 
 -- codes stand beside a text
+pub known_there : (texts : List (List ℕ)) (codes : List Codes) (place : ℕ) (text : List ℕ) →
+    AllZip IsCodesText texts codes → slice_get texts place ≡ Some text →
+    (one : Codes) × (slice_get codes place ≡ Some one) × IsCodesText text one
+known_there [] codes place text are at = cc
+known_there (x ∷ texts) [] place text are at = absurd are
+known_there (x ∷ texts) (y ∷ codes) zero text are at =
+    let same : x ≡ text = cc in
+    (y, refl, subst (λ (t : List ℕ). IsCodesText t y) same are.0)
+known_there (x ∷ texts) (y ∷ codes) (suc place) text are at =
+    known_there texts codes place text are.1 at
+
+-- and no others do
+pub known_if : (texts : List (List ℕ)) (codes : List Codes) (place : ℕ) (text : List ℕ) →
+    AllZip IsCodesText texts codes → slice_get texts place ≡ Some text → (one : Codes) →
+    slice_get codes place ≡ Some one → IsCodesText text one
+known_if texts codes place text are at one is =
+    let found = known_there texts codes place text are at in
+    subst (IsCodesText text) (same_Some found.0 one (sym found.1 ∙ is)) found.2
+
+-- they stand within the list
 pub known_within : (texts : List (List ℕ)) (codes : List Codes) (place : ℕ) (text : List ℕ) →
     AllZip IsCodesText texts codes → slice_get texts place ≡ Some text → place < length codes
 known_within [] codes place text are at = cc

@@ -1,7 +1,8 @@
 pub mod BareLemmas
 pub mod CallerLemmas
 pub mod FieldsLemmas
-pub mod NextLemmas
+mod LikesLemmas
+mod NextLemmas
 pub mod NotingLemmas
 pub mod PlacesLemmas
 pub mod PrintedLemmas

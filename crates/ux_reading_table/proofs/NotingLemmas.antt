@@ -16,11 +16,9 @@ use Rattle.std.proofs.lemmas.List.Quantifiers.{position-Some}
 use Rattle.std.proofs.lemmas.Bool.{false≢true, lt-ltb}
 use Rattle.std.proofs.lemmas.Map.Keys.{apart_from_distinct}
 use Rattle.std.proofs.lemmas.Option.{get_or_from_slice_get, slice_get-map, slice_get-get_or, slice_get_within}
-use Rattle.ux_base.proofs.Lists.{nothing_in, first_or_later, less_or}
+use Rattle.ux_base.proofs.Lists.{less_or}
 use Rattle.ux_base.proofs.JoinedLists.{contains_mapped}
 use Rattle.indexmap.specs.IndexSet.{insert_key}
-use Rattle.ux_sentence.specs.declared.sentence.Reading.{Reading}
-use Rattle.ux_sentence.specs.Readings.{IsReading}
 use Rattle.ux_sentence.specs.Written.{reading_text}
 use Rattle.ux_reading_table.specs.Noting.{AddsSpelling, AddsText, IsNumbered, IsSpelling, KeepsPlaces, NotesText}
 use Rattle.ux_reading_table.specs.Numbered.{AreDifferent, IsPlaceOfText}

@@ -1,6 +1,6 @@
 -- Texts of entries in which no sign is protected, and the codes that are known. Inner: the crate's
 -- own functions alone speak of it.
-use Rattle.std.specs.Prelude.{◌≡◌, ◌≢◌, ℕ, Bool, false, ◌||◌, List, [], ◌∷◌, ◌++◌}
+use Rattle.std.specs.Prelude.{◌≡◌, ◌≢◌, ℕ, Bool, false, ◌||◌, List, [], ◌∷◌, ◌++◌, Some, slice_get}
 use Rattle.std.specs.List.{AllZip, list_any}
 use Rattle.ux_dela.specs.Printed.{IsCodesText}
 use Rattle.ux_dela.specs.Signs.{COMMA, DOT, is_form_sign, is_slash}
@@ -47,3 +47,8 @@ bare_entry parts codes = record {
 -- beside each text stand the codes for which it is printed
 abbrev pub AreKnown : KnownCodes → Type 0
 AreKnown known = AllZip IsCodesText (spellings known.texts) known.codes.items
+
+-- codes stay at their places
+abbrev pub KeepsCodes : (old new : List Codes) → Type 0
+KeepsCodes old new =
+    (place : ℕ) (one : Codes) → slice_get old place ≡ Some one → slice_get new place ≡ Some one

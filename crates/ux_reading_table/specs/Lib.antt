@@ -1,5 +1,8 @@
+pub mod Alike
 pub mod Bare
+pub mod Entries
 pub mod Kept
+pub mod Liking
 pub mod Noted
 pub mod Noting
 pub mod Numbered

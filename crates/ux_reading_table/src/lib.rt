@@ -4,7 +4,8 @@
 //! reads each different text once, and numbers the readings in the order in which they come.
 //! `NumberedSentences` then reads the file sentence by sentence, each link's reading told by its
 //! number, and `print_numbered` writes such a sentence. Begin with `table`; `specs/Numbered.antt`
-//! says what these numbers are, and `proofs/CallerLemmas.antt` has what a caller's proof cites.
+//! says what these numbers are, and `proofs/CallerLemmas.antt` has what a caller's proof cites. Beside
+//! each reading `ReadingTable::alike` tells one with the same codes (`specs/Alike.antt`).
 //!
 //! ```text
 //! the file             table.texts()     sentences.next(alloc, &table)
@@ -30,7 +31,9 @@
 
 mod bare;
 mod codes;
+pub mod entry_parts;
 mod fields;
+mod likes;
 mod noting;
 pub mod numbered;
 pub mod numbered_text;
@@ -38,6 +41,7 @@ pub mod printing;
 pub mod sentences;
 pub mod table;
 
+pub use entry_parts::EntryParts;
 pub use numbered::{NumberedLink, NumberedSentence};
 pub use numbered_text::NumberedText;
 pub use printing::print_numbered;

@@ -9,13 +9,15 @@ ghost use Rattle.ux_sentence.specs.Readings.{IsReading};
 ghost use Rattle.ux_sentence.specs.declared.error.SentenceError.TheVariants.{NoMemory as OutOfMemory};
 ghost use Rattle.ux_sentence.specs.declared.sentence.Link.{Link as LinkRecord};
 ghost use Rattle.ux_sentence.specs.declared.sentence.Reading.{Reading as ReadingRecord};
-ghost use Rattle.ux_reading_table.specs.Bare.{AreKnown};
+ghost use Rattle.ux_reading_table.specs.Bare.{AreKnown, KeepsCodes};
+ghost use Rattle.ux_reading_table.specs.Liking.{HasCodesText};
 ghost use Rattle.ux_reading_table.specs.Noted.{AreNoted};
 ghost use Rattle.ux_reading_table.specs.Noting.{AddsSpelling, AddsText, IsSpelling, KeepsPlaces, NotesText, spellings};
 ghost use Rattle.ux_reading_table.specs.Numbered.{AreDifferent, IsPlaceOfText, IsTold, text_of};
 
-use crate::codes::{KnownCodes, is_printed_so, no_codes};
+use crate::codes::{KnownCodes, codes_printed, no_codes};
 use crate::fields::fields_of;
+use crate::likes::{Likes, no_likes, note_like};
 use crate::numbered::NumberedLink;
 use indexmap::IndexSet;
 use std::alloc::Global;
@@ -33,6 +35,8 @@ pub(crate) struct Noted<'a> {
     pub printed: IndexSet<Txt>,
     /// The codes of their entries.
     pub codes: KnownCodes<'a>,
+    /// Which readings have the same codes.
+    pub likes: Likes,
     /// For each link, in the order of the file, the place of its text among the spelled ones.
     pub places: Vec<u32>,
 }
@@ -47,6 +51,7 @@ pub(crate) fn nothing_noted<'a>(alloc: Global) -> Noted<'a>
         numbers: Vec::new(alloc),
         printed: IndexSet::new(alloc),
         codes: no_codes(alloc),
+        likes: no_likes(alloc),
         places: Vec::new(alloc),
     }
 }
@@ -102,7 +107,14 @@ fn note<'a>(alloc: Global, noted: &mut Noted<'a>, text: &'a str) -> Mem<Option<u
     let Some(printed) = printed_by(alloc, &mut noted.codes, text)? else {
         return Ok(None);
     };
-    let number = number_of(&mut noted.printed, printed)?;
+    let Printed { text, codes } = printed;
+    let number = number_of(&mut noted.printed, text)?;
+    note_like(
+        &mut noted.likes,
+        noted.codes.codes.as_slice(),
+        codes,
+        number,
+    )?;
     noted.numbers.push(number)?;
     Ok(Some(number))
 }
@@ -133,18 +145,39 @@ fn number_of(texts: &mut IndexSet<Txt>, text: Txt) -> Mem<u32>
     Ok(number as u32)
 }
 
+/// The printed text of a reading.
+#[derive(Drop)]
+struct Printed {
+    text: Txt,
+    /// The place of its codes among the known ones, if it is known.
+    codes: Option<usize>,
+}
+
 /// The printed text of the reading that the text says, or nothing where it says none. The reading is
 /// read and printed only where another text may be printed for it.
-fn printed_by<'a>(alloc: Global, codes: &mut KnownCodes<'a>, text: &'a str) -> Mem<Option<Txt>>
-    requires { AreKnown codes.old }
-    ensures known { OnOk result (AreKnown codes.new) }
+fn printed_by<'a>(alloc: Global, known: &mut KnownCodes<'a>, text: &'a str) -> Mem<Option<Printed>>
+    requires { AreKnown known.old }
+    ensures known { OnOk result (AreKnown known.new) }
+    ensures kept { OnOk result (KeepsCodes known.old.codes.items known.new.codes.items) }
     ensures printed { IfOk result (λ found. MatchOption found
-        ((reading : ReadingRecord) → IsReading text.now reading → ⊥) (IsSpelling text.now)) }
+        ((reading : ReadingRecord) → IsReading text.now reading → ⊥)
+        (λ printed. IsSpelling text.now printed.text)) }
+    ensures codes { IfOk result (λ found. IfSome found (λ printed.
+        IfSome printed.codes (HasCodesText known.new.codes.items printed.text))) }
 {
-    if is_printed_so(alloc, codes, text)? {
-        return Ok(Some(Txt::from_str(alloc, text)?));
+    if let Some(place) = codes_printed(alloc, known, text)? {
+        return Ok(Some(Printed {
+            text: Txt::from_str(alloc, text)?,
+            codes: Some(place),
+        }));
     }
-    printed_of(alloc, text)
+    let Some(printed) = printed_of(alloc, text)? else {
+        return Ok(None);
+    };
+    Ok(Some(Printed {
+        text: printed,
+        codes: None,
+    }))
 }
 
 /// The printed text of the reading that the text says, or nothing where it says none.

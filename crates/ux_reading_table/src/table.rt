@@ -5,6 +5,7 @@
 //! them have one number. Texts are looked up as they are spelled, so that none is read twice.
 
 ghost use Rattle.std.specs.Prelude.{◌≡◌, ◌⊎◌, ◌<◌, ◌^◌, All, Contains, Some, IfErr, IfOk, IfSome, MatchOption, length, slice_get};
+ghost use Rattle.ux_dela.specs.Sound.{IsSound};
 ghost use Rattle.ux_sentence.specs.Files.{LinkSays, Refuses, RefusesLink};
 ghost use Rattle.ux_sentence.specs.Readings.{IsReading, IsSpellable};
 ghost use Rattle.ux_sentence.specs.Written.{reading_text};
@@ -12,12 +13,17 @@ ghost use Rattle.ux_sentence.specs.declared.error.SentenceError.{SentenceError a
 ghost use Rattle.ux_sentence.specs.declared.error.SentenceError.TheVariants.{NoMemory as OutOfMemory};
 ghost use Rattle.ux_sentence.specs.declared.sentence.Link.{Link as LinkRecord};
 ghost use Rattle.ux_sentence.specs.declared.sentence.Reading.{Reading as ReadingRecord};
+ghost use Rattle.ux_sentence.specs.declared.sentence.Reading.TheVariants.{Word};
+ghost use Rattle.ux_reading_table.specs.Alike.{AreAlike};
+ghost use Rattle.ux_reading_table.specs.Entries.{entry_of};
 ghost use Rattle.ux_reading_table.specs.Noted.{AreNoted};
 ghost use Rattle.ux_reading_table.specs.Noting.{IsNumberIfKnown, IsToldIfKnown, spellings};
 ghost use Rattle.ux_reading_table.specs.Numbered.{IsPlaceOfText, IsReadingText, IsTableOf};
 
-use crate::codes::{KnownCodes, bare_reading};
+use crate::codes::{KnownCodes, entry_parts};
+use crate::entry_parts::{EntryParts, own_entry};
 use crate::fields::fields_of;
+use crate::likes::Likes;
 use crate::noting::{Noted, place_of as spelled_place, printed_of};
 use crate::numbered::NumberedLink;
 use crate::numbered_text::NumberedText;
@@ -39,6 +45,8 @@ pub struct ReadingTable<'a> {
     texts: IndexSet<Txt>,
     /// The codes of their entries.
     codes: KnownCodes<'a>,
+    /// For each reading one that is alike.
+    alike: Vec<u32>,
     /// For each link of the file, in order, the place of its text among the spelled ones, where it
     /// is looked for first.
     places: Vec<u32>,
@@ -46,6 +54,7 @@ pub struct ReadingTable<'a> {
 
 impl<'a> Model for ReadingTable<'a> {
     ghost use Rattle.std.specs.Prelude.{List, ℕ};
+    ghost use Rattle.ux_reading_table.specs.Alike.{AreAlike};
     ghost use Rattle.ux_reading_table.specs.Bare.{AreKnown};
     ghost use Rattle.ux_reading_table.specs.Kept.{IsKept};
 
@@ -55,7 +64,7 @@ impl<'a> Model for ReadingTable<'a> {
 
     ghost invariant = { λ table.
         IsKept table.texts.keys table.spelled.keys table.numbers.items
-        × AreKnown table.codes };
+        × AreKnown table.codes × AreAlike table.texts.keys table.alike.items };
 }
 
 impl<'a> ReadingTable<'a> {
@@ -83,13 +92,16 @@ impl<'a> ReadingTable<'a> {
             numbers,
             printed,
             codes,
+            likes,
             places,
         } = noted;
+        let Likes { alike, .. } = likes;
         ReadingTable {
             spelled,
             numbers,
             texts: printed,
             codes,
+            alike,
             places,
         }
     }
@@ -108,15 +120,36 @@ impl<'a> ReadingTable<'a> {
         ensures text { IfOk result (λ reading.
             slice_get self.now number ≡ Some (reading_text reading)) }
     {
-        let texts = self.texts.as_slice();
-        let text = texts[number].as_str();
-        if let Some(reading) = bare_reading(alloc, &self.codes, text)? {
-            return Ok(reading);
+        if let Some(parts) = self.entry_parts(number) {
+            return Ok(Reading::Word(own_entry(alloc, &parts)?));
         }
-        match read_reading(alloc, text)? {
+        let texts = self.texts.as_slice();
+        match read_reading(alloc, texts[number].as_str())? {
             Some(reading) => Ok(reading),
             None => unreachable!(),
         }
+    }
+
+    /// The parts of the reading with the number, where it is an entry in whose text no sign is
+    /// protected and whose codes are known. Takes no memory. Of other readings it answers nothing:
+    /// `reading` tells them all.
+    pub fn entry_parts(&self, number: usize) -> Option<EntryParts<'_>>
+        requires { number < length self.now }
+        ensures sound { IfSome result (λ parts. IsSound (entry_of parts)) }
+        ensures text { IfSome result (λ parts.
+            slice_get self.now number ≡ Some (reading_text (Word (entry_of parts)))) }
+    {
+        let texts = self.texts.as_slice();
+        entry_parts(&self.codes, texts[number].as_str())
+    }
+
+    /// For each reading one that is alike, mostly the first that is. What asks an entry for its
+    /// codes alone has one answer for both. A reading of which none is known, or of which none is
+    /// told here, is like itself.
+    pub fn alike(&self) -> &[u32]
+        ensures { AreAlike self.now result.now }
+    {
+        self.alike.as_slice()
     }
 
     /// The link that the line of this number says, in a sentence of so many states. So many links

@@ -1,5 +1,5 @@
 use lib.Pointwise.{bytes_decides}
-use Rattle.std.proofs.Common.{arith, ◌≡◌, [], ◌∷◌, ◌++◌, ℕ, List, Some, sym, ◌∙◌, ap, length}
+use Rattle.std.proofs.Common.{arith, [], ◌∷◌, ◌++◌, ℕ, List, Some, sym, ◌∙◌, ap, length}
 use Rattle.std.specs.Prelude.{◌==◌}
 use Rattle.std.proofs.lemmas.Bool.{both_ways}
 use Rattle.std.proofs.lemmas.Str.Pattern.{split_parts}

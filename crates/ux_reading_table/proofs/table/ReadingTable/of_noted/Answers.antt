@@ -8,4 +8,5 @@ invariant_of-result c = (
     few = c.requires.noted.few;
   },
   c.requires.noted.known,
+  c.requires.noted.likes.alike,
 )
