@@ -11,7 +11,7 @@ use Rattle.ux_elag.specs.Numbers.{reading_at}
 use Rattle.ux_elag.specs.Ready.{AreKinds, ArePassed, IsKindFor, IsTable, tests_at}
 
 -- the tests of a reading are those of its kind
-row-at : (kinds : List (List ℕ)) (numbers : List ℕ) (place : ℕ) → place < length numbers →
+pub row-at : (kinds : List (List ℕ)) (numbers : List ℕ) (place : ℕ) → place < length numbers →
     tests_at (tests_of kinds numbers) place ≡ kind_at kinds (get_or numbers place 0)
 row-at kinds numbers place lt = get_or-map (kind_at kinds) numbers place 0 [] lt
 

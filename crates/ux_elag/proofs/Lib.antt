@@ -1,3 +1,4 @@
+pub mod CodesLemmas
 mod RanksLemmas
 pub mod Named
 pub mod NamedPaths

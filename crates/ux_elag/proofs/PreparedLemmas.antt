@@ -151,62 +151,63 @@ written-back items new len is same =
     subst (λ (n : ℕ). take n (new ++ drop (length new) items) ≡ new) e
     (take-append_seam new (drop (length new) items))
 
--- the first rules have noted the reading, and the others are as they were
-pub record AreNotedTo (reading : Reading) (old now : List PreparedRule) (i : ℕ) : Type 0 where
+-- the first rules have become what they are to be, and the others are as they were
+pub record AreNotedTo (IsNoted : PreparedRule → PreparedRule → Type 0)
+    (old now : List PreparedRule) (i : ℕ) : Type 0 where
   pub noted : (k : ℕ) (d : PreparedRule) → k < i → k < length old →
-      Notes reading (get_or old k d) (get_or now k d)
+      IsNoted (get_or old k d) (get_or now k d)
   pub behind : (k : ℕ) (d : PreparedRule) → i ≤ k → get_or now k d ≡ get_or old k d
 
-pub noted-none : (reading : Reading) (old : List PreparedRule) → AreNotedTo reading old old 0
-noted-none reading old = record {
-  noted = λ k d lt inside. absurd (omega arith);
-  behind = λ k d past. refl;
-}
+module _ (IsNoted : PreparedRule → PreparedRule → Type 0) where
+  pub noted-none : (old : List PreparedRule) → AreNotedTo IsNoted old old 0
+  noted-none old = record {
+    noted = λ k d lt inside. absurd (omega arith);
+    behind = λ k d past. refl;
+  }
 
-pub noted-more : (reading : Reading) (old now : List PreparedRule) (i : ℕ) (rule : PreparedRule) →
-    i < length now → AreNotedTo reading old now i →
-    ((d : PreparedRule) → Notes reading (get_or now i d) rule) →
-    AreNotedTo reading old (set now i rule) (i + 1)
-noted-more reading old now i rule inside are notes = record {
-  noted = λ k d lt within. elim (same_or k i) [
-    | inl e ↦
-        let here : get_or (set now i rule) k d ≡ rule =
-        ap (λ (n : ℕ). get_or (set now i rule) n d) e ∙ get_or-set_same now i rule d inside in
-        let was : get_or now i d ≡ get_or old k d =
-        are.behind i d (omega arith) ∙ ap (λ (n : ℕ). get_or old n d) (sym e) in
-        subst (λ (r : PreparedRule). Notes reading (get_or old k d) r) (sym here)
-        (subst (λ (r : PreparedRule). Notes reading r rule) was (notes d))
-    | inr other ↦
-        let less : k < i = elim (less_or k i) [
-          | inl below ↦ below
-          | inr past ↦ absurd (other (omega arith))
-        ] in
-        subst (λ (r : PreparedRule). Notes reading (get_or old k d) r)
-        (sym (get_or-set_other now i k rule d other)) (are.noted k d less within)
-  ];
-  behind = λ k d past.
-      let other : k ≡ i → ⊥ = λ e. omega (arith, e, past) in
-      get_or-set_other now i k rule d other ∙ are.behind k d (omega arith);
-}
+  -- one more rule has
+  pub noted-more : (old now : List PreparedRule) (i : ℕ) (rule : PreparedRule) →
+      i < length now → AreNotedTo IsNoted old now i →
+      ((d : PreparedRule) → IsNoted (get_or now i d) rule) →
+      AreNotedTo IsNoted old (set now i rule) (i + 1)
+  noted-more old now i rule inside are notes = record {
+    noted = λ k d lt within. elim (same_or k i) [
+      | inl e ↦
+          let here : get_or (set now i rule) k d ≡ rule =
+          ap (λ (n : ℕ). get_or (set now i rule) n d) e ∙ get_or-set_same now i rule d inside in
+          let was : get_or now i d ≡ get_or old k d =
+          are.behind i d (omega arith) ∙ ap (λ (n : ℕ). get_or old n d) (sym e) in
+          subst (λ (r : PreparedRule). IsNoted (get_or old k d) r) (sym here)
+          (subst (λ (r : PreparedRule). IsNoted r rule) was (notes d))
+      | inr other ↦
+          let less : k < i = elim (less_or k i) [
+            | inl below ↦ below
+            | inr past ↦ absurd (other (omega arith))
+          ] in
+          subst (λ (r : PreparedRule). IsNoted (get_or old k d) r)
+          (sym (get_or-set_other now i k rule d other)) (are.noted k d less within)
+    ];
+    behind = λ k d past.
+        let other : k ≡ i → ⊥ = λ e. omega (arith, e, past) in
+        get_or-set_other now i k rule d other ∙ are.behind k d (omega arith);
+  }
 
--- what holds at each place holds all along
-zip-from : (R : PreparedRule → PreparedRule → Type 0) (xs ys : List PreparedRule) →
-    length xs ≡ length ys → ((k : ℕ) (d : PreparedRule) → k < length xs →
-    R (get_or xs k d) (get_or ys k d)) →
-    AllZip R xs ys
-zip-from R [] [] e each = tt
-zip-from R [] (y ∷ ys) e each = absurd (omega (arith, e))
-zip-from R (x ∷ xs) [] e each = absurd (omega (arith, e))
-zip-from R (x ∷ xs) (y ∷ ys) e each = (
-  each 0 x (omega arith),
-  zip-from R xs ys (omega (arith, e)) (λ k d lt. each (suc k) d (omega (arith, lt))),
-)
+  -- what holds at each place holds all along
+  zip-from : (xs ys : List PreparedRule) → length xs ≡ length ys →
+      ((k : ℕ) (d : PreparedRule) → k < length xs → IsNoted (get_or xs k d) (get_or ys k d)) →
+      AllZip IsNoted xs ys
+  zip-from [] [] e each = tt
+  zip-from [] (y ∷ ys) e each = absurd (omega (arith, e))
+  zip-from (x ∷ xs) [] e each = absurd (omega (arith, e))
+  zip-from (x ∷ xs) (y ∷ ys) e each = (
+    each 0 x (omega arith),
+    zip-from xs ys (omega (arith, e)) (λ k d lt. each (suc k) d (omega (arith, lt))),
+  )
 
-pub noted-all : (reading : Reading) (old now : List PreparedRule) (i : ℕ) →
-    length old ≡ length now → length now ≤ i → AreNotedTo reading old now i →
-    AllZip (Notes reading) old now
-noted-all reading old now i same end are = zip-from (Notes reading) old now same
-    (λ k d lt. are.noted k d (omega (arith, lt, same, end)) lt)
+  pub noted-all : (old now : List PreparedRule) (i : ℕ) → length old ≡ length now →
+      length now ≤ i → AreNotedTo IsNoted old now i → AllZip IsNoted old now
+  noted-all old now i same end are = zip-from old now same
+      (λ k d lt. are.noted k d (omega (arith, lt, same, end)) lt)
 
 -- a numbered sentence leads on as the one for which it stands does
 told-leads : (texts : List (List ℕ)) (states : ℕ) (numbered : List NumberedLink)

@@ -1,3 +1,4 @@
+pub mod Codes
 pub mod Left
 pub mod Numbering
 pub mod Numbers

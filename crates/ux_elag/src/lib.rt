@@ -25,6 +25,7 @@
 #![tactic(auto)]
 
 pub mod applying;
+mod codes_alone;
 mod keeping;
 mod naming;
 mod numbering;

@@ -1,6 +1,7 @@
 //! A rule with the kinds of a table's readings.
 
 ghost use Rattle.std.specs.Prelude.{◌<◌, ◌^◌, OnOk, length};
+ghost use Rattle.ux_elag.specs.Codes.{NotesAgain};
 ghost use Rattle.ux_elag.specs.Prepared.{Notes};
 
 use crate::passing::kind_of_reading;
@@ -25,6 +26,16 @@ impl PreparedRule {
         ensures { OnOk result (Notes reading.now self.old self.new) }
     {
         let kind = kind_of_reading(alloc, self.rule.steps(), &mut self.monitor, reading)?;
+        self.kinds.push(kind)?;
+        Ok(())
+    }
+
+    /// Adds the kind of an earlier reading once more.
+    pub(crate) fn note_again(&mut self, like: usize) -> Mem<()>
+        requires { like < length self.old.kinds.items }
+        ensures { OnOk result (NotesAgain like self.old self.new) }
+    {
+        let kind = self.kinds[like];
         self.kinds.push(kind)?;
         Ok(())
     }

@@ -47,6 +47,13 @@ impl ReadyRule {
         Ok(ReadyRule { rule, monitor })
     }
 
+    /// The steps of the rule.
+    pub(crate) fn steps(&self) -> &[Step]
+        ensures { result.now ≡ self.now.steps }
+    {
+        self.rule.steps()
+    }
+
     /// The rule, to be prepared for a table of which it has no kinds yet.
     pub(crate) fn without_kinds(self, alloc: Global) -> PreparedRule
         ensures { IsFresh self result }

@@ -1,6 +1,6 @@
 -- Monitors side by side as one machine.
 use Rattle.std.proofs.Common.{arith, ◌≡◌, ℕ, zero, suc, ◌<◌, ◌≤◌, ◌^◌, List, [], ◌∷◌, ◌++◌, ◌↔◌, ◌⊎◌, ◌+◌, inl, inr, refl, sym, ◌∙◌, ap, subst, length, length-append, get_or}
-use Rattle.std.specs.Prelude.{All, Contains, IsTrue, None, Option, Some, Vec, map, slice_get}
+use Rattle.std.specs.Prelude.{All, Contains, IfSome, IsTrue, None, Option, Some, Vec, map, slice_get}
 use Rattle.std.specs.Option.{option_map}
 use Rattle.std.specs.List.{AllZip}
 use Rattle.std.proofs.lemmas.List.Elements.{All-cons, All-head, All-nil, All-tail}
@@ -304,6 +304,28 @@ numbered-more {Z} parts of more old new count number kinds kept at same is are =
                 (same ∙ ap (λ (r : ℕ). kinds-at parts r) (sym last)) at)
           ];
     }
+
+-- readings of the same kinds have the kinds of one another
+pub kinds-same : (parts : List RulePart) (one other : ℕ) →
+    All (λ (part : RulePart). get_or part.of one 0 ≡ get_or part.of other 0) parts →
+    kinds-at parts one ≡ kinds-at parts other
+kinds-same [] one other same = refl
+kinds-same (part ∷ parts) one other same =
+    ap (λ (k : ℕ). k ∷ kinds-at parts one)
+    (All-head (λ (p : RulePart). get_or p.of one 0 ≡ get_or p.of other 0) part parts same)
+    ∙ ap (λ (ks : List ℕ). get_or part.of other 0 ∷ ks)
+    (kinds-same parts one other
+    (All-tail (λ (p : RulePart). get_or p.of one 0 ≡ get_or p.of other 0) part parts same))
+
+-- and so one number
+pub like-numbered : {Z : Type 0} (parts : List RulePart) (of : List ℕ) (keys : List (Vec ℕ Z))
+    (count reading : ℕ) (known : Option ℕ) → AreNumbered parts of keys count →
+    IfSome known (λ number. (other : ℕ) × (slice_get of other ≡ Some number)
+    × All (λ (part : RulePart). get_or part.of other 0 ≡ get_or part.of reading 0) parts) →
+    IfSome known (λ number. IsKindAt keys number (kinds-at parts reading))
+like-numbered parts of keys count reading None are found = tt
+like-numbered parts of keys count reading (Some number) are (other, at, same) =
+    subst (IsKindAt keys number) (kinds-same parts other reading same) (are.are other number at)
 
 pub kind-here : {Z : Type 0} (keys : List (Vec ℕ Z)) (number : ℕ) (key : Vec ℕ Z)
     (kinds : List ℕ) → slice_get keys number ≡ Some key → kinds ≡ key.items →

@@ -43,7 +43,7 @@
 //!
 //! ```text
 //! let parts = vec![in alloc; Part::new(&first, &first_kinds), Part::new(&second, &second_kinds)];
-//! let mut product = Product::of(alloc, &parts, readings)?;
+//! let mut product = Product::of(alloc, &parts, readings, &[])?;
 //! let kept = keep_satisfying_each(alloc, &mut product, &parts, &links, last);
 //! ```
 #![tactic(auto)]

@@ -4,7 +4,7 @@
 //! all of them saw, and so there may be as many as the product of theirs. Where a pass takes too many
 //! steps it is given up, and the rules are to be applied in turn.
 
-ghost use Rattle.std.specs.Prelude.{◌≡◌, ◌<◌, ◌≤◌, ℕ, List, All, IfNone, IfOk, IfSome, get_or, length, map};
+ghost use Rattle.std.specs.Prelude.{◌≡◌, ◌↔◌, ◌<◌, ◌≤◌, ℕ, List, All, IfNone, IfOk, IfSome, IsTrue, Some, get_or, length, map, slice_get};
 ghost use Rattle.ux_subsets.specs.Paths.{IsAscending, IsLeft, Spells};
 ghost use Rattle.ux_monitor.specs.Parts.{AreRemembered, AreSameKinds, IsKindAt, IsProductOf, RulePart, SatisfiesParts, StandsJointly};
 
@@ -30,16 +30,17 @@ pub struct Product {
 }
 
 impl Product {
-    /// The product of the rules, over the readings with the first so many numbers.
-    pub fn of(alloc: Global, parts: &[Part<'_>], count: usize) -> Mem<Product>
+    /// The product of the rules, over the readings with the first so many numbers. Beside a reading
+    /// may stand an earlier one that is likely to be of its kind in each rule, which saves a look-up.
+    pub fn of(alloc: Global, parts: &[Part<'_>], count: usize, likes: &[u32]) -> Mem<Product>
         requires { All (λ part. count ≤ length part.of) parts.now }
         ensures { IfOk result (IsProductOf parts.now) }
     {
         let mut kinds = IndexSet::new(alloc);
         let mut of = Vec::with_capacity(alloc, count)?;
         for reading in 0..count {
-            let kind = kinds_in(alloc, parts, reading)?;
-            let number = number_of(&mut kinds, kind)?;
+            let like = kind_like(parts, of.as_slice(), likes.get(reading), reading);
+            let number = number_at(alloc, parts, &mut kinds, like, reading)?;
             of.push(number)?;
         }
         Ok(Product { of, memories: None })
@@ -187,6 +188,48 @@ fn kept_or_new(alloc: Global, memories: Memories, count: usize) -> Mem<Memories>
         return Memories::new(alloc, count);
     }
     Ok(memories)
+}
+
+/// The number of the kind of the reading: this one, if it is known, or the one that it has or gets.
+fn number_at(
+    alloc: Global,
+    parts: &[Part<'_>],
+    kinds: &mut IndexSet<Vec<usize>>,
+    known: Option<usize>,
+    reading: usize,
+) -> Mem<usize>
+    requires { IfSome known (λ number.
+        IsKindAt kinds.old.keys number (map (λ part. get_or part.of reading 0) parts.now)) }
+    ensures kept { (number : ℕ) (tests : List ℕ) → IsKindAt kinds.old.keys number tests →
+        IsKindAt kinds.new.keys number tests }
+    ensures number { IfOk result (λ number.
+        IsKindAt kinds.new.keys number (map (λ part. get_or part.of reading 0) parts.now)) }
+{
+    if let Some(number) = known {
+        return Ok(number);
+    }
+    let kind = kinds_in(alloc, parts, reading)?;
+    number_of(kinds, kind)
+}
+
+/// The number of the kind of the reading, if it is that of the reading that is likely to be like it.
+fn kind_like(parts: &[Part<'_>], of: &[usize], like: Option<&u32>, reading: usize) -> Option<usize>
+    ensures { IfSome result (λ number. (other : ℕ) × (slice_get of.now other ≡ Some number)
+        × All (λ part. get_or part.of other 0 ≡ get_or part.of reading 0) parts.now) }
+{
+    let like = *like? as usize;
+    let number = *of.get(like)?;
+    if are_alike(parts, like, reading) {
+        return Some(number);
+    }
+    None
+}
+
+/// Whether the two readings are of one kind in each rule.
+fn are_alike(parts: &[Part<'_>], one: usize, other: usize) -> bool
+    ensures { IsTrue result ↔ All (λ part. get_or part.of one 0 ≡ get_or part.of other 0) parts.now }
+{
+    parts.iter().all(|part| part.kind(one) == part.kind(other))
 }
 
 /// The kind of the reading in each rule.

@@ -6,7 +6,7 @@ use Rattle.ux_elag.proofs.PreparedLemmas.{noted-all, noted-more, noted-none}
 use Rattle.ux_elag.proofs.prepared.note_reading.Goals as goal
 
 pub loop-index-init : goal.loop-index-init
-loop-index-init c = noted-none c.args.reading.now c.args.rules.now
+loop-index-init c = noted-none (Notes c.args.reading.now) c.args.rules.now
 
 pub note-requires : goal.note-requires
 note-requires c =
@@ -22,12 +22,12 @@ loop-index-preserved c =
     let i = c.loop-index.index in
     let rule = c.index-rules-index.result in
     let inside : i < length now = omega arith in
-    noted-more c.args.reading.now c.args.rules.now now i c.note.new.self inside
+    noted-more (Notes c.args.reading.now) c.args.rules.now now i c.note.new.self inside
     c.loop-index.invariant (λ d. subst (λ (r : PreparedRule). Notes c.args.reading.now r
     c.note.new.self)
     (get_or_default now i rule d inside) c.in_ok-note.ensures)
 
 pub returns : goal.returns
 returns c =
-    noted-all c.args.reading.now c.args.rules.now c.loop-index.rules c.loop-index.index
+    noted-all (Notes c.args.reading.now) c.args.rules.now c.loop-index.rules c.loop-index.index
     (omega arith) (omega arith) c.loop-index.invariant

@@ -4,6 +4,8 @@ use Rattle.std.specs.List.{AllZip}
 use Rattle.std.proofs.lemmas.List.Elements.{length_all_zip}
 use Rattle.ux_elag.specs.declared.prepared_rule.PreparedRule.{PreparedRule}
 use Rattle.ux_monitor.specs.Parts.{IsProductOf, RulePart}
+use Rattle.ux_rules.specs.Rules.{RuleSteps}
+use Rattle.ux_elag.specs.Codes.{AreUsable}
 use Rattle.ux_elag.specs.Prepared.{ArePrepared, IsPreparedFor, Notes, parts_in}
 use Rattle.ux_elag.proofs.PreparedLemmas.{fresh-prepared, noted-prepared, parts-long, rules_of, written-back}
 use Rattle.ux_elag.proofs.prepared.PreparedRules.of.Goals as goal
@@ -34,6 +36,19 @@ loop-number-preserved c =
       each = subst (All (IsPreparedFor texts (c.loop-number.number + 1))) (sym is) found.1;
     }
 
+pub note_number-requires-clause-prepared : goal.note_number-requires-clause-prepared
+note_number-requires-clause-prepared c =
+    subst (All (IsPreparedFor c.args.table.now c.loop-number.number))
+    (sym c.as_mut_slice.ensures.value) c.loop-number.invariant.each
+
+-- the rules are still those that were looked at
+pub note_number-requires-clause-likes : goal.note_number-requires-clause-likes
+note_number-requires-clause-likes c =
+    let usable = subst (λ (rs : List RuleSteps). AreUsable c.args.table.now rs
+    c.usable_likes-likes.result.now) c.as_slice.ensures.value c.usable_likes-likes.ensures in
+    subst (λ (rs : List RuleSteps). AreUsable c.args.table.now rs c.usable_likes-likes.result.now)
+    (sym (ap rules_of c.as_mut_slice.ensures.value ∙ c.loop-number.invariant.same)) usable
+
 pub product_of-requires : goal.product_of-requires
 product_of-requires c =
     let same = c.texts-texts.ensures in
@@ -41,7 +56,7 @@ product_of-requires c =
     let long = ap length same in omega (arith, long) in
     let len = ap length same in
     subst (λ (rs : List PreparedRule). All (λ (part : RulePart). length c.texts-texts.result.now ≤ length part.of)
-    (parts_in rs)) (sym c.as_slice.ensures.value)
+    (parts_in rs)) (sym c.as_slice-2.ensures.value)
     (subst (λ (n : ℕ). All (λ (part : RulePart). n ≤ length part.of)
     (parts_in c.loop-number.prepared.items)) (all ∙ sym len)
     (parts-long c.args.table.now c.loop-number.number c.loop-number.prepared.items
@@ -59,5 +74,5 @@ invariant_of-result c =
             c.loop-number.invariant.each;
       }),
       subst (λ (rs : List PreparedRule). IsProductOf (parts_in rs) c.in_ok-product.product)
-          c.as_slice.ensures.value c.in_ok-product.ensures,
+          c.as_slice-2.ensures.value c.in_ok-product.ensures,
     )
