@@ -30,7 +30,7 @@ use ux_texts::read_alphabet;
 use ux_tfst_locate::Finder;
 
 /// Sentences of so many links are searched together. That takes few megabytes.
-const MOST_LINKS: usize = 65_536;
+const MOST_LINKS: usize = 8_192;
 
 /// Reads an alphabet, a grammar and the automata of sentences, and gives a line for each stretch of
 /// a sentence that the grammar derives.

@@ -1,6 +1,6 @@
 -- The arcs of a lattice lead ahead, since the links of sentences lead to greater states.
-use Rattle.std.proofs.Common.{arith, ◌≡◌, ℕ, ◌<◌, ◌≤◌, ◌⊎◌, List, [], inl, inr, refl, sym, subst, length}
-use Rattle.std.specs.Prelude.{All, Contains, flat_map, map}
+use Rattle.std.proofs.Common.{arith, ◌<◌, List, inl, inr, refl, subst, length}
+use Rattle.std.specs.Prelude.{Contains, flat_map, map}
 use Rattle.std.proofs.lemmas.List.Elements.{All-contains}
 use Rattle.std.proofs.lemmas.Option.{slice_get_within}
 use Rattle.ux_base.proofs.Lists.{nothing_in}

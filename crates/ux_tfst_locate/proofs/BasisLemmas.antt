@@ -1,30 +1,22 @@
 -- Sentences side by side as an input: what a label takes lies ahead, and where a label leads.
 use Rattle.std.proofs.Common.{arith, ◌≡◌, ℕ, ◌+◌, ◌<◌, ◌≤◌, ◌⊎◌, ◌↔◌, List, [], ◌∷◌, ◌++◌, inl, inr, refl, sym, ap, subst, ◌∙◌, length, get_or, take}
 use Rattle.std.specs.Prelude.{Contains}
-use Rattle.std.specs.List.{range_with_len}
-use Rattle.std.specs.List.Sorted.{IsStrictlyIncreasing}
-use Rattle.std.proofs.lemmas.List.FromFn.{get_or-range_with_len, length-range_with_len}
 use Rattle.std.proofs.lemmas.List.Elements.{Contains-append_left, Contains-push, Contains-push_cases}
-use Rattle.std.proofs.lemmas.Option.{slice_get_within}
-use Rattle.ux_base.proofs.JoinedLists.{contains_range}
 use Rattle.ux_base.proofs.Lists.{nothing_in, take_more, take_whole}
 use Rattle.ux_alphabet.specs.Letters.{Letters}
-use Rattle.ux_chart.specs.Likely.{AreLikely}
-use Rattle.ux_meaning.specs.Inputs.{Input}
-use Rattle.ux_net.specs.declared.net_graph.NetGraph.{NetGraph}
 use Rattle.ux_net.specs.declared.label.Label.{Label}
 use Rattle.ux_net.specs.declared.label.Label.TheVariants as label
 use Rattle.ux_outputs.specs.declared.event.Event.TheVariants as event
 use Rattle.ux_parts.specs.Ordered.{GoesAhead, IsTaking}
 use Rattle.ux_parts.specs.Runs.{Plain}
-use Rattle.ux_parts.specs.declared.parts.Parts.{Parts}
 use Rattle.ux_sentence.specs.declared.sentence.Reading.{Reading}
 use Rattle.ux_tfst_locate.specs.declared.lattice.Arc.{Arc}
 use Rattle.ux_tfst_locate.specs.Bases.{StaysPut}
 use Rattle.ux_tfst_locate.specs.Inputs.{TakesArc, lattice_input}
+use Rattle.ux_tfst_locate.specs.Lattices.{Rows}
 use Rattle.ux_tfst_locate.specs.Reaching.{AreAhead}
 
-module _ (letters : Letters) (readings : List Reading) (rows : List (List Arc)) where
+module _ (letters : Letters) (readings : List Reading) (rows : Rows) where
   taking : (x : Label) (p k : ℕ) → TakesArc letters readings rows x p k → IsTaking x
   taking (label.CaseFolded text) p k t = tt
   taking (label.CaseExact text) p k t = tt
@@ -102,25 +94,6 @@ pushed old new at P put is k = subst (λ (l : List ℕ). Contains l k ↔ (Conta
     | inr p ↦ subst (λ n. Contains (old ++ at ∷ []) n) ((is k).0 p) (Contains-push old at)
   ],
 )
-
--- the numbers below a count ascend
-pub range_ascends : (count : ℕ) → IsStrictlyIncreasing (range_with_len 0 count)
-range_ascends count = λ k inside.
-    let long = length-range_with_len 0 count in
-    let here = get_or-range_with_len 0 count k 0 (omega (arith, inside, long)) in
-    let next = get_or-range_with_len 0 count (k + 1) 0 (omega (arith, inside, long)) in
-    omega (arith, here, next)
-
--- all parts are worth a search
-pub likely_all : (input : Input) (net : List NetGraph) (parts : Parts) (i count : ℕ) (row : List ℕ) →
-    count ≡ length parts.list → row ≡ range_with_len 0 count → AreLikely input net parts i row
-likely_all input net parts i count row same is = record {
-  ascends = subst IsStrictlyIncreasing (sym is) (range_ascends count);
-  whole = λ number part found some.
-      let inside = slice_get_within parts.list number part found in
-      subst (λ (l : List ℕ). Contains l number) (sym is)
-      (contains_range count number (omega (arith, inside, same)));
-}
 
 -- the ends of the first arcs whose readings are so
 module _ (IsSo : (reading : ℕ) → Type 0) (row : List Arc) (old : List ℕ) where

@@ -1,21 +1,19 @@
 -- Links that become arcs between positions, one after another.
-use Rattle.std.proofs.Common.{arith, ◌≡◌, ℕ, ◌+◌, ◌<◌, ◌≤◌, ◌↔◌, List, [], ◌∷◌, ◌++◌, Bool, true, false, ◌&&◌, ◌⊎◌, inl, inr, refl, sym, ◌∙◌, ap, subst, length, get_or, set, eqb}
-use Rattle.std.specs.Prelude.{◌==◌, All, Contains, Some, flat_map, map, slice_get}
-use Rattle.std.specs.Ordering.{nat_cmp, ordering_then}
-use Rattle.std.specs.declared.cmp.Ordering.TheVariants.{Less, Equal}
+use Rattle.std.proofs.Common.{◌≡◌, ℕ, ◌↔◌, List, [], ◌∷◌, ◌++◌, Bool, true, false, ◌&&◌, ◌⊎◌, inl, inr, refl, sym, subst, get_or}
+use Rattle.std.specs.Prelude.{◌==◌, All, Contains, flat_map}
+use Rattle.std.specs.declared.cmp.Ordering.TheVariants.{Less}
 use Rattle.std.specs.List.Sorted.{IsStrictlySortedBy}
 use Rattle.std.proofs.lemmas.Bool.{eqb-true}
-use Rattle.std.proofs.lemmas.List.{get_or-set_other, get_or-set_same, get_or_default}
+use Rattle.std.proofs.lemmas.List.{get_or_default}
 use Rattle.std.proofs.lemmas.List.Elements.{Contains-push, Contains-push_cases, Contains-append_left}
 use Rattle.std.proofs.lemmas.Map.Keys.{Less-from_sorted}
 use Rattle.std.proofs.lemmas.Option.{get_or_from_slice_get, slice_get_within}
 use Rattle.ux_base.proofs.JoinedLists.{contained_joined, contains_joined}
-use Rattle.ux_base.proofs.Lists.{contains_first, contains_later, first_or_later, nothing_in, same_or}
+use Rattle.ux_base.proofs.Lists.{contains_first, contains_later, first_or_later, nothing_in}
 use Rattle.ux_base.proofs.OrderedLists.{Contains-at}
-use Rattle.ux_tfst_locate.specs.declared.lattice.Arc.{Arc}
 use Rattle.ux_tfst_locate.specs.declared.lattice.Place.{Place}
 use Rattle.ux_tfst_locate.specs.declared.lattice.SentenceLink.{SentenceLink}
-use Rattle.ux_tfst_locate.specs.Lattices.{AreRising, HasEnds, HaveArcs, IsArcOf, IsAt, ends_of, from_of, place_cmp, row_at, to_of}
+use Rattle.ux_tfst_locate.specs.Lattices.{AreRising, HasEnds, IsAt, ends_of, from_of, place_cmp, to_of}
 
 first : (s t : Bool) → (s && t) ≡ true → s ≡ true
 first true t h = refl
@@ -135,74 +133,3 @@ module _ (front : List SentenceLink) (link : SentenceLink) (old mid new : List P
               ]
         ],
   )
-
-module _ (places : List Place) where
-  -- no link has an arc yet
-  pub arcs_none : (rows : List (List Arc)) → ((i : ℕ) → get_or rows i [] ≡ []) →
-      HaveArcs places [] rows
-  arcs_none rows empty = record {
-    each = λ i arc has. absurd (nothing_in (subst (λ (row : List Arc). Contains row arc) (empty i) has));
-    all = λ link has. absurd (nothing_in has);
-  }
-
-  -- one more link has its arc
-  pub arcs_more : (links : List SentenceLink) (rows new : List (List Arc)) (link : SentenceLink)
-      (i : ℕ) (arc : Arc) → i < length rows → IsArcOf places link i arc →
-      new ≡ set rows i (get_or rows i [] ++ arc ∷ []) → HaveArcs places links rows →
-      HaveArcs places (links ++ link ∷ []) new
-  arcs_more links rows new link i arc inside is put have =
-      subst (HaveArcs places (links ++ link ∷ [])) (sym put) (record {
-        each = λ k one has. elim (same_or k i) [
-          | inl e ↦
-              let here : row_at (set rows i (get_or rows i [] ++ arc ∷ [])) k
-              ≡ get_or rows i [] ++ arc ∷ [] =
-              ap (row_at (set rows i (get_or rows i [] ++ arc ∷ []))) e
-              ∙ get_or-set_same rows i (get_or rows i [] ++ arc ∷ []) [] inside in
-              elim (Contains-push_cases (get_or rows i []) arc one
-              (subst (λ (row : List Arc). Contains row one) here has)) [
-                | inl before ↦
-                    let told = have.each i one before in (
-                      told.0,
-                      Contains-append_left links (link ∷ []) told.0 told.1,
-                      subst (λ n. IsArcOf places told.0 n one) (sym e) told.2,
-                    )
-                | inr new ↦ (
-                  link,
-                  Contains-push links link,
-                  subst (λ n. IsArcOf places link n one) (sym e)
-                      (subst (λ (a : Arc). IsArcOf places link i a) new is),
-                )
-              ]
-          | inr other ↦
-              let there = get_or-set_other rows i k (get_or rows i [] ++ arc ∷ []) [] other in
-              let told = have.each k one (subst (λ (row : List Arc). Contains row one) there has) in
-              (told.0, Contains-append_left links (link ∷ []) told.0 told.1, told.2)
-        ];
-        all = λ one has. elim (Contains-push_cases links link one has) [
-          | inl before ↦
-              let told = have.all one before in
-              (told.0, told.1, kept told.0 told.1 told.2, told.3)
-          | inr new ↦ (
-            i,
-            arc,
-            subst (λ (row : List Arc). Contains row arc)
-                (sym (get_or-set_same rows i (get_or rows i [] ++ arc ∷ []) [] inside))
-                (Contains-push (get_or rows i []) arc),
-            subst (λ (l : SentenceLink). IsArcOf places l i arc) new is,
-          )
-        ];
-      })
-    where
-      kept : (k : ℕ) (one : Arc) → Contains (row_at rows k) one →
-          Contains (row_at (set rows i (get_or rows i [] ++ arc ∷ [])) k) one
-      kept k one has = elim (same_or k i) [
-        | inl e ↦
-            subst (λ (row : List Arc). Contains row one)
-            (sym (ap (row_at (set rows i (get_or rows i [] ++ arc ∷ []))) e
-            ∙ get_or-set_same rows i (get_or rows i [] ++ arc ∷ []) [] inside))
-            (Contains-append_left (get_or rows i []) (arc ∷ []) one
-            (subst (λ n. Contains (row_at rows n) one) e has))
-        | inr other ↦
-            subst (λ (row : List Arc). Contains row one)
-            (sym (get_or-set_other rows i k (get_or rows i [] ++ arc ∷ []) [] other)) has
-      ]

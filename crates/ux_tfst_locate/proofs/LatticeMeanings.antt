@@ -1,11 +1,9 @@
 -- Sentences and their lattice: a derivation over a sentence is one over its positions, and a path of
 -- links is one of arcs.
-use Rattle.std.proofs.Common.{arith, ◌≡◌, ℕ, ◌+◌, ◌-◌, ◌<◌, ◌≤◌, ◌↔◌, ◌⊎◌, List, [], ◌∷◌, ◌++◌, inl, inr, refl, sym, ◌∙◌, ap, subst, length}
-use Rattle.std.specs.Prelude.{All, Contains, Some, flat_map, map, slice_get}
+use Rattle.std.proofs.Common.{◌≡◌, ℕ, ◌↔◌, ◌⊎◌, List, [], ◌∷◌, ◌++◌, inl, inr, refl, sym, ◌∙◌, ap, subst}
+use Rattle.std.specs.Prelude.{Contains, Some, flat_map, map, slice_get}
 use Rattle.std.proofs.lemmas.Option.{same_Some}
-use Rattle.ux_base.proofs.Lists.{first_or_later, nothing_in}
 use Rattle.ux_alphabet.specs.Letters.{Letters}
-use Rattle.ux_net.specs.declared.label.Label.{Label}
 use Rattle.ux_reading_match.specs.Matching.{Matches}
 use Rattle.ux_reading_table.specs.declared.numbered.NumberedSentence.{NumberedSentence}
 use Rattle.ux_sentence.specs.declared.sentence.Link.{Link}
@@ -16,10 +14,9 @@ use Rattle.ux_sentence.specs.Written.{reading_text}
 use Rattle.ux_tfst_locate.specs.declared.lattice.Arc.{Arc}
 use Rattle.ux_tfst_locate.specs.declared.lattice.Lattice.{Lattice}
 use Rattle.ux_tfst_locate.specs.declared.lattice.Place.{Place}
-use Rattle.ux_tfst_locate.specs.declared.lattice.SentenceLink.{SentenceLink}
 use Rattle.ux_tfst_locate.specs.Inputs.{lattice_input, sentence_input}
-use Rattle.ux_tfst_locate.specs.Lattices.{IsArcOf, IsAt, IsLattice, from_of, row_at, rows_of, to_of}
-use Rattle.ux_tfst_locate.specs.Reaching.{IsFirst, IsLast, IsLeading, IsReached}
+use Rattle.ux_tfst_locate.specs.Lattices.{IsAt, IsLattice, from_of, row_at, rows_of, to_of}
+use Rattle.ux_tfst_locate.specs.Reaching.{IsLeading, IsReached}
 use Rattle.ux_tfst_locate.specs.Sought.{AreSpellable, AreTold, links_of}
 use Rattle.ux_tfst_locate.specs.Spans.{Leads}
 use Rattle.ux_tfst_locate.proofs.Meanings.{IsAlike}

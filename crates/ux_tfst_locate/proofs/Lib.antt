@@ -1,4 +1,5 @@
 pub mod AheadLemmas
+pub mod ArcsLemmas
 pub mod BasisLemmas
 pub mod LatticeLemmas
 pub mod LatticeMeanings

@@ -4,11 +4,11 @@ use Rattle.ux_grf.specs.declared.item.Piece.TheVariants.{Chars, Value}
 use Rattle.ux_net.specs.declared.label.Label.{Label}
 use Rattle.ux_net.specs.declared.label.Label.TheVariants as label
 use Rattle.ux_net.specs.Levels.{HasLevels}
-use Rattle.ux_net.specs.Words.{Grammar, IsBody, Letter, plain, piece, context}
+use Rattle.ux_net.specs.Words.{Grammar, Letter, plain, piece}
 use Rattle.ux_outputs.specs.declared.event.Event.{Event}
 use Rattle.ux_outputs.specs.declared.event.Event.TheVariants as event
 use Rattle.ux_meaning.specs.Inputs.{Input}
-use Rattle.ux_meaning.specs.Meaning.{Der, DerBy, RefusesBy, Seq, Stays, calls, done, holds, refused, stays, takes}
+use Rattle.ux_meaning.specs.Meaning.{Der, RefusesBy, Seq, Stays, calls, done, holds, refused, stays, takes}
 use Rattle.ux_meaning.proofs.Levels.{in_the_end}
 
 -- What the one input takes from a position, the other takes from each position that stands for it.

@@ -8,7 +8,7 @@ use Rattle.std.proofs.lemmas.Option.{same_Some, slice_get_within, slice_get_read
 use Rattle.ux_base.proofs.Lists.{less_or, nothing_in, same_or, take_more, take_whole}
 use Rattle.ux_tfst_locate.specs.declared.lattice.Arc.{Arc}
 use Rattle.ux_tfst_locate.specs.declared.lattice.Place.{Place}
-use Rattle.ux_tfst_locate.specs.Lattices.{IsAt, row_at}
+use Rattle.ux_tfst_locate.specs.Lattices.{Rows, row_at}
 use Rattle.ux_tfst_locate.specs.Reaching.{AreAhead, IsFirst, IsLast, IsLeading, IsReached, IsSoAt, is_marked}
 
 abbrev pub Marked : List Bool → ℕ → Type 0
@@ -148,7 +148,7 @@ module _ (row : List Arc) (old : List Bool) where
       subst (λ (arcs : List Arc). Marked marks i ↔ (Marked old i ⊎ IsTarget arcs i))
       (take_whole row k over) (has.each i)
 
-module _ (places : List Place) (rows : List (List Arc)) where
+module _ (places : List Place) (rows : Rows) where
   -- the positions before this one are marked where they are reached, and so are those to which they
   -- lead
   pub record AreReachedTo (marks : List Bool) (at : ℕ) : Type 0 where
@@ -170,7 +170,7 @@ module _ (places : List Place) (rows : List (List Arc)) where
 abbrev pub LeadsToMarked : List Arc → List Bool → Type 0
 LeadsToMarked row marks = (arc : Arc) × Contains row arc × Marked marks arc.to
 
-module _ (places : List Place) (rows : List (List Arc)) (ahead : AreAhead (length places) rows) where
+module _ (places : List Place) (rows : Rows) (ahead : AreAhead (length places) rows) where
   pub reached_none : (marks : List Bool) → length marks ≡ length places →
       ((j : ℕ) → Marked marks j ↔ IsSoAt IsFirst places j) → AreReachedTo places rows marks 0
   reached_none marks count first = record {

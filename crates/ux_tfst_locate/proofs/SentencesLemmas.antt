@@ -1,14 +1,14 @@
 -- Sentences that are told by numbers: which links stand for theirs.
-use Rattle.std.proofs.Common.{arith, ◌≡◌, ℕ, zero, suc, ◌+◌, ◌-◌, ◌<◌, ◌≤◌, List, [], ◌∷◌, ◌++◌, inl, inr, refl, sym, ◌∙◌, ap, subst, length}
-use Rattle.std.specs.Prelude.{All, Contains, Some, flat_map, get_or, map, slice_get}
+use Rattle.std.proofs.Common.{arith, ◌≡◌, ℕ, zero, suc, ◌+◌, ◌-◌, ◌<◌, ◌≤◌, List, [], ◌∷◌, inl, inr, refl, sym, ◌∙◌, ap, subst, length}
+use Rattle.std.specs.Prelude.{Contains, Some, flat_map, get_or, map, slice_get}
 use Rattle.std.specs.List.{AllZip}
 use Rattle.std.proofs.lemmas.List.{get_or-map, length-map}
 use Rattle.std.proofs.lemmas.List.Elements.{All-contains}
-use Rattle.std.proofs.lemmas.Option.{get_or_from_slice_get, same_Some, slice_get-get_or, slice_get_within}
+use Rattle.std.proofs.lemmas.Option.{get_or_from_slice_get, slice_get-get_or, slice_get_within}
 use Rattle.ux_base.proofs.JoinedLists.{contained_joined, contained_mapped, contains_joined, contains_mapped}
-use Rattle.ux_base.proofs.Lists.{contains_later, first_or_later, nothing_in}
+use Rattle.ux_base.proofs.Lists.{first_or_later, nothing_in}
 use Rattle.ux_base.proofs.OrderedLists.{Contains-at}
-use Rattle.ux_reading_table.specs.Numbered.{IsNumberedBy, IsTold, text_of}
+use Rattle.ux_reading_table.specs.Numbered.{IsNumberedBy, IsTold}
 use Rattle.ux_reading_table.specs.declared.numbered.NumberedLink.{NumberedLink}
 use Rattle.ux_reading_table.specs.declared.numbered.NumberedSentence.{NumberedSentence}
 use Rattle.ux_sentence.specs.declared.sentence.Link.{Link}

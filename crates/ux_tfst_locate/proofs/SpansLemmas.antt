@@ -1,9 +1,9 @@
 -- What is listed of a lattice are the spans of its sentences.
-use Rattle.std.proofs.Common.{arith, ◌≡◌, ℕ, ◌+◌, ◌<◌, ◌≤◌, ◌↔◌, ◌⊎◌, List, [], ◌∷◌, ◌++◌, Bool, inl, inr, refl, sym, ◌∙◌, ap, subst, length, get_or}
-use Rattle.std.specs.Prelude.{All, AllPairs, Contains, IsTrue, Some, flat_map, map, slice_get}
-use Rattle.std.proofs.lemmas.List.{get_or-map, get_or_default, length-map}
+use Rattle.std.proofs.Common.{arith, ◌≡◌, ℕ, ◌<◌, ◌↔◌, List, [], ◌∷◌, Bool, inl, inr, refl, sym, ◌∙◌, ap, subst, length, get_or}
+use Rattle.std.specs.Prelude.{All, Contains, IsTrue, flat_map, map}
+use Rattle.std.proofs.lemmas.List.{get_or-map, length-map}
 use Rattle.std.proofs.lemmas.List.Elements.{Contains-get_or}
-use Rattle.std.proofs.lemmas.Option.{get_or_from_slice_get, same_Some, slice_get-get_or, slice_get_within}
+use Rattle.std.proofs.lemmas.Option.{get_or_from_slice_get, same_Some, slice_get_within}
 use Rattle.ux_base.proofs.JoinedLists.{contained_mapped, contains_mapped}
 use Rattle.ux_base.proofs.Lists.{first_or_later, nothing_in}
 use Rattle.ux_alphabet.specs.Letters.{Letters}
@@ -18,15 +18,14 @@ use Rattle.ux_sentence.specs.declared.sentence.Sentence.{Sentence}
 use Rattle.ux_sentence.specs.Written.{reading_text}
 use Rattle.ux_tfst_locate.specs.declared.lattice.Lattice.{Lattice}
 use Rattle.ux_tfst_locate.specs.declared.lattice.Place.{Place}
-use Rattle.ux_tfst_locate.specs.declared.lattice.SentenceLink.{SentenceLink}
 use Rattle.ux_tfst_locate.specs.declared.listing.Stretch.{Stretch}
 use Rattle.ux_tfst_locate.specs.declared.span.Span.{Span}
 use Rattle.ux_tfst_locate.specs.Inputs.{lattice_input, sentence_input}
-use Rattle.ux_tfst_locate.specs.Lattices.{AreRising, IsAt, IsLattice, ends_of, from_of, rows_of, to_of}
+use Rattle.ux_tfst_locate.specs.Lattices.{IsAt, IsLattice, from_of, rows_of, to_of}
 use Rattle.ux_tfst_locate.specs.Listing.{AreListed, ComesFirst, IsFound, place_at, span_of}
 use Rattle.ux_tfst_locate.specs.Reaching.{IsLeading, IsReached, is_marked}
 use Rattle.ux_tfst_locate.specs.Sought.{AreSpellable, AreTold, links_of}
-use Rattle.ux_tfst_locate.specs.Spans.{AreSpans, IsSpan, IsSpanIn, Precedes}
+use Rattle.ux_tfst_locate.specs.Spans.{AreSpans, IsSpanIn, Precedes}
 use Rattle.ux_tfst_locate.proofs.LatticeMeanings.{Stands, alike_back, alike_forth, leading_where, place_of, position_of, reached_where}
 use Rattle.ux_tfst_locate.proofs.Meanings.{derives_alike, derives_some}
 use Rattle.ux_tfst_locate.proofs.PlacesLemmas.{before_state, less_place, state_before}

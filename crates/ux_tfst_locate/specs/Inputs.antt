@@ -9,7 +9,7 @@ use Rattle.ux_reading_match.specs.Readings.{MatchesNumber}
 use Rattle.ux_sentence.specs.declared.sentence.Link.{Link}
 use Rattle.ux_sentence.specs.declared.sentence.Reading.{Reading}
 use Rattle.ux_tfst_locate.specs.declared.lattice.Arc.{Arc}
-use Rattle.ux_tfst_locate.specs.Lattices.{row_at}
+use Rattle.ux_tfst_locate.specs.Lattices.{Rows, row_at}
 
 module _ (letters : Letters) where
   module _ (links : List Link) where
@@ -25,7 +25,7 @@ module _ (letters : Letters) where
       IsSpaceAt = λ state. ⊥;
     }
 
-  module _ (readings : List Reading) (rows : List (List Arc)) where
+  module _ (readings : List Reading) (rows : Rows) where
     -- the label takes the reading of an arc from a position to a position
     abbrev pub TakesArc : Label → (i k : ℕ) → Type 0
     TakesArc label i k = (arc : Arc) × Contains (row_at rows i) arc × (arc.to ≡ k)

@@ -1,16 +1,16 @@
 -- Which positions of sentences side by side lie on a path. Inner: the crate's own functions alone
 -- speak of it.
-use Rattle.std.specs.Prelude.{◌≡◌, ℕ, ◌<◌, Bool, false, List, Contains, get_or, length}
+use Rattle.std.specs.Prelude.{◌≡◌, ℕ, ◌<◌, Bool, false, List, Contains, get_or}
 use Rattle.ux_tfst_locate.specs.declared.lattice.Arc.{Arc}
 use Rattle.ux_tfst_locate.specs.declared.lattice.Place.{Place}
-use Rattle.ux_tfst_locate.specs.Lattices.{IsAt, row_at}
+use Rattle.ux_tfst_locate.specs.Lattices.{IsAt, Rows, row_at}
 
 -- the position is marked
 abbrev pub is_marked : List Bool → ℕ → Bool
 is_marked marks i = get_or marks i false
 
 -- arcs lead to later positions, below this bound
-abbrev pub AreAhead : (bound : ℕ) → List (List Arc) → Type 0
+abbrev pub AreAhead : (bound : ℕ) → Rows → Type 0
 AreAhead bound rows =
     (i : ℕ) (arc : Arc) → Contains (row_at rows i) arc → (i < arc.to) × (arc.to < bound)
 
@@ -25,7 +25,7 @@ IsLast place = place.state ≡ place.last
 abbrev pub IsSoAt : (Place → Type 0) → List Place → ℕ → Type 0
 IsSoAt IsSo places i = (place : Place) × IsAt places i place × IsSo place
 
-module _ (places : List Place) (rows : List (List Arc)) where
+module _ (places : List Place) (rows : Rows) where
   -- arcs lead from a first state to the position
   pub data IsReached : ℕ → Type 0 where
     begins : {i : ℕ} → IsSoAt IsFirst places i → IsReached i

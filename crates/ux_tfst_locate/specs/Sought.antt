@@ -1,6 +1,6 @@
 -- What is sought in which readings, and what a list of numbered sentences stands for. Public: the
 -- crate's public contracts speak of it.
-use Rattle.std.specs.Prelude.{◌≡◌, ℕ, ◌-◌, List, All, map}
+use Rattle.std.specs.Prelude.{ℕ, ◌-◌, List, All, map}
 use Rattle.std.specs.List.{AllZip}
 use Rattle.ux_alphabet.specs.Letters.{Letters}
 use Rattle.ux_net.specs.declared.net_graph.NetGraph.{NetGraph}

@@ -4,10 +4,11 @@ ghost use Rattle.std.specs.Prelude.{◌≡◌, ◌↔◌, ◌⊎◌, ℕ, Contai
 ghost use Rattle.std.specs.List.{range_with_len};
 ghost use Rattle.ux_tfst_locate.specs.Bases.{StaysPut, input_of};
 
+use crate::beginning::likely_parts;
 use crate::lattice::Lattice;
 use std::alloc::Global;
 use ux_alphabet::Alphabet;
-use ux_base::{Mem, NoMemory};
+use ux_base::Mem;
 use ux_chart::Basis;
 use ux_net::{Edge, Label, Net};
 use ux_parts::Parts;
@@ -26,18 +27,21 @@ pub struct LatticeBasis<'a> {
 
 impl<'a> Basis for LatticeBasis<'a> {
     ghost use Rattle.std.specs.Prelude.{length};
+    ghost use Rattle.ux_parts.specs.Ordered.{GoesAhead};
+    ghost use Rattle.ux_parts.specs.Parts.{ArePartsOf};
     ghost use Rattle.ux_tfst_locate.specs.Bases.{input_of};
 
     ghost input = { input_of };
 
-    ghost last = { λ basis. length basis.lattice.now.rows.items };
+    ghost last = { λ basis. length basis.lattice.now.places.items };
 
-    ghost serves = { λ basis net parts. Unit {0} };
+    ghost serves = { λ basis net parts. ArePartsOf net parts
+        × GoesAhead (input_of basis) (length basis.lattice.now.places.items) };
 
     ghost knows = { λ basis label. Unit {0} };
 
     fn last(&self) -> usize {
-        self.lattice.rows.len()
+        self.lattice.places.len()
     }
 
     fn plain(&self, label: &Label, at: usize, positions: &mut Vec<usize>) -> Mem<()> {
@@ -52,8 +56,8 @@ impl<'a> Basis for LatticeBasis<'a> {
         None
     }
 
-    fn likely(&self, _net: &Net, parts: &Parts, _at: usize, row: &mut Vec<u32>) -> Mem<()> {
-        list_all(parts.list.as_slice().len(), row)
+    fn likely(&self, net: &Net, parts: &Parts, at: usize, row: &mut Vec<u32>) -> Mem<()> {
+        likely_parts(self, net, parts, at, row)
     }
 
     fn places(
@@ -102,20 +106,6 @@ fn add_ends(
         if basis.readings.matches(label, arc.reading, basis.alphabet) {
             positions.push(arc.to)?;
         }
-    }
-    Ok(())
-}
-
-/// Puts the first so many numbers into the list, in place of what it has.
-fn list_all(count: usize, row: &mut Vec<u32>) -> Mem<()>
-    ensures { OnOk result (row.new.items ≡ range_with_len 0 count) }
-{
-    if count > u32::MAX as usize {
-        return Err(NoMemory);
-    }
-    row.clear();
-    for number in 0..count as u32 {
-        row.push(number)?;
     }
     Ok(())
 }

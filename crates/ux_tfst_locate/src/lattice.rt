@@ -1,12 +1,13 @@
 //! The automata of some sentences side by side, their states at positions.
 //!
 //! Only states that links have get positions, in the order of the sentences and of the states. So a
-//! sentence may tell of any number of states, and each arc leads to a later position.
+//! sentence may tell of any number of states, and each arc leads to a later position. All arcs stand
+//! in one list, position by position.
 
-ghost use Rattle.std.specs.Prelude.{◌≡◌, ◌↔◌, ◌⊎◌, ℕ, ◌<◌, ◌++◌, ◌∷◌, [], All, Contains, IfOk, IsTrue, OnOk, flat_map, length, map, slice_get, slice_set, get_or};
-ghost use Rattle.std.specs.List.Sorted.{IsStrictlySortedBy};
+ghost use Rattle.std.specs.Prelude.{◌≡◌, ◌↔◌, ◌⊎◌, ◌<◌, All, Contains, IfOk, IsTrue, OnOk, flat_map, length, slice_get, slice_range};
+ghost use Rattle.std.specs.List.Sorted.{IsPermutation, IsStrictlySortedBy};
 ghost use Rattle.ux_tfst_locate.specs.declared.lattice.Place.{Place as PlaceRecord};
-ghost use Rattle.ux_tfst_locate.specs.Lattices.{HasEnds, HaveArcs, IsArcOf, IsAt, IsLattice, ends_of, from_of as from_place, place_cmp, to_of as to_place};
+ghost use Rattle.ux_tfst_locate.specs.Lattices.{AreArcs, AreInOrder, AreStarts, HasEnds, IsArcOf, IsAt, IsLattice, IsStarted, ends_of, from_of as from_place, place_cmp, row_at, rows_of, to_of as to_place};
 
 use crate::ranks::{in_order, place_of};
 use std::alloc::Global;
@@ -41,6 +42,8 @@ pub struct Place {
 /// What leads from a position: a reading, to a later position.
 #[derive(Clone, Copy)]
 pub struct Arc {
+    /// The position from which it leads.
+    pub from: usize,
     /// The position to which it leads.
     pub to: usize,
     /// The number of the reading.
@@ -52,8 +55,10 @@ pub struct Arc {
 pub struct Lattice {
     /// The state at each position.
     pub places: Vec<Place>,
-    /// What leads from each position.
-    pub rows: Vec<Vec<Arc>>,
+    /// What leads from the positions, in their order.
+    pub arcs: Vec<Arc>,
+    /// Where the arcs of each position begin, and where those of the last one end.
+    pub starts: Vec<usize>,
 }
 
 impl Lattice {
@@ -63,16 +68,24 @@ impl Lattice {
         ensures { IfOk result (IsLattice links.now) }
     {
         let places = places_of(alloc, links)?;
-        let rows = rows_of(alloc, places.as_slice(), links)?;
-        Ok(Lattice { places, rows })
+        let arcs = arcs_of(alloc, places.as_slice(), links)?;
+        let starts = starts_of(alloc, arcs.as_slice())?;
+        Ok(Lattice {
+            places,
+            arcs,
+            starts,
+        })
     }
 
     /// What leads from the position, if it is one.
     pub fn row(&self, at: usize) -> &[Arc]
-        ensures { result.now ≡ get_or (map (λ row. row.items) self.now.rows.items) at [] }
+        ensures { result.now ≡ row_at (rows_of self.now) at }
     {
-        match self.rows.get(at) {
-            Some(row) => row.as_slice(),
+        let Some(from) = self.starts.get(at) else {
+            return &[];
+        };
+        match self.starts.get(at + 1) {
+            Some(to) => between(self.arcs.as_slice(), *from, *to),
             None => &[],
         }
     }
@@ -154,60 +167,104 @@ fn to_of(link: &SentenceLink) -> Place
     }
 }
 
-/// The arcs of the links, position by position. The places are those of the links, in order.
-fn rows_of(alloc: Global, places: &[Place], links: &[SentenceLink]) -> Mem<Vec<Vec<Arc>>>
+/// The arcs of the links, in the order of the positions from which they lead. The places are those of
+/// the links, in order.
+fn arcs_of(alloc: Global, places: &[Place], links: &[SentenceLink]) -> Mem<Vec<Arc>>
     requires in_order { IsStrictlySortedBy place_cmp places.now }
     requires there { All (HasEnds places.now) links.now }
-    ensures count { IfOk result (λ rows. length rows.items ≡ length places.now) }
-    ensures arcs { IfOk result (λ rows.
-        HaveArcs places.now links.now (map (λ row. row.items) rows.items)) }
+    ensures in_order { IfOk result (λ arcs. AreInOrder arcs.items) }
+    ensures arcs { IfOk result (λ arcs. AreArcs places.now links.now arcs.items) }
 {
-    let mut rows = empty_rows(alloc, places.len())?;
+    let mut arcs = each_arc(alloc, places, links)?;
+    if !are_in_order(&arcs) {
+        sort(&mut arcs);
+    }
+    Ok(arcs)
+}
+
+/// Puts the arcs in the order of the positions from which they lead.
+fn sort(arcs: &mut Vec<Arc>)
+    ensures same { IsPermutation arcs.old.items arcs.new.items }
+    ensures in_order { AreInOrder arcs.new.items }
+{
+    arcs.sort_unstable_by_key(|arc| arc.from);
+}
+
+/// The arcs of the links, in the order of the links.
+fn each_arc(alloc: Global, places: &[Place], links: &[SentenceLink]) -> Mem<Vec<Arc>>
+    requires in_order { IsStrictlySortedBy place_cmp places.now }
+    requires there { All (HasEnds places.now) links.now }
+    ensures { IfOk result (λ arcs. AreArcs places.now links.now arcs.items) }
+{
+    let mut arcs = Vec::with_capacity(alloc, links.len())?;
     let mut near = 0;
     for link in links {
-        near = add_arc(&mut rows, places, link, near)?;
+        let arc = arc_of(places, link, near);
+        near = arc.from;
+        arcs.push(arc)?;
     }
-    Ok(rows)
+    Ok(arcs)
 }
 
-/// An empty row for each position.
-fn empty_rows(alloc: Global, count: usize) -> Mem<Vec<Vec<Arc>>>
-    ensures count { IfOk result (λ rows. length rows.items ≡ count) }
-    ensures empty { IfOk result (λ rows.
-        (i : ℕ) → get_or (map (λ row. row.items) rows.items) i [] ≡ []) }
-{
-    let mut rows = Vec::new(alloc);
-    for place in 0..count {
-        rows.push(Vec::new(alloc))?;
-    }
-    Ok(rows)
-}
-
-/// Adds the arc of the link. Answers the position from which it leads, which is looked for from one
-/// near it on.
-fn add_arc(
-    rows: &mut Vec<Vec<Arc>>,
-    places: &[Place],
-    link: &SentenceLink,
-    near: usize,
-) -> Mem<usize>
+/// The arc of the link. The position from which it leads is looked for from one near it on.
+fn arc_of(places: &[Place], link: &SentenceLink, near: usize) -> Arc
     requires in_order { IsStrictlySortedBy place_cmp places.now }
     requires there { HasEnds places.now link.now }
-    requires count { length rows.old.items ≡ length places.now }
-    ensures count { OnOk result (length rows.new.items ≡ length places.now) }
-    ensures put { OnOk result ((i : ℕ) × (arc : Arc) × IsArcOf places.now link.now i arc
-        × (map (λ row. row.items) rows.new.items
-        ≡ slice_set (map (λ row. row.items) rows.old.items) i
-        (get_or (map (λ row. row.items) rows.old.items) i [] ++ arc ∷ []))) }
+    ensures { IsArcOf places.now link.now result.from result }
 {
     let from = position_of(places, &from_of(link), near);
     let to = position_of(places, &to_of(link), from);
-    let arc = Arc {
+    Arc {
+        from,
         to,
         reading: link.reading,
-    };
-    rows[from].push(arc)?;
-    Ok(from)
+    }
+}
+
+/// Whether the positions from which the arcs lead never fall.
+fn are_in_order(arcs: &[Arc]) -> bool
+    ensures { IsTrue result → AreInOrder arcs.now }
+{
+    for place in 1..arcs.len() {
+        if arcs[place].from < arcs[place - 1].from {
+            return false;
+        }
+    }
+    true
+}
+
+/// Where the arcs of each position begin, and where those of the last one end.
+fn starts_of(alloc: Global, arcs: &[Arc]) -> Mem<Vec<usize>>
+    requires { AreInOrder arcs.now }
+    ensures { IfOk result (λ starts. AreStarts arcs.now starts.items) }
+{
+    let mut starts = Vec::new(alloc);
+    for place in 0..arcs.len() {
+        push_start(&mut starts, arcs[place].from, place)?;
+    }
+    starts.push(arcs.len())?;
+    Ok(starts)
+}
+
+/// Puts the place as the start of each position up to this one that has none yet.
+fn push_start(starts: &mut Vec<usize>, position: usize, place: usize) -> Mem<()>
+    ensures { OnOk result (IsStarted starts.old.items position place starts.new.items) }
+{
+    'positions: while starts.len() <= position {
+        starts.push(place)?;
+    }
+    Ok(())
+}
+
+/// The arcs from one place up to another one.
+fn between(arcs: &[Arc], from: usize, to: usize) -> &[Arc]
+    ensures { result.now ≡ slice_range arcs.now from to }
+{
+    let end = to.min(arcs.len());
+    if end < from {
+        return &[];
+    }
+    &arcs[from..end]
 }
 
 /// The position of a place, which is there. It may be one near it or the next one; else it is looked

@@ -20,6 +20,7 @@
 #![tactic(auto)]
 
 pub mod basis;
+mod beginning;
 pub mod finder;
 mod gathering;
 pub mod lattice;

@@ -50,8 +50,8 @@ pub(crate) fn stretches(
 ) -> Mem<Vec<Stretch>>
     requires parts { ArePartsOf net.now parts.now }
     requires chart { IsChart (input_of basis.now) net.now parts.now
-        (length basis.now.lattice.now.rows.items) chart.now }
-    requires count { length paths.now.reached.now ≤ length basis.now.lattice.now.rows.items }
+        (length basis.now.lattice.now.places.items) chart.now }
+    requires count { length paths.now.reached.now ≤ length basis.now.lattice.now.places.items }
     ensures { IfOk result (λ found. AreListed (IsFound paths.now.reached.now paths.now.leading.now
         (λ from to. (events : List Event)
         × Der (input_of basis.now) (net_grammar net.now) 1 from to events)) found.items) }

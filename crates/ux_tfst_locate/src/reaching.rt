@@ -12,14 +12,13 @@ use ux_base::Mem;
 /// Whether each position is reached from the first state of its sentence. Takes a step an arc.
 pub(crate) fn reached(alloc: Global, lattice: &Lattice) -> Mem<Vec<bool>>
     requires ahead { AreAhead (length lattice.now.places.items) (rows_of lattice.now) }
-    requires count { length lattice.now.rows.items ≡ length lattice.now.places.items }
     ensures count { IfOk result (λ marks.
         length marks.items ≡ length lattice.now.places.items) }
     ensures marks { IfOk result (λ marks. (i : ℕ) → IsTrue (is_marked marks.items i)
         ↔ IsReached lattice.now.places.items (rows_of lattice.now) i) }
 {
     let mut marks = first_states(alloc, lattice.places.as_slice())?;
-    for at in 0..lattice.rows.len() {
+    for at in 0..lattice.places.len() {
         if marks[at] {
             mark_targets(lattice.row(at), &mut marks);
         }
@@ -30,12 +29,11 @@ pub(crate) fn reached(alloc: Global, lattice: &Lattice) -> Mem<Vec<bool>>
 /// Whether a last state is reached from each position. Takes a step an arc.
 pub(crate) fn leading(alloc: Global, lattice: &Lattice) -> Mem<Vec<bool>>
     requires ahead { AreAhead (length lattice.now.places.items) (rows_of lattice.now) }
-    requires count { length lattice.now.rows.items ≡ length lattice.now.places.items }
     ensures { IfOk result (λ marks. (i : ℕ) → IsTrue (is_marked marks.items i)
         ↔ IsLeading lattice.now.places.items (rows_of lattice.now) i) }
 {
     let mut marks = last_states(alloc, lattice.places.as_slice())?;
-    let count = lattice.rows.len();
+    let count = lattice.places.len();
     for done in 0..count {
         let at = count - 1 - done;
         if some_marked(lattice.row(at), &marks) {

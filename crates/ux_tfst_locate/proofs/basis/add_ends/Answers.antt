@@ -1,4 +1,4 @@
-use Rattle.std.proofs.Common.{ℕ, ◌+◌, ◌∙◌, ◌⊎◌, ◌↔◌, List, Vec, Global, refl, subst, sym, get_or}
+use Rattle.std.proofs.Common.{ℕ, ◌+◌, ◌∙◌, ◌⊎◌, ◌↔◌, List, Vec, Global, subst, sym, get_or}
 use Rattle.std.specs.Prelude.{Contains}
 use Rattle.std.proofs.lemmas.Bool.{false≢true}
 use Rattle.std.proofs.lemmas.List.{get_or_default}
@@ -9,7 +9,7 @@ use Rattle.ux_tfst_locate.proofs.basis.add_ends.Goals as goal
 use Rattle.ux_tfst_locate.proofs.basis.add_ends.Goals.{then-matches+in_ok-push, else-matches}
 
 abbrev none : Arc
-none = record { to = 0; reading = 0 }
+none = record { from = 0; to = 0; reading = 0 }
 
 pub loop-arc-init : goal.loop-arc-init
 loop-arc-init c =

@@ -1,4 +1,4 @@
-use Rattle.std.proofs.Common.{◌≡◌, ◌-◌, ◌++◌, map, take}
+use Rattle.std.proofs.Common.{◌≡◌, ◌++◌, map, take}
 use Rattle.ux_tfst_locate.specs.Sought.{link_of}
 use Rattle.ux_tfst_locate.proofs.gathering.add_links.Given as goal
 

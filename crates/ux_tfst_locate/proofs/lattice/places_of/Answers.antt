@@ -3,7 +3,7 @@ use Rattle.std.specs.Prelude.{Contains, flat_map}
 use Rattle.ux_base.proofs.Lists.{take_more, take_whole}
 use Rattle.ux_tfst_locate.specs.declared.lattice.Place.{Place}
 use Rattle.ux_tfst_locate.specs.declared.lattice.SentenceLink.{SentenceLink}
-use Rattle.ux_tfst_locate.specs.Lattices.{ends_of, from_of, to_of}
+use Rattle.ux_tfst_locate.specs.Lattices.{ends_of}
 use Rattle.ux_tfst_locate.proofs.LatticeLemmas.{ends_more, ends_none, same_place}
 use Rattle.ux_tfst_locate.proofs.lattice.places_of.Goals as goal
 

@@ -1,4 +1,4 @@
-use Rattle.std.proofs.Common.{arith, ℕ, ◌+◌, ◌<◌, ◌≡◌, ◌∙◌, List, Vec, Global, refl, subst, sym, get_or, false, true}
+use Rattle.std.proofs.Common.{◌+◌, ◌∙◌, Vec, Global, refl, subst, sym, get_or}
 use Rattle.std.proofs.lemmas.Bool.{false≢true}
 use Rattle.std.proofs.lemmas.List.{get_or_default}
 use Rattle.ux_tfst_locate.specs.declared.listing.Stretch.{Stretch}

@@ -1,4 +1,4 @@
-use Rattle.std.proofs.Common.{arith, ℕ, ◌+◌, ◌<◌, ◌≤◌, ◌≡◌, ◌∙◌, ◌↔◌, List, Bool, Vec, Global, inl, inr, subst, sym, length, false, true}
+use Rattle.std.proofs.Common.{arith, ℕ, ◌+◌, ◌<◌, ◌∙◌, ◌↔◌, List, Bool, Vec, Global, inl, inr, subst, sym, length, false}
 use Rattle.std.specs.Prelude.{Contains, IsTrue}
 use Rattle.std.proofs.lemmas.Bool.{false≢true}
 use Rattle.std.proofs.lemmas.List.{get_or_past}

@@ -1,4 +1,3 @@
-use Rattle.std.proofs.Common.{ℕ}
 use Rattle.ux_meaning.specs.Meaning.{Der}
 use Rattle.ux_net.specs.Nets.{net_grammar}
 use Rattle.ux_outputs.specs.declared.event.Event.{Event}

@@ -1,4 +1,4 @@
-use Rattle.std.proofs.Common.{arith, rules, ℕ, ◌+◌, ◌-◌, ◌<◌, ◌≤◌, ◌≡◌, ◌∙◌, ◌↔◌, ap, sym, subst, length, List, Bool, Vec, Global, false, refl, true, set}
+use Rattle.std.proofs.Common.{arith, rules, ℕ, ◌+◌, ◌-◌, ◌≡◌, ◌∙◌, ◌↔◌, ap, sym, subst, length, List, Bool, Vec, Global, refl, true, set}
 use Rattle.std.specs.Prelude.{Contains, IsTrue}
 use Rattle.std.proofs.lemmas.Bool.{false≢true}
 use Rattle.ux_tfst_locate.specs.declared.lattice.Arc.{Arc}
@@ -33,9 +33,8 @@ loop-done-preserved c =
     let done = c.loop-done.done in
     let at = c.len-count.result - 1 - done in
     let inv = c.loop-done.invariant in
-    let len : c.len-count.result ≡ length c.args.lattice.now.rows.items = search rules in
-    let count = c.requires.count in
-    let placed : length places ≡ at + done + 1 = omega (arith, c.loop-done-test.true, len, count) in
+    let len : c.len-count.result ≡ length places = search rules in
+    let placed : length places ≡ at + done + 1 = omega (arith, c.loop-done-test.true, len) in
     let told : IsTrue c.some_marked.result ↔ LeadsToMarked (row_at rows at) marks =
     subst (λ (row : List Arc). IsTrue c.some_marked.result ↔ LeadsToMarked row marks) c.row.ensures
     (subst (λ (ms : List Bool). IsTrue c.some_marked.result ↔ LeadsToMarked c.row.result.now ms)
@@ -55,8 +54,7 @@ loop-done-preserved c =
 
 pub returns : goal.returns
 returns c =
-    let count = c.requires.count in
-    let len : c.len-count.result ≡ length c.args.lattice.now.rows.items = search rules in
+    let len : c.len-count.result ≡ length c.args.lattice.now.places.items = search rules in
     leading_all c.args.lattice.now.places.items (rows_of c.args.lattice.now) c.requires.ahead
-    c.loop-done.marks.items c.loop-done.done (omega (arith, c.loop-done-test.false, len, count))
+    c.loop-done.marks.items c.loop-done.done (omega (arith, c.loop-done-test.false, len))
     c.loop-done.invariant

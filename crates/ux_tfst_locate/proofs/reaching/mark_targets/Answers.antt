@@ -1,4 +1,4 @@
-use Rattle.std.proofs.Common.{arith, ◌<◌, ◌≡◌, refl, get_or, length, set, true}
+use Rattle.std.proofs.Common.{arith, ◌<◌, refl, get_or, length, set, true}
 use Rattle.std.proofs.lemmas.List.{get_or_default}
 use Rattle.std.proofs.lemmas.List.Elements.{Contains-get_or}
 use Rattle.ux_tfst_locate.specs.declared.lattice.Arc.{Arc}
@@ -6,7 +6,7 @@ use Rattle.ux_tfst_locate.proofs.ReachingLemmas.{has_all, has_more}
 use Rattle.ux_tfst_locate.proofs.reaching.mark_targets.Goals as goal
 
 abbrev none : Arc
-none = record { to = 0; reading = 0 }
+none = record { from = 0; to = 0; reading = 0 }
 
 pub index_mut-requires : goal.index_mut-requires
 index_mut-requires c =

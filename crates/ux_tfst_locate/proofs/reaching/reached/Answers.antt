@@ -1,4 +1,4 @@
-use Rattle.std.proofs.Common.{arith, rules, ℕ, ◌+◌, ◌<◌, ◌≤◌, ◌≡◌, ◌∙◌, ◌↔◌, ◌⊎◌, ap, sym, subst, length, List, Bool, Vec, Global, false, true}
+use Rattle.std.proofs.Common.{arith, rules, ℕ, ◌+◌, ◌<◌, ◌≡◌, ◌∙◌, ◌↔◌, ◌⊎◌, ap, sym, subst, length, List, Bool, Vec, Global, false}
 use Rattle.std.specs.Prelude.{Contains}
 use Rattle.std.proofs.lemmas.Bool.{false≢true}
 use Rattle.std.proofs.lemmas.List.{get_or_default}
@@ -32,10 +32,9 @@ loop-at-preserved c =
     let marks = c.loop-at.marks.items in
     let at = c.loop-at.at in
     let inv = c.loop-at.invariant in
-    let len : c.len-at-end.result ≡ length c.args.lattice.now.rows.items = search rules in
-    let count = c.requires.count in
+    let len : c.len-at-end.result ≡ length places = search rules in
     let marked = inv.count in
-    let inside : at < length marks = omega (arith, c.loop-at-test.true, len, count, marked) in
+    let inside : at < length marks = omega (arith, c.loop-at-test.true, len, marked) in
     let same = get_or_default marks at false c.index.result.now inside in
     elim c.if-index.branch [
       | then-index w ↦
@@ -55,8 +54,7 @@ returns-clause-count c = c.loop-at.invariant.count
 
 pub returns-clause-marks : goal.returns-clause-marks
 returns-clause-marks c =
-    let count = c.requires.count in
-    let len : c.len-at-end.result ≡ length c.args.lattice.now.rows.items = search rules in
+    let len : c.len-at-end.result ≡ length c.args.lattice.now.places.items = search rules in
     reached_all c.args.lattice.now.places.items (rows_of c.args.lattice.now) c.requires.ahead
-    c.loop-at.marks.items c.loop-at.at (omega (arith, c.loop-at-test.false, len, count))
+    c.loop-at.marks.items c.loop-at.at (omega (arith, c.loop-at-test.false, len))
     c.loop-at.invariant

@@ -1,5 +1,5 @@
-use Rattle.std.proofs.Common.{◌∙◌, List, subst, sym, get_or, true, ◌≡◌}
-use Rattle.std.specs.Prelude.{Contains, IsTrue}
+use Rattle.std.proofs.Common.{List, subst, sym, get_or}
+use Rattle.std.specs.Prelude.{Contains}
 use Rattle.std.proofs.lemmas.Bool.{false≢true}
 use Rattle.std.proofs.lemmas.List.Elements.{Contains-get_or}
 use Rattle.ux_base.proofs.Lists.{take_whole}
@@ -7,7 +7,7 @@ use Rattle.ux_tfst_locate.specs.declared.lattice.Arc.{Arc}
 use Rattle.ux_tfst_locate.proofs.reaching.some_marked.Goals as goal
 
 abbrev none : Arc
-none = record { to = 0; reading = 0 }
+none = record { from = 0; to = 0; reading = 0 }
 
 pub bounds-marks-arc : goal.bounds-marks-arc
 bounds-marks-arc c =

@@ -1,9 +1,8 @@
-use Rattle.std.proofs.Common.{arith, ℕ, ◌<◌, ◌≤◌, ◌≡◌, ◌∙◌, ◌↔◌, List, Bool, ap, length, map, subst, sym}
+use Rattle.std.proofs.Common.{arith, ℕ, ◌<◌, ◌≡◌, ◌∙◌, ◌↔◌, List, Bool, ap, length, map, subst, sym}
 use Rattle.std.specs.Prelude.{All, IsTrue, flat_map}
 use Rattle.std.proofs.lemmas.Result.{IfOk-weaker}
 use Rattle.ux_net.specs.Nets.{net_grammar}
 use Rattle.ux_reading_table.specs.declared.numbered.NumberedSentence.{NumberedSentence}
-use Rattle.ux_sentence.specs.declared.sentence.Reading.{Reading}
 use Rattle.ux_sentence.specs.declared.sentence.Sentence.{Sentence}
 use Rattle.ux_sentence.specs.Written.{reading_text}
 use Rattle.ux_tfst_locate.specs.declared.lattice.Lattice.{Lattice}
@@ -13,8 +12,8 @@ use Rattle.ux_tfst_locate.specs.declared.listing.Stretch.{Stretch}
 use Rattle.ux_tfst_locate.specs.declared.span.Span.{Span}
 use Rattle.ux_tfst_locate.specs.Lattices.{IsLattice, rows_of}
 use Rattle.ux_tfst_locate.specs.Listing.{span_of}
-use Rattle.ux_tfst_locate.specs.Reaching.{AreAhead, IsLeading, IsReached, is_marked}
-use Rattle.ux_tfst_locate.specs.Sought.{AreSpellable, AreTold, Sought, links_of}
+use Rattle.ux_tfst_locate.specs.Reaching.{IsLeading, IsReached, is_marked}
+use Rattle.ux_tfst_locate.specs.Sought.{AreTold, Sought, links_of}
 use Rattle.ux_tfst_locate.specs.Spans.{AreSpans}
 use Rattle.ux_tfst_locate.proofs.AheadLemmas.{arcs_ahead}
 use Rattle.ux_tfst_locate.proofs.BasisLemmas.{goes_ahead}
@@ -44,12 +43,25 @@ fill-requires-clause-ahead c =
     c.as_slice.ensures.value c.in_ok-links.ensures c.in_ok-lattice.ensures in
     let told = told_by c.args.self.now (map reading_text readings) c.requires.0 numbered
     (ap (λ (s : Sought). s.texts) c.self.view_is) c.requires.1 in
-    goes_ahead c.self.inside.alphabet.now readings (rows_of lattice) (length lattice.rows.items)
-    (subst (λ n. AreAhead n (rows_of lattice)) (sym is.count)
-    (arcs_ahead readings c.self.invariant.1 c.requires.0 numbered told lattice is))
+    goes_ahead c.self.inside.alphabet.now readings (rows_of lattice) (length lattice.places.items)
+    (arcs_ahead readings c.self.invariant.1 c.requires.0 numbered told lattice is)
 
-pub reached-requires-clause-ahead : goal.reached-requires-clause-ahead
-reached-requires-clause-ahead c =
+pub fill-requires-clause-serves : goal.fill-requires-clause-serves
+fill-requires-clause-serves c =
+    let readings = c.self.inside.readings in
+    let numbered = c.args.sentences.now in
+    let lattice = c.in_ok-lattice.lattice in
+    let is = lattice_of c.in_ok-links.links.items c.as_slice.result.now numbered lattice
+    c.as_slice.ensures.value c.in_ok-links.ensures c.in_ok-lattice.ensures in
+    let told = told_by c.args.self.now (map reading_text readings) c.requires.0 numbered
+    (ap (λ (s : Sought). s.texts) c.self.view_is) c.requires.1 in (
+      c.self.invariant.0.parts,
+      goes_ahead c.self.inside.alphabet.now readings (rows_of lattice) (length lattice.places.items)
+          (arcs_ahead readings c.self.invariant.1 c.requires.0 numbered told lattice is),
+    )
+
+pub reached-requires : goal.reached-requires
+reached-requires c =
     let readings = c.self.inside.readings in
     let numbered = c.args.sentences.now in
     let lattice = c.in_ok-lattice.lattice in
@@ -57,10 +69,10 @@ reached-requires-clause-ahead c =
     c.as_slice.ensures.value c.in_ok-links.ensures c.in_ok-lattice.ensures in
     let told = told_by c.args.self.now (map reading_text readings) c.requires.0 numbered
     (ap (λ (s : Sought). s.texts) c.self.view_is) c.requires.1 in
-    arcs_ahead readings c.self.invariant.1 c.requires.0 numbered told lattice is
+    record { ahead = arcs_ahead readings c.self.invariant.1 c.requires.0 numbered told lattice is }
 
-pub leading-requires-clause-ahead : goal.leading-requires-clause-ahead
-leading-requires-clause-ahead c =
+pub leading-requires : goal.leading-requires
+leading-requires c =
     let readings = c.self.inside.readings in
     let numbered = c.args.sentences.now in
     let lattice = c.in_ok-lattice.lattice in
@@ -68,14 +80,13 @@ leading-requires-clause-ahead c =
     c.as_slice.ensures.value c.in_ok-links.ensures c.in_ok-lattice.ensures in
     let told = told_by c.args.self.now (map reading_text readings) c.requires.0 numbered
     (ap (λ (s : Sought). s.texts) c.self.view_is) c.requires.1 in
-    arcs_ahead readings c.self.invariant.1 c.requires.0 numbered told lattice is
+    record { ahead = arcs_ahead readings c.self.invariant.1 c.requires.0 numbered told lattice is }
 
 pub stretches-requires-clause-count : goal.stretches-requires-clause-count
 stretches-requires-clause-count c =
     let same = ap (λ (ms : List Bool). length ms) c.as_slice-2.ensures.value in
     let marks = c.in_ok-reached.ensures.count in
-    let count = c.in_ok-lattice.ensures.count in
-    omega (arith, same, marks, count)
+    omega (arith, same, marks)
 
 -- where stretches begin and end, told by the slices that are handed on
 pub spans_of-requires-clause-from : goal.spans_of-requires-clause-from
