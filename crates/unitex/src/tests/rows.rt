@@ -15,6 +15,10 @@ pub const GRAPH: &str = "#Unigraph\n#\n3\n\"<E>\" 0 0 1 2 \n\"\" 0 0 0 \n\"the c
 /// A graph of one box, which calls the graph `g`.
 const CALL: &str = "#Unigraph\n#\n3\n\"<E>\" 0 0 1 2 \n\"\" 0 0 0 \n\":g\" 0 0 1 1 \n";
 
+/// A graph that calls the graph `g` inside a word.
+const MARKED: &str =
+    "#Unigraph\n#\n5\n\"<E>\" 0 0 1 2 \n\"\" 0 0 0 \n\"$<\" 0 0 1 3 \n\":g\" 0 0 1 4 \n\"$>\" 0 0 1 1 \n";
+
 /// A dictionary of forms.
 const DICTIONARY: &str = "cat,.N:s\n";
 
@@ -122,6 +126,7 @@ pub fn usual(name: &str) -> &'static str {
         "a.txt" => LETTERS,
         "g.grf" => GRAPH,
         "m.grf" | "N1.grf" => CALL,
+        "k.grf" => MARKED,
         "d.dic" | "e.dic" => DICTIONARY,
         "s.dic" => STEMS,
         "t.tfst" => AUTOMATA,

@@ -99,6 +99,10 @@ const SENTENCES: &[&str] = &["txt2tfst", "t.txt", "a.txt", "d.dic", "e.dic"];
 
 const RULES: &[&str] = &["elag", "t.tfst", "r.grf", "s.grf"];
 
+const FOUND_READINGS: &[&str] = &["tfind", "m.grf", "t.tfst", "a.txt"];
+
+const ANALYSES: &[&str] = &["morpho", "k.grf", "t.txt", "a.txt", "d.dic", "e.dic"];
+
 /// Each command, and each of its files in the order of reading.
 const ROWS: &[Row] = &[
     (SEARCH, "a.txt"),
@@ -140,6 +144,15 @@ const ROWS: &[Row] = &[
     (RULES, "t.tfst"),
     (RULES, "r.grf"),
     (RULES, "s.grf"),
+    (FOUND_READINGS, "a.txt"),
+    (FOUND_READINGS, "m.grf"),
+    (FOUND_READINGS, "g.grf"),
+    (FOUND_READINGS, "t.tfst"),
+    (ANALYSES, "a.txt"),
+    (ANALYSES, "k.grf"),
+    (ANALYSES, "t.txt"),
+    (ANALYSES, "d.dic"),
+    (ANALYSES, "e.dic"),
     (FLATTEN, "a.txt"),
     (FLATTEN, "m.grf"),
     (FLATTEN, "g.grf"),
