@@ -1,6 +1,7 @@
 pub mod FoldLemmas
 pub mod FollowingLemmas
 pub mod ListsLemmas
+pub mod NumberedLemmas
 pub mod OnceLemmas
 pub mod PuttingLemmas
 pub mod RenderedLaw

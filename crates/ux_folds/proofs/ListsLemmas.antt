@@ -8,7 +8,7 @@ use Rattle.ux_folds.specs.ListNumbers.{no_link}
 use Rattle.ux_folds.specs.Lists.{link_at, Names, Spells, AreBelow, AreOnce, Keeps, IsConsed, IsMore}
 
 module _ {A : Type 0} where
-  get_extended : (xs ys : List A) → Keeps xs (xs ++ ys)
+  pub get_extended : (xs ys : List A) → Keeps xs (xs ++ ys)
   get_extended [] ys i x at = absurd (let w = slice_get_within [] i x at in omega (arith, w))
   get_extended (y ∷ xs) ys zero x at = at
   get_extended (y ∷ xs) ys (suc i) x at = get_extended xs ys i x at

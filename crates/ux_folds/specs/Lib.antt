@@ -3,6 +3,7 @@ pub mod Known
 pub mod Lists
 pub mod ListNumbers
 pub mod Names
+pub mod Numbered
 pub mod Tables
 pub mod Following
 pub mod Laws

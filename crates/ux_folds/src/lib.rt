@@ -18,6 +18,7 @@ mod following;
 pub mod kept;
 pub mod lists;
 mod names;
+pub mod numbered;
 mod putting;
 pub mod rendering;
 pub mod tables;
@@ -25,4 +26,5 @@ mod taking;
 mod variables;
 
 pub use fold::{Fold, LentEvent, NoFold};
+pub use names::asked_name;
 pub use rendering::RenderingFold;

@@ -4,7 +4,7 @@
 //! one, so equal lists have equal numbers.
 
 ghost use Rattle.std.specs.Prelude.{◌≡◌, ◌++◌, ◌∷◌, [], List, true, IfOk, OnOk, option_copied, reverse};
-ghost use Rattle.ux_folds.specs.Lists.{AreBelow, AreOnce, AreSound, IsConsed, IsFirstOf, IsMore, Spells, link_at};
+ghost use Rattle.ux_folds.specs.Lists.{AreBelow, AreOnce, AreSound, IsConsed, IsMore, Spells, link_at};
 
 use indexmap::IndexSet;
 use std::alloc::Global;
@@ -96,17 +96,6 @@ impl<T: Eq + Hash + Copy + Drop> Lists<T> {
     {
         self.links.get_index(number.checked_sub(1)?)
     }
-}
-
-/// The place of the value in the set, which is a new one where the value is new.
-pub fn place<T: Eq + Hash + Drop>(set: &mut IndexSet<T>, value: T) -> Mem<usize>
-    requires same { (a b : T) → T.eq a b ≡ true → a ≡ b }
-    requires itself { (a : T) → T.eq a a ≡ true }
-    ensures { IfOk result (IsFirstOf set.old.keys set.new.keys value) }
-{
-    let (place, _) = set.insert_full(value)?;
-    stand_once(set);
-    Ok(place)
 }
 
 /// No value stands in a set twice.

@@ -29,6 +29,13 @@ impl<'t> Question<'t> {
     }
 }
 
+/// The name of the variable that the text of an output asks.
+pub fn asked_name(text: &str) -> &str
+    ensures { result.now ≡ asked_name (asked_by text.now) }
+{
+    asked_by(text).name()
+}
+
 /// What the text of an output asks.
 pub fn asked_by(text: &str) -> Question<'_>
     ensures { asked_as result ≡ asked_by text.now }

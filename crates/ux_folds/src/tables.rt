@@ -12,9 +12,9 @@ ghost use Rattle.ux_outputs.specs.Rendering.{State, after_cut, after_take, begin
 ghost use Rattle.ux_folds.specs.Tables.{AreTables, IsGrown, Stands, Turns, IsPushed, span_to, states_of, texts_of};
 
 use crate::kept::{Kept, Known};
-use crate::lists::{Lists, place};
+use crate::lists::Lists;
+use crate::numbered::{Numbered, place};
 use crate::taking::{after_spaces, between};
-use indexmap::IndexSet;
 use std::alloc::Global;
 use ux_base::{Mem, Mode, Txt};
 use ux_outputs::Hit;
@@ -28,7 +28,7 @@ pub struct Tables {
     /// What is known of the variables that count, in the order of their names.
     pub variables: Lists<Known>,
     /// The states, each once.
-    pub states: IndexSet<Kept>,
+    pub states: Numbered<Kept>,
 }
 
 impl Tables {
@@ -39,7 +39,7 @@ impl Tables {
         Tables {
             texts: Lists::new(alloc),
             variables: Lists::new(alloc),
-            states: IndexSet::new(alloc),
+            states: Numbered::new(alloc),
         }
     }
 
@@ -47,7 +47,7 @@ impl Tables {
     pub fn state(&self, number: usize) -> Option<Kept>
         ensures { result ≡ slice_get (states_of self.now) number }
     {
-        self.states.get_index(number).copied()
+        self.states.get(number)
     }
 
     /// The number of the state of which this is kept.

@@ -6,5 +6,5 @@ returns c = λ names once. record {
   names_once = once;
   texts = sound_none _ c.new.ensures;
   variables = sound_none _ c.new-2.ensures;
-  states = once_none _ c.new-3.ensures.empty;
+  states = once_none _ c.new-3.ensures;
 }
