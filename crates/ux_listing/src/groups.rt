@@ -7,11 +7,11 @@ ghost use Rattle.std.specs.Prelude.{◌≡◌, ◌↔◌, ℕ, true, Contains, I
 ghost use Rattle.ux_listing.specs.Groups.{AreGrouped, AreKeyed, IsAt, IsIn, IsMore, IsMoreAt, IsPutIn};
 
 use crate::sets::{number, place_of, stand_once};
-use indexmap::IndexSet;
 use std::alloc::Global;
 use std::hash::Hash;
 use ux_base::Mem;
 use ux_folds::lists::Lists;
+use ux_folds::numbered::Numbered;
 
 /// Values in groups by number.
 #[derive(Drop)]
@@ -78,7 +78,7 @@ fn put_in(numbers: &mut Vec<usize>, place: usize, number: usize) -> Mem<()>
 #[derive(Drop)]
 pub struct Keyed<K: Eq + Hash, T: Eq + Hash> {
     /// The keys. The number of a key is that of its group.
-    keys: IndexSet<K>,
+    keys: Numbered<K>,
     groups: Groups<T>,
 }
 
@@ -89,7 +89,7 @@ impl<K: Eq + Hash + Copy + Drop, T: Eq + Hash + Copy + Drop> Keyed<K, T> {
         ensures nothing { (key : K) (v : T) → IsAt result key v → ⊥ }
     {
         Keyed {
-            keys: IndexSet::new(alloc),
+            keys: Numbered::new(alloc),
             groups: Groups::new(alloc),
         }
     }

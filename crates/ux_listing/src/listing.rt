@@ -18,10 +18,10 @@ use crate::marking::marks_to;
 use crate::marks::{AllMarks, Marks, NoOrigins};
 use crate::sets::{number, stand_once};
 use crate::walking::walk;
-use indexmap::IndexSet;
 use std::alloc::Global;
 use ux_base::{Lst, Mem};
 use ux_folds::Fold;
+use ux_folds::numbered::Numbered;
 use ux_mask_table::MaskedText;
 use ux_walk::Contexts;
 use ux_walk::look_ups::LookUps;
@@ -37,7 +37,7 @@ pub fn list_to<'t, C: Contexts, F: Fold>(
     ends: Lst<usize>,
     start: usize,
     first: usize,
-) -> Mem<IndexSet<End>>
+) -> Mem<Numbered<End>>
     requires measured { IsMeasured masked.now.net.now }
     requires table { HasTable masked.now }
     requires sound { AreSound masked.now.alphabet.now masked.now.net.now
@@ -74,7 +74,7 @@ pub fn list_all<'t, C: Contexts, F: Fold>(
     fold: &mut F,
     start: usize,
     first: usize,
-) -> Mem<IndexSet<End>>
+) -> Mem<Numbered<End>>
     requires measured { IsMeasured masked.now.net.now }
     requires table { HasTable masked.now }
     requires sound { AreSound masked.now.alphabet.now masked.now.net.now
@@ -112,7 +112,7 @@ pub fn list<'t, C: Contexts, F: Fold, M: Marks>(
     fold: &mut F,
     start: usize,
     first: usize,
-) -> Mem<IndexSet<End>>
+) -> Mem<Numbered<End>>
     requires measured { IsMeasured masked.now.net.now }
     requires table { HasTable masked.now }
     requires sound { AreSound masked.now.alphabet.now masked.now.net.now
@@ -158,11 +158,11 @@ pub fn list<'t, C: Contexts, F: Fold, M: Marks>(
 }
 
 /// What was found of the visit.
-fn ends_of(alloc: Global, seen: &[Item], visit: Visit) -> Mem<IndexSet<End>>
+fn ends_of(alloc: Global, seen: &[Item], visit: Visit) -> Mem<Numbered<End>>
     ensures { IfOk result (λ ends. (x : End) → Contains ends.keys x
         ↔ Contains seen.now (Item.Ends (found_at visit x))) }
 {
-    let mut ends = IndexSet::new(alloc);
+    let mut ends = Numbered::new(alloc);
     for item in seen {
         add_end(&mut ends, visit, *item)?;
     }
@@ -170,7 +170,7 @@ fn ends_of(alloc: Global, seen: &[Item], visit: Visit) -> Mem<IndexSet<End>>
 }
 
 /// Adds what the item says was found of the visit.
-fn add_end(ends: &mut IndexSet<End>, visit: Visit, item: Item) -> Mem<()>
+fn add_end(ends: &mut Numbered<End>, visit: Visit, item: Item) -> Mem<()>
     ensures { OnOk result ((x : End) → Contains ends.new.keys x
         ↔ (Contains ends.old.keys x ⊎ (item ≡ Item.Ends (found_at visit x)))) }
 {

@@ -23,10 +23,10 @@ use crate::groups::Groups;
 use crate::marks::{AllMarks, Marks, Origins};
 use crate::sets::{is_in, item_at, number, place_of, stand_once};
 use crate::walking::walk;
-use indexmap::IndexSet;
 use std::alloc::Global;
 use ux_base::{Lst, Mem};
 use ux_folds::NoFold;
+use ux_folds::numbered::Numbered;
 use ux_mask_table::MaskedText;
 use ux_walk::Contexts;
 use ux_walk::look_ups::LookUps;
@@ -51,9 +51,9 @@ impl Origins for KnownOrigins {
 #[derive(Drop)]
 pub struct MarkSet {
     /// What was seen without a fold.
-    seen: IndexSet<Item>,
+    seen: Numbered<Item>,
     /// The numbers of those items that are marked.
-    marked: IndexSet<usize>,
+    marked: Numbered<usize>,
     /// The ends.
     ends: Lst<usize>,
 }
@@ -130,11 +130,11 @@ pub fn marks_to<'t, C: Contexts>(
 /// The numbers of the ends, and of all items from which one comes whose number is among them.
 fn mark(
     alloc: Global,
-    seen: &IndexSet<Item>,
+    seen: &Numbered<Item>,
     origins: &KnownOrigins,
     ends: &[usize],
     start: usize,
-) -> Mem<IndexSet<usize>>
+) -> Mem<Numbered<usize>>
     requires { AreGrouped origins.now.groups }
     ensures ends { IfOk result (λ marked.
         AreEndsMarked seen.now.keys (Contains ends.now) start marked.keys) }
@@ -154,14 +154,14 @@ fn mark(
 /// The numbers of the ends of the main visit.
 fn mark_ends(
     alloc: Global,
-    seen: &IndexSet<Item>,
+    seen: &Numbered<Item>,
     ends: &[usize],
     start: usize,
-) -> Mem<IndexSet<usize>>
+) -> Mem<Numbered<usize>>
     ensures { IfOk result (λ marked.
         AreEndsMarked seen.now.keys (Contains ends.now) start marked.keys) }
 {
-    let mut marked = IndexSet::new(alloc);
+    let mut marked = Numbered::new(alloc);
     for end in ends {
         mark_end(&mut marked, seen, *end, start)?;
     }
@@ -170,8 +170,8 @@ fn mark_ends(
 
 /// Adds the number of an end of the main visit, if it was found.
 fn mark_end(
-    marked: &mut IndexSet<usize>,
-    seen: &IndexSet<Item>,
+    marked: &mut Numbered<usize>,
+    seen: &Numbered<Item>,
     end: usize,
     start: usize,
 ) -> Mem<()>
@@ -198,7 +198,7 @@ fn mark_end(
 }
 
 /// Adds numbers.
-fn add_all(marked: &mut IndexSet<usize>, numbers: &[usize]) -> Mem<()>
+fn add_all(marked: &mut Numbered<usize>, numbers: &[usize]) -> Mem<()>
     ensures adds { OnOk result (Adds (Contains numbers.now) marked.old.keys marked.new.keys) }
     ensures has { OnOk result ((n : ℕ) → Contains numbers.now n → Contains marked.new.keys n) }
 {

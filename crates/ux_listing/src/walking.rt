@@ -19,10 +19,10 @@ use crate::following::{follow_config, mark_of};
 use crate::groups::Keyed;
 use crate::marks::{Marks, Origins};
 use crate::sets::{item_at, number, stand_once};
-use indexmap::IndexSet;
 use std::alloc::Global;
 use ux_base::Mem;
 use ux_folds::Fold;
+use ux_folds::numbered::Numbered;
 use ux_mask_table::MaskedText;
 use ux_walk::Contexts;
 use ux_walk::look_ups::LookUps;
@@ -31,7 +31,7 @@ use ux_walk::look_ups::LookUps;
 #[derive(Drop)]
 pub struct Reached {
     /// The items, each once, in the order in which the walk goes on from them.
-    seen: IndexSet<Item>,
+    seen: Numbered<Item>,
     /// Who waits for what a visit derives.
     waits: Keyed<Visit, usize>,
     /// What a visit derives.
@@ -50,7 +50,7 @@ pub fn walk<'t, C: Contexts, F: Fold, M: Marks, O: Origins>(
     origins: &mut O,
     start: usize,
     first: usize,
-) -> Mem<IndexSet<Item>>
+) -> Mem<Numbered<Item>>
     requires table { HasTable masked.now }
     requires sound { AreSound masked.now.alphabet.now masked.now.net.now
         (different_texts masked.now.text.now) look_ups.old }
@@ -70,7 +70,7 @@ pub fn walk<'t, C: Contexts, F: Fold, M: Marks, O: Origins>(
     ensures once { IfOk result (λ seen. AreOnce seen.keys) }
 {
     let mut reached = Reached {
-        seen: IndexSet::new(alloc),
+        seen: Numbered::new(alloc),
         waits: Keyed::new(alloc),
         found: Keyed::new(alloc),
     };
@@ -100,7 +100,7 @@ pub fn walk<'t, C: Contexts, F: Fold, M: Marks, O: Origins>(
 }
 
 /// Adds the configuration with which the main visit begins, if it is marked.
-fn begin<M: Marks>(marks: &M, seen: &mut IndexSet<Item>, start: usize, first: usize) -> Mem<()>
+fn begin<M: Marks>(marks: &M, seen: &mut Numbered<Item>, start: usize, first: usize) -> Mem<()>
     ensures adds { OnOk result (Adds (λ w. w ≡ Item.At (beginning (main_visit start first)))
         seen.old.keys seen.new.keys) }
     ensures put { OnOk result (IsPut (M.marked marks.now) (Contains seen.new.keys)
@@ -283,7 +283,7 @@ fn end<C: Contexts, F: Fold, M: Marks, O: Origins>(
 /// Adds the items, and notes that they come from one.
 fn put_all<O: Origins>(
     origins: &mut O,
-    seen: &mut IndexSet<Item>,
+    seen: &mut Numbered<Item>,
     origin: usize,
     from: Item,
     items: &[Item],
@@ -305,7 +305,7 @@ fn put_all<O: Origins>(
 /// Adds the item, and notes that it comes from another.
 fn put_item<O: Origins>(
     origins: &mut O,
-    seen: &mut IndexSet<Item>,
+    seen: &mut Numbered<Item>,
     origin: usize,
     from: Item,
     item: Item,
@@ -341,7 +341,7 @@ fn is_led(from: Item, item: Item) -> bool
 fn join_ends<M: Marks, O: Origins>(
     marks: &M,
     origins: &mut O,
-    seen: &mut IndexSet<Item>,
+    seen: &mut Numbered<Item>,
     waits: usize,
     ends: &[usize],
 ) -> Mem<()>
@@ -362,7 +362,7 @@ fn join_ends<M: Marks, O: Origins>(
 fn join_waits<M: Marks, O: Origins>(
     marks: &M,
     origins: &mut O,
-    seen: &mut IndexSet<Item>,
+    seen: &mut Numbered<Item>,
     waits: &[usize],
     end: usize,
 ) -> Mem<()>
@@ -384,7 +384,7 @@ fn join_waits<M: Marks, O: Origins>(
 fn join<M: Marks, O: Origins>(
     marks: &M,
     origins: &mut O,
-    seen: &mut IndexSet<Item>,
+    seen: &mut Numbered<Item>,
     waits: usize,
     end: usize,
 ) -> Mem<()>
@@ -415,7 +415,7 @@ fn join<M: Marks, O: Origins>(
 }
 
 /// The caller of this number.
-fn waiting_at(seen: &IndexSet<Item>, number: usize) -> Option<Return>
+fn waiting_at(seen: &Numbered<Item>, number: usize) -> Option<Return>
     ensures { (r : Return) → (result ≡ Some r)
         ↔ (slice_get seen.now.keys number ≡ Some (Item.Waits r)) }
 {
@@ -426,7 +426,7 @@ fn waiting_at(seen: &IndexSet<Item>, number: usize) -> Option<Return>
 }
 
 /// The end of this number.
-fn found_at(seen: &IndexSet<Item>, number: usize) -> Option<Found>
+fn found_at(seen: &Numbered<Item>, number: usize) -> Option<Found>
     ensures { (f : Found) → (result ≡ Some f)
         ↔ (slice_get seen.now.keys number ≡ Some (Item.Ends f)) }
 {

@@ -6,7 +6,7 @@ use Rattle.ux_listing.proofs.listing.ends_of.Goals as goal
 
 pub loop-item-init : goal.loop-item-init
 loop-item-init c = gathering_none c.args.visit c.args.seen.now c.new-ends.result.keys
-    c.new-ends.ensures.empty
+    c.new-ends.ensures
 
 pub loop-item-preserved : goal.loop-item-preserved
 loop-item-preserved c =

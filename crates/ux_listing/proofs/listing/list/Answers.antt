@@ -24,10 +24,10 @@ returns-clause-exact g c = λ e u wanted.
     (g.M.Marks.marked c.args.marks.now) c.in_ok-seen.seen.keys _ c.in_ok-seen.ensures.walked
     (g.M.Marks.wanted c.args.marks.now) c.requires.complete
     (g.met.F.Fold.one c.walk.new.fold) e u wanted in (
-      λ h. let d = derived.0 (subst (λ (l : List Item). Contains l found) c.as_slice.ensures.keys
+      λ h. let d = derived.0 (subst (λ (l : List Item). Contains l found) c.as_slice.ensures
           (told.0 h)) in
           (d.0, (runs c.args.start e d.0 c.requires.inside).1 d.1, d.2),
-      λ h. told.1 (subst (λ (l : List Item). Contains l found) (sym c.as_slice.ensures.keys)
+      λ h. told.1 (subst (λ (l : List Item). Contains l found) (sym c.as_slice.ensures)
           (derived.1 (h.0, (runs c.args.start e h.0 c.requires.inside).0 h.1, h.2))),
     )
 

@@ -3,5 +3,4 @@ use Rattle.ux_listing.proofs.sets.place_of.Goals as goal
 
 pub returns : goal.returns
 returns g c = numbered _ c.requires.same c.requires.itself c.args.set.now.keys c.args.item
-    c.get_index_of.result c.get_index_of.ensures.index c.get_index_of.ensures.found
-    c.stand_once.ensures
+    c.place_of.result c.place_of.ensures.index c.place_of.ensures.found c.stand_once.ensures

@@ -16,7 +16,7 @@ loop-item-init g c = record {
         (g.C.Contexts.applies c.args.contexts.now) c.args.start c.args.first
         (g.M.Marks.marked c.args.marks.now) (g.F.Fold.next c.args.fold.now)
         (IsKnown (g.F.Fold.means c.args.fold.now)) (g.O.Origins.told c.args.origins.now)
-        c.new.result.keys c.begin.new.seen.keys c.requires.known c.new.ensures.empty
+        c.new.result.keys c.begin.new.seen.keys c.requires.known c.new.ensures
         c.in_ok-begin.ensures.adds c.in_ok-begin.ensures.put;
     waits = index_none WaitsFor c.begin.new.seen.keys c.new-2.result c.new-2.ensures.keyed
         c.new-2.ensures.nothing;
